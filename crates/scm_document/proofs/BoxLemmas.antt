@@ -1,4 +1,5 @@
 -- On which rows and columns the boxes of rows lie, one below another.
+use mathlib.Core.Bool.{or-false}
 use Rattle.std.proofs.Common.{◌≡◌, ℕ, suc, ◌+◌, ◌-◌, ◌<◌, ◌≤◌, Bool, true, false, List, [], ◌∷◌, length, refl, sym, ap, ◌∙◌, arith}
 use Rattle.std.specs.Prelude.{ℤ, pos, ◌+ℤ◌, ◌-ℤ◌, ◌≤ℤ◌, int_le, int_lt, ◌&&◌, ◌||◌, nat_le, if◌then◌else◌}
 use Rattle.std.specs.Int.{int_min}
@@ -202,17 +203,13 @@ left-fits false w h = omega (arith, h)
 pub spans-as : (r : Rect) (y : ℤ) (n m : ℕ) (l k : ℤ) (w : ℕ) → n ≡ m → l ≡ k → Spans r y n l w → Spans r y m k w
 spans-as r y n m l k w e f h = rw (e, f) at h
 
-pub or-none : (b : Bool) → (b || false) ≡ b
-or-none true = refl
-or-none false = refl
-
 pub rows-span : (d : DocRow) (ds : List DocRow) (s : Sight) (w : ℕ) (y : ℤ) → 10 ≤ w → IsOpen s w → AreInner (d ∷ ds)
     → Spans (box_rect (rows_picture (d ∷ ds) s (pos 2) y)) y (suc (length ds)) (pos (left_of (is_wide (d ∷ ds)))) w
 unfolding rows_picture
 rows-span d [] s w y fits o inner =
     let first = rw inner.0 at (row-spans d s w y fits o) in
     rw (box-followed (row_picture d s (pos 2) y) nothing, box-none)
-    (spans-as _ y 1 1 (pos (left_of (is_whole d))) (pos (left_of (is_whole d || false))) w refl (ap (λ b. pos (left_of b)) (sym (or-none (is_whole d))))
+    (spans-as _ y 1 1 (pos (left_of (is_whole d))) (pos (left_of (is_whole d || false))) w refl (ap (λ b. pos (left_of b)) (sym (or-false (is_whole d))))
     (spans_in _ _ y 1 (pos (left_of (is_whole d))) w (omega arith) (let k = left-fits (is_whole d) w fits in omega (arith, ints, k)) first (in-nothing y 1 (pos (left_of (is_whole d))))))
 rows-span d (e ∷ ds) s w y fits o inner =
     let first = rw inner.0 at (row-spans d s w y fits o) in
@@ -234,8 +231,4 @@ has_box r y n w wide h = record {
   where
     from : (wide : Bool) (x : ℕ) → (int_le (pos (left_of wide)) (pos x) && true) ≡ (wide || nat_le 2 x)
     from true x = let a : int_le (pos 0) (pos x) ≡ true = grind (arith, ints) in rw a refl
-    from false x = go (nat_le 2 x)
-      where
-        go : (b : Bool) → (b && true) ≡ b
-        go true = refl
-        go false = refl
+    from false x = elim (nat_le 2 x) as (λ b. (b && true) ≡ b) [ true ↦ refl | false ↦ refl ]

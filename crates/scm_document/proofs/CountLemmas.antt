@@ -37,11 +37,7 @@ none-plus a = counts-same (plus no_counts a) a (omega arith) (omega arith)
 
 on_row-plus : (v : Rect) (y : ℤ) (a b : Counts) → plus (on_row v y a) (on_row v y b) ≡ on_row v y (plus a b)
 unfolding on_row
-on_row-plus v y a b = go (has_row v y)
-  where
-    go : (t : Bool) → plus (if t then a else no_counts) (if t then b else no_counts) ≡ (if t then plus a b else no_counts)
-    go true = refl
-    go false = refl
+on_row-plus v y a b = elim (has_row v y) as (λ t. plus (if t then a else no_counts) (if t then b else no_counts) ≡ (if t then plus a b else no_counts)) [ true ↦ refl | false ↦ refl ]
 
 -- one call, and then another in the same sight
 pub on_row-then : (c d e : Counts) (v w : Rect) (y : ℤ) (a b : Counts) → w ≡ v → d ≡ added c (on_row v y a) → e ≡ added d (on_row w y b) → e ≡ added c (on_row v y (plus a b))

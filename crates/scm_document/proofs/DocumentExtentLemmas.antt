@@ -286,13 +286,8 @@ body-run commit message (f ∷ fs) s w h m top fits o high q row e r a b run =
     )
     (runs_as _ _ _ _ _ refl (ap (λ j. pos (max b j)) (last-row w m top commit message (f ∷ fs))) (runs-with _ r top (top + (k + n)) a b own run))
 
--- the box of a document is on the rows of its layers: with any other run of rows
-pub document-run : (d : Document) (s : Sight) (w h m top : ℕ) → 10 ≤ w → IsOpen s w → (reach s).height ≡ h → h ≤ 65535 → mask_row s ≡ pos m → HasItsIds d
-    → (r : Rect) (a b : ℕ) → Runs r (pos a) (pos b) → Runs (join (box_rect (document_picture d s (pos 0) (pos top))) r) (pos (lowest a (document_layers w h m top d))) (pos (highest b (document_layers w h m top d)))
-document-run d s w h m top fits o high q row e r a b run = body-run d.commit d.message d.files s w h m top fits o high q row e r a b run
-
 pub body-runs : (d : Document) (w h s : ℕ) → 10 ≤ w → h ≤ 65535 → HasItsIds d
     → (r : Rect) (a b : ℕ) → Runs r (pos a) (pos b) → Runs (join (box_rect (document_part d w h s)) r) (pos (lowest a (rows_layers w h s d))) (pos (highest b (rows_layers w h s d)))
 body-runs d w h s fits q e r a b run =
     rw (box-part ids.AppFiles (document_picture d (body_sight w h s) (pos 0) (pos 1)))
-    (document-run d (body_sight w h s) w (h - 1) (s + 1) 1 fits (open-below w h s) (ap (λ (k : Rect). k.height) (reach-below w h s)) (omega (arith, q)) (row-below w h s) e r a b run)
+    (body-run d.commit d.message d.files (body_sight w h s) w (h - 1) (s + 1) 1 fits (open-below w h s) (ap (λ (k : Rect). k.height) (reach-below w h s)) (omega (arith, q)) (row-below w h s) e r a b run)

@@ -15,7 +15,7 @@ use Rattle.scm_render.proofs.PaintLemmas.{paint-none, paint-append}
 use Rattle.scm_render.proofs.RowLemmas.{PutsRows, one_more, one_row_paints, paints_none, paints_more}
 use Rattle.scm_types.specs.declared.line.SectionChangedLine.{SectionChangedLine}
 use Rattle.scm_types.specs.declared.section.Section.{Section}
-use Rattle.scm_types.specs.declared.section.Section.TheVariants.{Unchanged, Changed, FileMode, Binary}
+use Rattle.scm_types.specs.declared.section.Section.TheVariants.{Unchanged, Changed}
 use Rattle.scm_widgets.specs.declared.ids.ComponentId.{ComponentId}
 use Rattle.scm_document.specs.declared.section_view.SectionView.{SectionView}
 use Rattle.scm_document.specs.declared.file_view.FileView.{FileView}
@@ -26,7 +26,7 @@ use Rattle.scm_widgets.specs.Texts.{button_text}
 use Rattle.scm_document.specs.Texts.{divider_text, message_text, dots_text, no_files_text}
 use Rattle.scm_rows.specs.Context.{first_below, has_dots, lines_above}
 use Rattle.scm_rows.specs.Heights.{is_section_visible, message_height}
-use Rattle.scm_document.specs.Rows.{DocRow, DotsRow, BlankRow, HeaderRow, ShownSection, ShownFile, Document, is_open, is_first_open, shown_lines, rows_below, context_rows, changed_rows, numbered_rows, rows_of, section_rows, shown_section, shown_sections, shown_file, document_of, file_rows, place_of}
+use Rattle.scm_document.specs.Rows.{DocRow, DotsRow, BlankRow, HeaderRow, ShownSection, ShownFile, is_open, is_first_open, shown_lines, rows_below, context_rows, changed_rows, numbered_rows, rows_of, section_rows, shown_section, shown_sections, shown_file, document_of, file_rows, place_of}
 use Rattle.scm_widgets.specs.Boxes.{is_fold_open}
 use Rattle.scm_document.specs.Pictures.{shown_file_picture, file_mask, mask_row, is_pinned, pinned_header, pinned_picture, one_file_picture, files_picture, edit_button, beside_button, message_picture, no_files_picture, document_picture, commit_picture, button_row_picture}
 use Rattle.scm_widgets.specs.Pictures.{button_picture, blank_rest}
@@ -211,11 +211,6 @@ body-paints commit message (f ∷ fs) s w h m top fits p q o high e inner z row 
     ∙ shows-line pinned (pos m) (pos z) _
     ∙ ap (line clear pinned (pos m) (pos z)).shows (shows-line (above ++ rest) (pos top) (pos z) row)))
 
-pub document-paints : (d : Document) (s : Sight) (w h m top : ℕ) → 10 ≤ w → w ≤ 65535 → h ≤ 65535 → IsOpen s w → (reach s).height ≡ h → mask_row s ≡ pos m → AreInnerFiles d.files
-    → (z : ℕ) (row : Row) → has_row (reach s) (pos z) ≡ true
-    → paint s.rect (document_picture d s (pos 0) (pos top)).puts (pos z) row ≡ shown_by (document_layers w h m top d ++ pinned_layer w m top d ∷ []) z row
-document-paints d s w h m top fits p q o high e inner z row seen = body-paints d.commit d.message d.files s w h m top fits p q o high e inner z row seen
-
 -- ---- a view's rows: only the first of a file is a header
 
 inner-append : (rs qs : List DocRow) → AreInner rs → AreInner qs → AreInner (rs ++ qs)
@@ -252,8 +247,7 @@ context-inner v ls = go (length ls == 0)
 rows-inner : (v : SectionView) (section : Section) → AreInner (rows_of v section)
 rows-inner v (Unchanged ls) = context-inner v ls
 rows-inner v (Changed ls) = (refl, some-inner (is_fold_open v.expand_box) (changed_rows v 0 ls) (changed-inner v 0 ls))
-rows-inner v (FileMode checked m) = (refl, tt)
-rows-inner v (Binary checked old new) = (refl, tt)
+rows-inner v _ = (refl, tt)
 
 sections-inner : (before : Bool) (vs : List SectionView) → AreInnerSections (shown_sections before vs)
 unfolding shown_sections section_rows
@@ -277,4 +271,4 @@ pub commits-painted : (v : CommitView) (s : Sight) (w h m top : ℕ) → 10 ≤ 
     → (z : ℕ) (row : Row) → has_row (reach s) (pos z) ≡ true
     → paint s.rect (commit_picture v s (pos 0) (pos top)).puts (pos z) row ≡ shown_by (document_layers w h m top (document_of v) ++ pinned_layer w m top (document_of v) ∷ []) z row
 unfolding commit_picture
-commits-painted v s w h m top fits p q o high e z row seen = document-paints (document_of v) s w h m top fits p q o high e (files-inner v.file_views) z row seen
+commits-painted v s w h m top fits p q o high e z row seen = let d = document_of v in body-paints d.commit d.message d.files s w h m top fits p q o high e (files-inner v.file_views) z row seen

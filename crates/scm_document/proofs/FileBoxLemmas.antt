@@ -1,4 +1,5 @@
 -- On which rows and columns the boxes of sections and files lie, one below another.
+use mathlib.Core.Bool.{or-false}
 use Rattle.std.proofs.Common.{◌≡◌, ℕ, suc, ◌+◌, ◌<◌, ◌≤◌, Bool, true, false, List, [], ◌∷◌, ◌++◌, length, length-append, refl, sym, ap, arith, append-nil}
 use Rattle.std.specs.Prelude.{ℤ, pos, ◌+ℤ◌, ◌||◌}
 use Rattle.std.specs.Int.{int_min}
@@ -17,7 +18,7 @@ use Rattle.scm_document.specs.Pictures.{row_picture, rows_picture, sections_pict
 use Rattle.scm_document.specs.Strips.{is_wide}
 use Rattle.scm_widgets.proofs.DrawsStrips.{box-followed, box-part}
 use Rattle.scm_document.proofs.StripLemmas.{AreInner}
-use Rattle.scm_document.proofs.BoxLemmas.{left_of, left-fits, both-left, or-none, spans-as, box-none, row-spans, rows-span}
+use Rattle.scm_document.proofs.BoxLemmas.{left_of, left-fits, both-left, spans-as, box-none, row-spans, rows-span}
 use Rattle.scm_document.proofs.OwnerLemmas.{rows-inner}
 
 pub section-span : (i : ComponentId) (ds : List DocRow) (s : Sight) (w : ℕ) (y : ℤ) → 10 ≤ w → IsOpen s w → 0 < length ds → AreInner ds
@@ -40,7 +41,7 @@ sections-span f n p [] s w y fits o e some =
     let first = section-span (section_id p.key) p.rows s w y fits o some.0 (rows-inner p.key 0 p.rows e.2) in
     let empty : length p.rows ≡ length (p.rows ++ []) = ap length (sym (append-nil p.rows)) in
     rw (box-followed (part (section_id p.key) (rows_picture p.rows s (pos 2) y)) nothing, box-none, join_none (box_rect (part (section_id p.key) (rows_picture p.rows s (pos 2) y))) no_rect refl)
-    (spans-as _ y (length p.rows) (length (p.rows ++ [])) (pos (left_of (is_wide p.rows))) (pos (left_of (is_wide p.rows || false))) w empty (ap (λ b. pos (left_of b)) (sym (or-none (is_wide p.rows)))) first)
+    (spans-as _ y (length p.rows) (length (p.rows ++ [])) (pos (left_of (is_wide p.rows))) (pos (left_of (is_wide p.rows || false))) w empty (ap (λ b. pos (left_of b)) (sym (or-false (is_wide p.rows)))) first)
 sections-span f n p (q ∷ ps) s w y fits o e some =
     let first = section-span (section_id p.key) p.rows s w y fits o some.0 (rows-inner p.key 0 p.rows e.2) in
     let rest = sections-span f (suc p.key.section_idx) q ps s w (y +ℤ pos (length p.rows)) fits o e.3 some.1 in

@@ -1,12 +1,11 @@
 -- An index of rows: what stands on a row, and where a key stands, among pieces one below another.
-use Rattle.std.proofs.Common.{◌≡◌, ℕ, zero, suc, ◌+◌, ◌-◌, ◌<◌, ◌≤◌, List, [], ◌∷◌, ◌++◌, length, drop, get_or, refl, sym, ap, ◌∙◌, arith, add-one, drop-cons, true, false, Bool, inl, inr}
-use Rattle.std.specs.Prelude.{nat_le, nat_lt, nat_eq, ◌&&◌, ◌||◌, if◌then◌else◌, Option, Some, None, option_map, is_some, slice_get}
+use Rattle.std.proofs.Common.{◌≡◌, ℕ, zero, suc, ◌+◌, ◌-◌, ◌<◌, ◌≤◌, List, [], ◌∷◌, ◌++◌, length, drop, get_or, refl, sym, ap, ap₂, ◌∙◌, arith, add-one, drop-cons, true, false, Bool, inl, inr}
+use Rattle.std.specs.Prelude.{nat_le, nat_lt, nat_eq, ◌==◌, ◌&&◌, ◌||◌, if◌then◌else◌, Option, Some, None, option_map, is_some, slice_get}
 use Rattle.std.specs.List.{flat_map, list_any}
 use Rattle.std.proofs.lemmas.Bool.{cases_lt}
 use Rattle.std.proofs.lemmas.Bool.Decides.{nat_tests}
 use Rattle.std.proofs.lemmas.List.{drop_all}
 use Rattle.std.proofs.lemmas.List.Concat.{flat_map-cons}
-use Rattle.std.proofs.lemmas.List.Folds.{list_any-append}
 use Rattle.std.specs.Option.{option_or}
 use Rattle.scm_types.specs.Keys.{is_key, section_of_line, line_key_of}
 use Rattle.scm_types.specs.declared.keys.SectionKey.{SectionKey}
@@ -20,8 +19,7 @@ use Rattle.scm_document.specs.declared.index_pieces.Piece.{Piece}
 use Rattle.scm_document.specs.Places.{Place}
 use Rattle.scm_document.specs.DocumentRows.{rows_of_place, rows_of_key}
 use Rattle.scm_document.specs.RowIndex.{section_parts, message_parts}
-use Rattle.scm_document.specs.Pieces.{run_places, lines_places, lines_on_top, lines_at_end, first_at_end, piece_places, piece_parts, run_row, key_row}
-use Rattle.scm_document.proofs.PlaceLemmas.{AllHaveRows, rows-append}
+use Rattle.scm_document.specs.Pieces.{run_places, lines_places, lines_on_top, lines_at_end, first_at_end, piece_places, piece_parts, run_row, key_row, found_in}
 
 -- ---- what stands on a row
 
@@ -116,147 +114,111 @@ split-key true true true true = refl
 line-is : (line : LineKey) (k : SectionKey) (i : ℕ) → is_key (keys.Line line) (keys.Line (line_key_of k i)) ≡ (is_key (keys.Section (section_of_line line)) (keys.Section k) && nat_eq line.line_idx i)
 line-is line k i = split-key (nat_eq line.commit_idx k.commit_idx) (nat_eq line.file_idx k.file_idx) (nat_eq line.section_idx k.section_idx) (nat_eq line.line_idx i)
 
--- the rows of a line's key among `n` lines from line `i` on
-run-rows : (line : LineKey) (k : SectionKey) (row i n : ℕ) (b : Bool) → is_key (keys.Section (section_of_line line)) (keys.Section k) ≡ b
-    → rows_of_key (keys.Line line) (run_places k row i n) ≡ option_map (λ t. (t, 1)) (if b then run_row row i n line.line_idx else None)
-unfolding rows_of_key run_places
-run-rows line k row i zero true e = ap (option_map (λ t. (t, 1))) (sym (run-none row i line.line_idx))
-run-rows line k row i zero false e = refl
-run-rows line k row i (suc n) true e = go (nat_eq line.line_idx i) refl (run-rows line k (suc row) (suc i) n true e)
+-- the place of a line's key among `n` lines from line `i` on
+run-found : (line : LineKey) (k : SectionKey) (row i n : ℕ) (b : Bool) → is_key (keys.Section (section_of_line line)) (keys.Section k) ≡ b
+    → found_in (keys.Line line) (run_places k row i n) ≡ option_map (λ t. (t, 1)) (if b then run_row row i n line.line_idx else None)
+unfolding run_places
+run-found line k row i zero true e = ap (option_map (λ t. (t, 1))) (sym (run-none row i line.line_idx))
+run-found line k row i zero false e = refl
+run-found line k row i (suc n) true e = go (nat_eq line.line_idx i) refl (run-found line k (suc row) (suc i) n true e)
   where
-    go : (t : Bool) → nat_eq line.line_idx i ≡ t → rows_of_key (keys.Line line) (run_places k (suc row) (suc i) n) ≡ option_map (λ t. (t, 1)) (run_row (suc row) (suc i) n line.line_idx) → (if is_key (keys.Line line) (keys.Line (line_key_of k i)) then Some (row, 1) else rows_of_key (keys.Line line) (run_places k (suc row) (suc i) n)) ≡ option_map (λ t. (t, 1)) (run_row row i (suc n) line.line_idx)
+    go : (t : Bool) → nat_eq line.line_idx i ≡ t → found_in (keys.Line line) (run_places k (suc row) (suc i) n) ≡ option_map (λ t. (t, 1)) (run_row (suc row) (suc i) n line.line_idx)
+        → (if is_key (keys.Line line) (keys.Line (line_key_of k i)) then Some (row, 1) else found_in (keys.Line line) (run_places k (suc row) (suc i) n)) ≡ option_map (λ t. (t, 1)) (run_row row i (suc n) line.line_idx)
     go true f more = rw (line-is line k i, e, f) (ap (option_map (λ t. (t, 1))) (sym (run-first row i n line.line_idx f)))
     go false f more = rw (line-is line k i, e, f) (more ∙ ap (option_map (λ t. (t, 1))) (sym (run-rest row i n line.line_idx f)))
-run-rows line k row i (suc n) false e = rw (line-is line k i, e) (run-rows line k (suc row) (suc i) n false e)
-
-run-any : (line : LineKey) (k : SectionKey) (row i n : ℕ) (b : Bool) → is_key (keys.Section (section_of_line line)) (keys.Section k) ≡ b
-    → list_any (λ (p : Place). is_key (keys.Line line) p.key) (run_places k row i n) ≡ is_some (if b then run_row row i n line.line_idx else None)
-unfolding run_places
-run-any line k row i zero true e = ap is_some (sym (run-none row i line.line_idx))
-run-any line k row i zero false e = refl
-run-any line k row i (suc n) true e = go (nat_eq line.line_idx i) refl (run-any line k (suc row) (suc i) n true e)
-  where
-    go : (t : Bool) → nat_eq line.line_idx i ≡ t → list_any (λ (p : Place). is_key (keys.Line line) p.key) (run_places k (suc row) (suc i) n) ≡ is_some (run_row (suc row) (suc i) n line.line_idx) → (is_key (keys.Line line) (keys.Line (line_key_of k i)) || list_any (λ (p : Place). is_key (keys.Line line) p.key) (run_places k (suc row) (suc i) n)) ≡ is_some (run_row row i (suc n) line.line_idx)
-    go true f more = rw (line-is line k i, e, f) (ap is_some (sym (run-first row i n line.line_idx f)))
-    go false f more = rw (line-is line k i, e, f) (more ∙ ap is_some (sym (run-rest row i n line.line_idx f)))
-run-any line k row i (suc n) false e = rw (line-is line k i, e) (run-any line k (suc row) (suc i) n false e)
+run-found line k row i (suc n) false e = rw (line-is line k i, e) (run-found line k (suc row) (suc i) n false e)
 
 -- ---- where a key stands
 
-run-have : (k : SectionKey) (row i n : ℕ) → AllHaveRows (run_places k row i n)
-unfolding run_places
-run-have k row i zero = tt
-run-have k row i (suc n) = (omega arith, run-have k (suc row) (suc i) n)
+found-append : (key : SelectionKey) (ps qs : List Place) → found_in key (ps ++ qs) ≡ first_of_two (found_in key ps) (found_in key qs)
+found-append key [] qs = refl
+found-append key (p ∷ ps) qs = go (is_key key p.key) (found-append key ps qs)
+  where
+    go : (b : Bool) → found_in key (ps ++ qs) ≡ first_of_two (found_in key ps) (found_in key qs)
+        → (if b then Some (p.top, p.rows) else found_in key (ps ++ qs)) ≡ first_of_two (if b then Some (p.top, p.rows) else found_in key ps) (found_in key qs)
+    go true e = refl
+    go false e = e
 
 first-of : (a b : Option ℕ) → first_of_two {A = ℕ × ℕ} (option_map (λ t. (t, 1)) a) (option_map (λ t. (t, 1)) b) ≡ option_map (λ t. (t, 1)) (option_or a b)
 first-of (Some t) b = refl
 first-of None b = refl
 
-some-of : (a b : Option ℕ) → (is_some a || is_some b) ≡ is_some (option_or a b)
-some-of (Some t) b = refl
-some-of None b = refl
-
-both-rows : (line : LineKey) (k : SectionKey) (row n low i m : ℕ) (b : Bool) → is_key (keys.Section (section_of_line line)) (keys.Section k) ≡ b
-    → rows_of_key (keys.Line line) (run_places k row 0 n ++ run_places k low i m)
+both-found : (line : LineKey) (k : SectionKey) (row n low i m : ℕ) (b : Bool) → is_key (keys.Section (section_of_line line)) (keys.Section k) ≡ b
+    → found_in (keys.Line line) (run_places k row 0 n ++ run_places k low i m)
     ≡ option_map (λ t. (t, 1)) (if b then option_or (run_row row 0 n line.line_idx) (run_row low i m line.line_idx) else None)
-both-rows line k row n low i m true e =
-    rows-append (keys.Line line) (run_places k row 0 n) (run_places k low i m) (run-have k row 0 n)
-    ∙ ap (λ w. first_of_two w (rows_of_key (keys.Line line) (run_places k low i m))) (run-rows line k row 0 n true e)
-    ∙ ap (first_of_two {A = ℕ × ℕ} (option_map (λ t. (t, 1)) (run_row row 0 n line.line_idx))) (run-rows line k low i m true e)
+both-found line k row n low i m true e =
+    found-append (keys.Line line) (run_places k row 0 n) (run_places k low i m)
+    ∙ ap₂ (first_of_two {A = ℕ × ℕ}) (run-found line k row 0 n true e) (run-found line k low i m true e)
     ∙ first-of (run_row row 0 n line.line_idx) (run_row low i m line.line_idx)
-both-rows line k row n low i m false e =
-    rows-append (keys.Line line) (run_places k row 0 n) (run_places k low i m) (run-have k row 0 n)
-    ∙ ap (λ w. first_of_two w (rows_of_key (keys.Line line) (run_places k low i m))) (run-rows line k row 0 n false e)
-    ∙ run-rows line k low i m false e
-
-both-any : (line : LineKey) (k : SectionKey) (row n low i m : ℕ) (b : Bool) → is_key (keys.Section (section_of_line line)) (keys.Section k) ≡ b
-    → list_any (λ (p : Place). is_key (keys.Line line) p.key) (run_places k row 0 n ++ run_places k low i m)
-    ≡ is_some (if b then option_or (run_row row 0 n line.line_idx) (run_row low i m line.line_idx) else None)
-both-any line k row n low i m true e =
-    list_any-append (λ (p : Place). is_key (keys.Line line) p.key) (run_places k row 0 n) (run_places k low i m)
-    ∙ ap (λ w. w || list_any (λ (p : Place). is_key (keys.Line line) p.key) (run_places k low i m)) (run-any line k row 0 n true e)
-    ∙ ap (λ w. is_some (run_row row 0 n line.line_idx) || w) (run-any line k low i m true e)
-    ∙ some-of (run_row row 0 n line.line_idx) (run_row low i m line.line_idx)
-both-any line k row n low i m false e =
-    list_any-append (λ (p : Place). is_key (keys.Line line) p.key) (run_places k row 0 n) (run_places k low i m)
-    ∙ ap (λ w. w || list_any (λ (p : Place). is_key (keys.Line line) p.key) (run_places k low i m)) (run-any line k row 0 n false e)
-    ∙ run-any line k low i m false e
+both-found line k row n low i m false e =
+    found-append (keys.Line line) (run_places k row 0 n) (run_places k low i m)
+    ∙ ap₂ (first_of_two {A = ℕ × ℕ}) (run-found line k row 0 n false e) (run-found line k low i m false e)
 
 -- no line has the key of a file or a section, or none
-run-other : (key : SelectionKey) (k : SectionKey) (row i n : ℕ) → ((line : LineKey) → is_key key (keys.Line line) ≡ false)
-    → (rows_of_key key (run_places k row i n) ≡ None) × (list_any (λ (p : Place). is_key key p.key) (run_places k row i n) ≡ false)
-unfolding rows_of_key run_places
-run-other key k row i zero never = (refl, refl)
-run-other key k row i (suc n) never =
-    let more = run-other key k (suc row) (suc i) n never in
-    (rw (never (line_key_of k i)) more.0, rw (never (line_key_of k i)) more.1)
+run-other : (key : SelectionKey) (k : SectionKey) (row i n : ℕ) → ((line : LineKey) → is_key key (keys.Line line) ≡ false) → found_in key (run_places k row i n) ≡ None
+unfolding run_places
+run-other key k row i zero never = refl
+run-other key k row i (suc n) never = rw (never (line_key_of k i)) (run-other key k (suc row) (suc i) n never)
 
-lines-other : (key : SelectionKey) (k : SectionKey) (row n low i m : ℕ) → ((line : LineKey) → is_key key (keys.Line line) ≡ false)
-    → (rows_of_key key (run_places k row 0 n ++ run_places k low i m) ≡ None) × (list_any (λ (p : Place). is_key key p.key) (run_places k row 0 n ++ run_places k low i m) ≡ false)
-lines-other key k row n low i m never =
-    let a = run-other key k row 0 n never in
-    let b = run-other key k low i m never in (
-      rows-append key (run_places k row 0 n) (run_places k low i m) (run-have k row 0 n)
-          ∙ ap (λ w. first_of_two w (rows_of_key key (run_places k low i m))) a.0 ∙ b.0,
-      list_any-append (λ (p : Place). is_key key p.key) (run_places k row 0 n) (run_places k low i m)
-          ∙ ap (λ w. w || list_any (λ (p : Place). is_key key p.key) (run_places k low i m)) a.1 ∙ b.1,
-    )
+lines-other : (s : SectionPiece) (key : SelectionKey) → ((line : LineKey) → is_key key (keys.Line line) ≡ false) → found_in key (lines_places s.key s.kinds s.top s.end (s.end - s.top)) ≡ None
+lines-other s key never =
+    let r = s.end - s.top in
+    let first = run_places s.key s.top 0 (lines_on_top s.kinds r) in
+    let last = run_places s.key (s.end - lines_at_end s.kinds r) (first_at_end s.kinds r) (lines_at_end s.kinds r) in
+    found-append key first last
+    ∙ ap₂ (first_of_two {A = ℕ × ℕ}) (run-other key s.key s.top 0 (lines_on_top s.kinds r) never) (run-other key s.key (s.end - lines_at_end s.kinds r) (first_at_end s.kinds r) (lines_at_end s.kinds r) never)
 
 -- the lines of a section
-pub lines-rows : (s : SectionPiece) (key : SelectionKey) → rows_of_key key (lines_places s.key s.kinds s.top s.end (s.end - s.top)) ≡ option_map (λ t. (t, 1)) (key_row s key)
-lines-rows s key = go key
-  where
-    r : ℕ
-    r = s.end - s.top
+pub lines-found : (s : SectionPiece) (key : SelectionKey) → found_in key (lines_places s.key s.kinds s.top s.end (s.end - s.top)) ≡ option_map (λ t. (t, 1)) (key_row s key)
+lines-found s (keys.Line l) =
+    let r = s.end - s.top in
+    both-found l s.key s.top (lines_on_top s.kinds r) (s.end - lines_at_end s.kinds r) (first_at_end s.kinds r) (lines_at_end s.kinds r) (is_key (keys.Section (section_of_line l)) (keys.Section s.key)) refl
+lines-found s key = lines-other s key (λ l. refl)
 
-    go : (key : SelectionKey) → rows_of_key key (lines_places s.key s.kinds s.top s.end (s.end - s.top)) ≡ option_map (λ t. (t, 1)) (key_row s key)
-    go keys.None = (lines-other keys.None s.key s.top (lines_on_top s.kinds r) (s.end - lines_at_end s.kinds r) (first_at_end s.kinds r) (lines_at_end s.kinds r) (λ l. refl)).0
-    go (keys.File f) = (lines-other (keys.File f) s.key s.top (lines_on_top s.kinds r) (s.end - lines_at_end s.kinds r) (first_at_end s.kinds r) (lines_at_end s.kinds r) (λ l. refl)).0
-    go (keys.Section k) = (lines-other (keys.Section k) s.key s.top (lines_on_top s.kinds r) (s.end - lines_at_end s.kinds r) (first_at_end s.kinds r) (lines_at_end s.kinds r) (λ l. refl)).0
-    go (keys.Line l) = both-rows l s.key s.top (lines_on_top s.kinds r) (s.end - lines_at_end s.kinds r) (first_at_end s.kinds r) (lines_at_end s.kinds r) (is_key (keys.Section (section_of_line l)) (keys.Section s.key)) refl
+any-found : (key : SelectionKey) (ps : List Place) → list_any (λ (p : Place). is_key key p.key) ps ≡ is_some (found_in key ps)
+any-found key [] = refl
+any-found key (p ∷ ps) = go (is_key key p.key) (any-found key ps)
+  where
+    go : (b : Bool) → list_any (λ (q : Place). is_key key q.key) ps ≡ is_some (found_in key ps) → (b || list_any (λ (q : Place). is_key key q.key) ps) ≡ is_some (if b then Some (p.top, p.rows) else found_in key ps)
+    go true e = refl
+    go false e = e
+
+some-mapped : {A B : Type 0} (f : A → B) (o : Option A) → is_some (option_map f o) ≡ is_some o
+some-mapped f (Some t) = refl
+some-mapped f None = refl
 
 pub lines-any : (s : SectionPiece) (key : SelectionKey) → list_any (λ (p : Place). is_key key p.key) (lines_places s.key s.kinds s.top s.end (s.end - s.top)) ≡ is_some (key_row s key)
-lines-any s key = go key
-  where
-    r : ℕ
-    r = s.end - s.top
-
-    go : (key : SelectionKey) → list_any (λ (p : Place). is_key key p.key) (lines_places s.key s.kinds s.top s.end (s.end - s.top)) ≡ is_some (key_row s key)
-    go keys.None = (lines-other keys.None s.key s.top (lines_on_top s.kinds r) (s.end - lines_at_end s.kinds r) (first_at_end s.kinds r) (lines_at_end s.kinds r) (λ l. refl)).1
-    go (keys.File f) = (lines-other (keys.File f) s.key s.top (lines_on_top s.kinds r) (s.end - lines_at_end s.kinds r) (first_at_end s.kinds r) (lines_at_end s.kinds r) (λ l. refl)).1
-    go (keys.Section k) = (lines-other (keys.Section k) s.key s.top (lines_on_top s.kinds r) (s.end - lines_at_end s.kinds r) (first_at_end s.kinds r) (lines_at_end s.kinds r) (λ l. refl)).1
-    go (keys.Line l) = both-any l s.key s.top (lines_on_top s.kinds r) (s.end - lines_at_end s.kinds r) (first_at_end s.kinds r) (lines_at_end s.kinds r) (is_key (keys.Section (section_of_line l)) (keys.Section s.key)) refl
+lines-any s key = any-found key (lines_places s.key s.kinds s.top s.end (s.end - s.top)) ∙ ap is_some (lines-found s key) ∙ some-mapped (λ t. (t, 1)) (key_row s key)
 
 -- ---- pieces one below another
 
 -- the first of two lists that has the key
-any-first : (key : SelectionKey) (ps qs : List Place) → list_any (λ (p : Place). is_key key p.key) ps ≡ true → rows_of_key key (ps ++ qs) ≡ rows_of_key key ps
+found-first : (key : SelectionKey) (ps qs : List Place) (rows : ℕ × ℕ) → found_in key ps ≡ Some rows → rows_of_key key (ps ++ qs) ≡ (if rows.1 == 0 then None else Some rows)
 unfolding rows_of_key
-any-first key [] qs e = absurd (cc e)
-any-first key (p ∷ ps) qs e = go (is_key key p.key) refl (any-first key ps qs)
+found-first key [] qs rows e = absurd (cc e)
+found-first key (p ∷ ps) qs rows e = go (is_key key p.key) (found-first key ps qs rows) e
   where
-    go : (b : Bool) → is_key key p.key ≡ b → (list_any (λ (p : Place). is_key key p.key) ps ≡ true → rows_of_key key (ps ++ qs) ≡ rows_of_key key ps)
-        → (if b then rows_of_place p else rows_of_key key (ps ++ qs)) ≡ (if b then rows_of_place p else rows_of_key key ps)
-    go true f more = refl
-    go false f more = more (rw f at e)
+    go : (b : Bool) → (found_in key ps ≡ Some rows → rows_of_key key (ps ++ qs) ≡ (if rows.1 == 0 then None else Some rows)) → (if b then Some (p.top, p.rows) else found_in key ps) ≡ Some rows
+        → (if b then rows_of_place p else rows_of_key key (ps ++ qs)) ≡ (if rows.1 == 0 then None else Some rows)
+    go true more f = let same : ◌≡◌ {A = ℕ × ℕ} (p.top, p.rows) rows = cc f in ap (λ (q : ℕ × ℕ). if q.1 == 0 then None else Some q) same
+    go false more f = more f
 
-any-rest : (key : SelectionKey) (ps qs : List Place) → list_any (λ (p : Place). is_key key p.key) ps ≡ false → rows_of_key key (ps ++ qs) ≡ rows_of_key key qs
+found-rest : (key : SelectionKey) (ps qs : List Place) → found_in key ps ≡ None → rows_of_key key (ps ++ qs) ≡ rows_of_key key qs
 unfolding rows_of_key
-any-rest key [] qs e = refl
-any-rest key (p ∷ ps) qs e = go (is_key key p.key) refl (any-rest key ps qs)
+found-rest key [] qs e = refl
+found-rest key (p ∷ ps) qs e = go (is_key key p.key) (found-rest key ps qs) e
   where
-    go : (b : Bool) → is_key key p.key ≡ b → (list_any (λ (p : Place). is_key key p.key) ps ≡ false → rows_of_key key (ps ++ qs) ≡ rows_of_key key qs)
-        → (if b then rows_of_place p else rows_of_key key (ps ++ qs)) ≡ rows_of_key key qs
-    go true f more = absurd (cc (rw f at e))
-    go false f more = more (rw f at e)
+    go : (b : Bool) → (found_in key ps ≡ None → rows_of_key key (ps ++ qs) ≡ rows_of_key key qs) → (if b then Some (p.top, p.rows) else found_in key ps) ≡ None → (if b then rows_of_place p else rows_of_key key (ps ++ qs)) ≡ rows_of_key key qs
+    go true more f = absurd (cc f)
+    go false more f = more f
 
-pub find-first : (pieces : List Piece) (i : ℕ) (d : Piece) (key : SelectionKey) → i < length pieces → list_any (λ (p : Place). is_key key p.key) (piece_places (get_or pieces i d)) ≡ true
-    → rows_of_key key (flat_map piece_places (drop i pieces)) ≡ rows_of_key key (piece_places (get_or pieces i d))
-find-first pieces i d key h e = ap (rows_of_key key) (pieces-more piece_places pieces i d h) ∙ any-first key (piece_places (get_or pieces i d)) (flat_map piece_places (drop (i + 1) pieces)) e
+pub find-first : (pieces : List Piece) (i : ℕ) (d : Piece) (key : SelectionKey) (rows : ℕ × ℕ) → i < length pieces → found_in key (piece_places (get_or pieces i d)) ≡ Some rows
+    → rows_of_key key (flat_map piece_places (drop i pieces)) ≡ (if rows.1 == 0 then None else Some rows)
+find-first pieces i d key rows h e = ap (rows_of_key key) (pieces-more piece_places pieces i d h) ∙ found-first key (piece_places (get_or pieces i d)) (flat_map piece_places (drop (i + 1) pieces)) rows e
 
-pub find-rest : (pieces : List Piece) (i : ℕ) (d : Piece) (key : SelectionKey) → i < length pieces → list_any (λ (p : Place). is_key key p.key) (piece_places (get_or pieces i d)) ≡ false
+pub find-rest : (pieces : List Piece) (i : ℕ) (d : Piece) (key : SelectionKey) → i < length pieces → found_in key (piece_places (get_or pieces i d)) ≡ None
     → rows_of_key key (flat_map piece_places (drop i pieces)) ≡ rows_of_key key (flat_map piece_places (drop (i + 1) pieces))
-find-rest pieces i d key h e = ap (rows_of_key key) (pieces-more piece_places pieces i d h) ∙ any-rest key (piece_places (get_or pieces i d)) (flat_map piece_places (drop (i + 1) pieces)) e
+find-rest pieces i d key h e = ap (rows_of_key key) (pieces-more piece_places pieces i d h) ∙ found-rest key (piece_places (get_or pieces i d)) (flat_map piece_places (drop (i + 1) pieces)) e
 
 pub find-none : (pieces : List Piece) (i : ℕ) (key : SelectionKey) → length pieces ≤ i → rows_of_key key (flat_map piece_places (drop i pieces)) ≡ None
 unfolding rows_of_key

@@ -17,9 +17,8 @@ use Rattle.scm_document.proofs.SameWindowLemmas.{drawn_by, as_it_is}
 
 sections-split : (b : ℕ) (ps : List ShownSection) → sections_rows (take b ps) ++ sections_rows (drop b ps) ≡ sections_rows ps
 unfolding sections_rows
-sections-split zero ps = refl
-sections-split (suc b) [] = refl
 sections-split (suc b) (p ∷ ps) = append_assoc p.rows (sections_rows (take b ps)) (sections_rows (drop b ps)) ∙ ap (λ rs. p.rows ++ rs) (sections-split b ps)
+sections-split _ _ = refl
 
 sections-length : (b : ℕ) (ps : List ShownSection) → length (sections_rows ps) ≡ length (sections_rows (take b ps)) + length (sections_rows (drop b ps))
 sections-length b ps = ap length (sym (sections-split b ps)) ∙ length-append (sections_rows (take b ps)) (sections_rows (drop b ps))
@@ -236,15 +235,13 @@ from-none (f ∷ fs) = refl
 
 less-take : (b : ℕ) (ps : List ShownSection) → length (sections_rows (take b ps)) ≤ length (sections_rows ps)
 unfolding sections_rows
-less-take zero ps = omega arith
-less-take (suc b) [] = omega arith
 less-take (suc b) (p ∷ ps) = omega (arith, length-append p.rows (sections_rows (take b ps)), length-append p.rows (sections_rows ps), less-take b ps)
+less-take _ _ = omega arith
 
 less-drop : (a : ℕ) (ps : List ShownSection) → length (sections_rows (drop a ps)) ≤ length (sections_rows ps)
 unfolding sections_rows
-less-drop zero ps = omega arith
-less-drop (suc a) [] = omega arith
 less-drop (suc a) (p ∷ ps) = omega (arith, length-append p.rows (sections_rows ps), less-drop a ps)
+less-drop _ _ = omega arith
 
 pub less-to : (k b : ℕ) (fs : List ShownFile) → length (files_rows (files_to k b fs)) ≤ length (files_rows fs)
 unfolding files_to files_rows file_rows

@@ -32,5 +32,3 @@ pub mod RunLemmas
 pub mod DocumentExtentLemmas
 pub mod LeftOutLemmas
 pub mod SameWindowLemmas
--- the pieces near the screen own what all pieces do on its rows
-pub mod NearPieceLemmas

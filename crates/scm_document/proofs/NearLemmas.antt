@@ -22,6 +22,7 @@ use Rattle.scm_widgets.specs.Texts.{box_text, button_text}
 use Rattle.scm_document.specs.Texts.{divider_text, message_text, no_files_text}
 use Rattle.scm_widgets.specs.Boxes.{IdBox}
 use Rattle.scm_rows.specs.Heights.{message_height}
+use Rattle.scm_rows.proofs.HeightLemmas.{message-le}
 use Rattle.scm_document.specs.Rows.{Heading, DocRow, HeaderRow, SectionRow, LineRow, MarkRow, ContextRow, DotsRow, BlankRow, ShownSection, ShownFile, Document, sections_rows, file_rows}
 use Rattle.scm_document.specs.FilesRows.{files_rows}
 use Rattle.scm_widgets.specs.Pictures.{to_end, rest_of_row, whole_row, box_picture, box_part, fold_column, highlight, button_picture}
@@ -276,15 +277,11 @@ no_files-near s x y n p q p2 q2 =
 here-near : (z : ℤ) (n : ℕ) → IsInDrawBounds z → n ≤ 2 ^ 59 → IsNear (z +ℤ pos n)
 here-near z n c h = record { low = omega (arith, places); high = omega (arith, places) }
 
-still-near : (z : ℤ) → IsInDrawBounds z → IsNear z
+pub still-near : (z : ℤ) → IsInDrawBounds z → IsNear z
 still-near z c = record { low = omega (arith, places); high = omega (arith, places) }
 
 then-near : (z : ℤ) (n m : ℕ) → IsInDrawBounds z → n ≤ 3 → m ≤ 2 ^ 59 → IsNear ((z +ℤ pos n) +ℤ pos m)
 then-near z n m c h k = record { low = omega (arith, places); high = omega (arith, places) }
-
-height-small : (m : Option (List ℕ)) → message_height m ≤ 3
-height-small None = omega arith
-height-small (Some m) = omega arith
 
 pub document-near : (d : Document) (s : Sight) (x y : ℤ) → SightIsInDrawBounds s → IsInDrawBounds x → IsInDrawBounds y → length (files_rows d.files) ≤ 2 ^ 59 → IsNarrowDocument d → PictureInRange (document_picture d s x y)
 unfolding document_picture
@@ -292,7 +289,7 @@ document-near d s x y c p q h w =
     let n : SightIsNear s = record { x = still-near _ c.x; end_x = still-near _ c.end_x; mask_x = still-near _ c.mask_x } in
     let px = still-near x p in
     let py = still-near y q in
-    let three = height-small d.message in
+    let three = message-le d.message in
     PictureInRange-followed _ _ (PictureInRange-as_part _ _ (message-near d.commit d.message s x y n px py (here-near y 1 q (omega arith)) w.message))
     (PictureInRange-if (length d.files == 0) _ _
     (no_files-near s x y n px py (here-near x 65535 p (omega arith)) (here-near y 65535 q (omega arith)))

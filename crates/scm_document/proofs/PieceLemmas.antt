@@ -25,11 +25,12 @@ use Rattle.scm_document.specs.Places.{Place, line_places, rows_places, sections_
 use Rattle.scm_document.specs.RowIndex.{section_parts, sections_parts, files_parts}
 use Rattle.scm_document.specs.SectionWalk.{visible_views}
 use Rattle.scm_rows.specs.Heights.{shape_of}
+use Rattle.scm_rows.proofs.HeightLemmas.{above-le}
 use Rattle.scm_document.specs.SectionPieces.{kinds_of}
 use Rattle.scm_document.specs.ViewPieces.{section_piece_of, section_piece_list, file_height, sections_in_file, file_piece_of, file_piece_list, sections_in_files}
 use Rattle.scm_document.specs.Pieces.{file_pieces, files_pieces, files_of, sections_of, run_places, lines_places, section_places, piece_places, piece_parts}
 use Rattle.scm_document.proofs.RowsLemmas.{length-numbered, length-taken}
-use Rattle.scm_document.proofs.SectionsLemmas.{at_most, most-below, section-size, shown-visible}
+use Rattle.scm_document.proofs.SectionsLemmas.{most-below, section-size, shown-visible}
 use Rattle.scm_document.proofs.ViewPieceLemmas.{file-height}
 
 -- ---- the files and sections among them
@@ -93,7 +94,7 @@ context-places : (v : SectionView) (top : ℕ) (ls : List (List ℕ)) → let n 
 context-places v top ls =
     let n = length ls in
     let above = lines_above (place_of v) n in
-    let size : length (numbered_rows v 0 (take above ls)) ≡ above = length-taken v above ls (at_most (are_all_shown (place_of v) n) (is_first (place_of v)) n) in
+    let size : length (numbered_rows v 0 (take above ls)) ≡ above = length-taken v above ls (above-le (are_all_shown (place_of v) n) (is_first (place_of v)) n) in
     let few : length (take above ls) ≡ above = sym (length-numbered v 0 (take above ls)) ∙ size in
     rows_places-append top (numbered_rows v 0 (take above ls)) (rows_below v ls)
     ∙ ap (λ w. w ++ rows_places (top + length (numbered_rows v 0 (take above ls))) (rows_below v ls)) (numbered-run v top 0 (take above ls) ∙ ap (run_places v.section_key top 0) few)

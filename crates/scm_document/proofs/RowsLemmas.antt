@@ -5,7 +5,7 @@ use Rattle.std.specs.Prelude.{Result, Ok, Err, OnOk, take, ◌-◌}
 use Rattle.std.proofs.lemmas.Int.{ints}
 use Rattle.scm_cells.specs.Rect.{InRange}
 use Rattle.scm_types.specs.declared.line.SectionChangedLine.{SectionChangedLine}
-use Rattle.scm_render.specs.Picture.{PictureInRange, nothing, followed_by, covering, part}
+use Rattle.scm_render.specs.Picture.{PictureInRange, nothing, followed_by, covering, part, Picture}
 use Rattle.scm_render.specs.Canvas.{Sight, Canvas, with_picture}
 use Rattle.scm_render.proofs.PictureLemmas.{PictureInRange-left, PictureInRange-right, PictureInRange-part, RectInRange-covering}
 use Rattle.scm_widgets.specs.declared.ids.ComponentId.{ComponentId}
@@ -17,7 +17,7 @@ use Rattle.scm_document.specs.declared.section_line_view.SectionLineView.{Sectio
 use Rattle.scm_document.specs.declared.section_line_view.SectionLineViewInner.{SectionLineViewInner}
 use Rattle.scm_document.specs.declared.section_line_view.SectionLineViewInner.TheVariants as inner
 use Rattle.scm_widgets.specs.Boxes.{IdBox}
-use Rattle.scm_document.specs.Rows.{DocRow, HeaderRow, SectionRow, LineRow, MarkRow, ContextRow, DotsRow, BlankRow, changed_row, changed_rows, numbered_row, numbered_rows, lines_count, line_rows, rows_from, view_row, line_id}
+use Rattle.scm_document.specs.Rows.{DocRow, HeaderRow, SectionRow, BlankRow, changed_row, changed_rows, numbered_row, numbered_rows, lines_count, line_rows, rows_from, view_row, line_id}
 use Rattle.scm_widgets.specs.Pictures.{IdPicture, rest_of_row, box_picture}
 use Rattle.scm_document.specs.Pictures.{inner_picture, line_picture, row_picture, rows_picture, changed_picture, context_picture}
 use Rattle.scm_render.proofs.StepLemmas.{step, rest, span-place, text-place, InRange-fits}
@@ -29,11 +29,8 @@ pub row-end : (r : DocRow) (s : Sight) (x y : ℤ) → PictureInRange (row_pictu
 unfolding row_picture changed_picture context_picture
 row-end (HeaderRow k h) s x y r = (heading-rect h s x y (PictureInRange-part _ _ r)).end_y
 row-end (SectionRow b h) s x y r = (heading-rect h s x y (PictureInRange-left _ _ r)).end_y
-row-end (LineRow k b ts) s x y r = (RectInRange-covering _ (PictureInRange-left _ _ r)).end_y
-row-end (MarkRow b c t) s x y r = (RectInRange-covering _ (PictureInRange-left _ _ r)).end_y
-row-end (ContextRow k ts) s x y r = (RectInRange-covering _ (PictureInRange-left _ _ r)).end_y
-row-end (DotsRow t) s x y r = (RectInRange-covering _ (PictureInRange-left _ _ r)).end_y
 row-end BlankRow s x y r = (blank_in_range {K = ComponentId} s (rest_of_row s x y) r).end_y
+row-end _ s x y r = (RectInRange-covering _ (PictureInRange-left _ _ r)).end_y
 
 pub rows_picture-more : (rows : List DocRow) (r : DocRow) (rs : List DocRow) (s : Sight) (x y : ℤ) → rows ≡ r ∷ rs → rows_picture rows s x y ≡ followed_by (row_picture r s x y) (rows_picture rs s x (y +ℤ pos 1))
 unfolding rows_picture
@@ -116,9 +113,9 @@ pub nothing-followed : (a : IdPicture) → followed_by nothing a ≡ a
 unfolding followed_by nothing
 nothing-followed a = picture-same _ _ refl refl refl
 
-pub followed-nothing : (a : IdPicture) → followed_by a nothing ≡ a
+pub followed-nothing : {K : Type 0} (a : Picture K) → followed_by a nothing ≡ a
 unfolding followed_by nothing
-followed-nothing a = picture-same _ _ (append-nil a.puts) (append-nil a.boxes) (append-nil a.areas)
+followed-nothing a = λ i. record { puts = append-nil a.puts i; boxes = append-nil a.boxes i; areas = append-nil a.areas i }
 
 -- rows, and below them others
 pub rows_picture-append : (rs qs : List DocRow) (s : Sight) (x y : ℤ) → rows_picture (rs ++ qs) s x y ≡ followed_by (rows_picture rs s x y) (rows_picture qs s x (y +ℤ pos (length rs)))

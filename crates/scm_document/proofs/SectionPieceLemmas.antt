@@ -1,4 +1,5 @@
 -- A section's place answers for the rows of its view: who owns their columns.
+use mathlib.Core.Bool.{or-false}
 use Rattle.std.proofs.Common.{◌≡◌, ℕ, zero, suc, ◌+◌, ◌-◌, ◌<◌, ◌≤◌, ◌==◌, Bool, true, false, not, ◌&&◌, ◌||◌, cond, List, [], ◌∷◌, ◌++◌, length, map, take, drop, get_or, nat_lt, refl, sym, ap, ap₂, ◌∙◌, arith}
 use Rattle.std.specs.Prelude.{pos, ◌+ℤ◌, int_le, int_lt, if◌then◌else◌, nat_le, Option, Some, None, option_map}
 use Rattle.std.specs.List.{list_any}
@@ -27,10 +28,11 @@ use Rattle.scm_types.specs.Keys.{line_key_of}
 use Rattle.scm_document.specs.Strips.{row_strip, is_whole, is_wide, is_of_section, section_strips}
 use Rattle.scm_document.specs.PieceOwners.{box_owner, line_owner, context_line, part_owner, section_owner}
 use Rattle.scm_rows.specs.Heights.{shape_of}
+use Rattle.scm_rows.proofs.HeightLemmas.{above-le}
 use Rattle.scm_document.specs.SectionPieces.{context_kinds, is_wide_section, kinds_of}
 use Rattle.scm_document.specs.ViewPieces.{section_piece_of}
 use Rattle.scm_document.proofs.RowsLemmas.{length-numbered, length-taken}
-use Rattle.scm_document.proofs.SectionsLemmas.{at_most, most-below, height-of, section-size}
+use Rattle.scm_document.proofs.SectionsLemmas.{most-below, height-of, section-size}
 use Rattle.scm_widgets.proofs.DrawsStrips.{line-owned}
 
 -- ---- who owns a row's columns
@@ -113,15 +115,14 @@ dots-length w v false = refl
 dots-owner : (w x : ℕ) (v : SectionView) (b : Bool) (k : ℕ) → k < length (map (row_strip w) (dots_rows v b)) → (get_or (map (row_strip w) (dots_rows v b)) k clear).owner x ≡ None
 unfolding row_strip
 dots-owner w x v true zero h = refl
-dots-owner w x v true (suc k) h = absurd (omega (arith, h))
-dots-owner w x v false k h = absurd (omega (arith, h))
+dots-owner w x v _ _ h = absurd (omega (arith, h))
 
 shown-part : (w x j : ℕ) (v : SectionView) (ls : List (List ℕ)) → j < lines_height (place_of v) (length ls)
     → (get_or (map (row_strip w) (shown_lines v ls)) j clear).owner x
     ≡ option_map (λ n. line_id (line_key_of v.section_key n)) (context_line (lines_above (place_of v) (length ls)) (lines_above (place_of v) (length ls) + dots_height (place_of v) (length ls)) (length ls) (lines_height (place_of v) (length ls)) j)
 shown-part w x j v ls within =
     let n = length ls in
-    let most = at_most (are_all_shown (place_of v) n) (is_first (place_of v)) n in
+    let most = above-le (are_all_shown (place_of v) n) (is_first (place_of v)) n in
     let low = most-below (are_all_shown (place_of v) n) (is_last (place_of v)) n in
     let top : List DocRow = numbered_rows v 0 (take (lines_above (place_of v) n) ls) in
     let end : List DocRow = numbered_rows v (first_below (place_of v) n) (drop (first_below (place_of v) n) ls) in
@@ -170,10 +171,9 @@ part-at w x (suc j) v (Changed ls) e h =
     let some : (suc j == 0) ≡ false = grind arith in
     let here : suc j - 1 ≡ j = omega arith in
     rw (some, here) (opened-part w x j v ls (is_fold_open v.expand_box) h)
-part-at w x zero v (FileMode checked mode) e h = one_box (is_among 2 3 x) (ids.ToggleBox (selection.Section v.section_key))
 part-at w x (suc j) v (FileMode checked mode) e h = absurd (omega (arith, h))
-part-at w x zero v (Binary checked old new) e h = one_box (is_among 2 3 x) (ids.ToggleBox (selection.Section v.section_key))
 part-at w x (suc j) v (Binary checked old new) e h = absurd (omega (arith, h))
+part-at w x _ v _ e h = one_box (is_among 2 3 x) (ids.ToggleBox (selection.Section v.section_key))
 
 -- ---- whether a section owns columns 0 and 1
 
@@ -191,10 +191,6 @@ any-dots : (v : SectionView) (b : Bool) → list_any is_whole (dots_rows v b) �
 any-dots v true = refl
 any-dots v false = refl
 
-or_false : (b : Bool) → (b || false) ≡ b
-or_false true = refl
-or_false false = refl
-
 some-left : (a b n : ℕ) → a ≡ n - b → nat_lt 0 a ≡ nat_lt b n
 some-left a b n e = go (nat_lt b n) refl
   where
@@ -205,7 +201,7 @@ some-left a b n e = go (nat_lt b n) refl
 any-shown : (v : SectionView) (ls : List (List ℕ)) → list_any is_whole (shown_lines v ls) ≡ (nat_lt 0 (lines_above (place_of v) (length ls)) || nat_lt (first_below (place_of v) (length ls)) (length ls))
 any-shown v ls =
     let n = length ls in
-    let most = at_most (are_all_shown (place_of v) n) (is_first (place_of v)) n in
+    let most = above-le (are_all_shown (place_of v) n) (is_first (place_of v)) n in
     let taken : length (take (lines_above (place_of v) n) ls) ≡ lines_above (place_of v) n = omega (arith, most, length-take (lines_above (place_of v) n) ls) in
     let top : List DocRow = numbered_rows v 0 (take (lines_above (place_of v) n) ls) in
     let end : List DocRow = numbered_rows v (first_below (place_of v) n) (drop (first_below (place_of v) n) ls) in
@@ -238,8 +234,8 @@ wide-is v (Changed ls) = ap (λ b. is_selected v || b) (go (is_fold_open v.expan
     go : (b : Bool) → list_any is_whole (if b then changed_rows v 0 ls else []) ≡ nat_lt 1 (if b then 1 + length ls else 1)
     go true = let more : nat_lt 0 (length ls) ≡ nat_lt 1 (1 + length ls) = grind (arith, nat_tests) in any-changed v 0 ls ∙ more
     go false = refl
-wide-is v (FileMode checked mode) = or_false (is_selected v)
-wide-is v (Binary checked old new) = or_false (is_selected v)
+wide-is v (FileMode checked mode) = or-false (is_selected v)
+wide-is v (Binary checked old new) = or-false (is_selected v)
 
 -- ---- who owns a section's columns
 

@@ -190,12 +190,7 @@ heading-paints h seen s w c y fits o on r =
 -- a header stands at column 0, the rows of a section at column 2
 abbrev pub column_of : DocRow → ℕ
 column_of (HeaderRow key h) = 0
-column_of (SectionRow selected h) = 2
-column_of (LineRow key b ts) = 2
-column_of (MarkRow selected b t) = 2
-column_of (ContextRow key ts) = 2
-column_of (DotsRow t) = 2
-column_of BlankRow = 2
+column_of _ = 2
 
 pub no-highlight : (b : Bool) (s : Sight) (y : ℤ) → (highlight b s y).puts ≡ []
 unfolding covering nothing
@@ -239,7 +234,7 @@ IsReachedFrom y seen m = (z : ℤ) → y ≤ℤ z → IsReached seen m z
 abbrev pub shows_of : {K : Type 0} → Strip K → Row → Row
 shows_of s = s.shows
 
-shows-owned : (i : ComponentId) (test : ℕ → Bool) (ss : List (Strip ComponentId)) → map shows_of (map (owned i test) ss) ≡ map shows_of ss
+pub shows-owned : (i : ComponentId) (test : ℕ → Bool) (ss : List (Strip ComponentId)) → map shows_of (map (owned i test) ss) ≡ map shows_of ss
 shows-owned i test [] = refl
 shows-owned i test (s ∷ ss) = ap (λ fs. s.shows ∷ fs) (shows-owned i test ss)
 

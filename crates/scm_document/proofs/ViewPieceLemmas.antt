@@ -18,9 +18,9 @@ use Rattle.scm_document.specs.declared.index_pieces.FilePiece.{FilePiece}
 use Rattle.scm_document.specs.declared.index_pieces.SectionPiece.{SectionPiece}
 use Rattle.scm_widgets.specs.Layers.{Strip, clear, owned, is_among}
 use Rattle.scm_document.specs.Owners.{AreRowsOf, AreSectionsOf}
-use Rattle.scm_document.specs.Rows.{file_id, section_id, section_height, section_rows, ShownSection, ShownFile, shown_of_view, shown_sections, sections_rows, shown_file, file_rows}
+use Rattle.scm_document.specs.Rows.{file_id, section_height, section_rows, ShownFile, shown_of_view, shown_sections, sections_rows, shown_file, file_rows}
 use Rattle.scm_widgets.specs.Boxes.{is_fold_open}
-use Rattle.scm_document.specs.Strips.{everywhere, is_of_section, row_strip, section_strips, sections_strips, header_strip, file_strips, is_over, files_strips}
+use Rattle.scm_document.specs.Strips.{everywhere, row_strip, section_strips, sections_strips, header_strip, file_strips, is_over, files_strips}
 use Rattle.scm_widgets.specs.OverlayRects.{is_from}
 use Rattle.scm_document.specs.PieceOwners.{section_owner, sections_owner, header_owner, file_owner, files_owner, rows_owner}
 use Rattle.scm_document.specs.SectionWalk.{visible_views}
@@ -29,6 +29,7 @@ use Rattle.scm_widgets.proofs.DrawsStrips.{line-owned}
 use Rattle.scm_document.proofs.FilesOf.{IsHeadingOf, IsFileOf, AreFilesOf}
 use Rattle.scm_document.proofs.SectionsLemmas.{section-size, shown-visible}
 use Rattle.scm_document.proofs.SectionPieceLemmas.{length-section, section-owner, row-within, two_boxes}
+use Rattle.scm_document.proofs.StripLemmas.{length-file_strips}
 
 -- ---- how many rows there are
 
@@ -44,20 +45,6 @@ file-height v = go (is_fold_open v.expand_box)
     go : (b : Bool) → suc (length (sections_rows (if b then shown_sections false v.section_views else []))) ≡ 1 + (if b then sections_height (visible_views false v.section_views) else 0)
     go true = ap (λ ps. suc (length (sections_rows ps))) (shown-visible false v.section_views) ∙ ap suc (sections-height (visible_views false v.section_views)) ∙ omega arith
     go false = omega arith
-
--- the strips of sections, and of a file
-length-strips : (w : ℕ) (ps : List ShownSection) → length (sections_strips w ps) ≡ length (sections_rows ps)
-unfolding sections_strips sections_rows section_strips
-length-strips w [] = refl
-length-strips w (p ∷ ps) =
-    let one : length (map (owned (section_id p.key) (is_of_section p.rows)) (map (row_strip w) p.rows)) ≡ length p.rows =
-    length-map (map (row_strip w) p.rows) (owned (section_id p.key) (is_of_section p.rows)) ∙ length-map p.rows (row_strip w) in
-    length-append (map (owned (section_id p.key) (is_of_section p.rows)) (map (row_strip w) p.rows)) (sections_strips w ps)
-    ∙ ap₂ (λ a b. a + b) one (length-strips w ps) ∙ sym (length-append p.rows (sections_rows ps))
-
-length-file : (w : ℕ) (b : Bool) (f : ShownFile) → length (file_strips w b f) ≡ length (file_rows f)
-unfolding file_strips file_rows
-length-file w b f = length-map (header_strip w b f ∷ sections_strips w f.sections) (owned (file_id f.key) everywhere) ∙ ap suc (length-strips w f.sections)
 
 -- ---- who owns a point among sections
 
@@ -177,7 +164,7 @@ file-parts w x y m top v b heading sections pinned h = go (y == top) refl
         rw (same-row top y false e) (below (is_fold_open v.expand_box) sections (grind (arith, differ, h)))
 
 pub file-strips-length : (w : ℕ) (b : Bool) (v : FileView) → length (file_strips w b (shown_file v)) ≡ file_height v
-file-strips-length w b v = length-file w b (shown_file v) ∙ file-height v
+file-strips-length w b v = length-file_strips w b (shown_file v) ∙ file-height v
 
 own-file : (o : Option ComponentId) (t : Bool) (i : ComponentId) → t ≡ true → first_of_two o (cond (t && true) (Some i) None) ≡ first_of_two o (Some i)
 own-file o t i e = rw e refl

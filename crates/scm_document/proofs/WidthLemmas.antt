@@ -14,6 +14,7 @@ use Rattle.scm_cells.specs.Cluster.{is_printable}
 use Rattle.scm_cells.specs.Clusters.{text_width}
 use Rattle.scm_cells.specs.Replaced.{replacement, pieces_from, line_pieces, last_piece}
 use Rattle.scm_cells.proofs.PrintableLemmas.{is_printable_char, text_width-printable}
+use Rattle.scm_cells.proofs.ReplacedLemmas.{pieces_from-stays, pieces_from-replaced}
 use Rattle.scm_render.specs.Drawing.{texts_width}
 use Rattle.scm_document.specs.Texts.{section_text, number_text, path_text}
 use Rattle.scm_widgets.proofs.SeamLemmas.{spaces, printable-spaces, length-spaces, IsSeam-space, IsUtf8-seam, text_width-seam}
@@ -44,9 +45,6 @@ printable-decimal n = printable-onto 64 10 n [] (λ m. omega arith) refl
 
 pub decimal-short : (n : ℕ) → n < 2 ^ 64 → length (decimal n) ≤ 20
 decimal-short n h = length-decimal-le 20 n (omega arith) (omega arith) h
-
-pub decimal-some : (n : ℕ) → n < 2 ^ 64 → 0 < length (decimal n)
-decimal-some n h = decimal_nonempty n h
 
 pub decimal-last : (n : ℕ) → n < 10 → length (decimal n) ≡ 1
 decimal-last n h = let some = decimal_nonempty n (omega arith) in let most = length-decimal-le 1 n (omega arith) (omega arith) (omega arith) in omega (arith, some, most)
@@ -97,14 +95,6 @@ pub record HasMeasured (line : List ℕ) (start read width : ℕ) (rest : List �
   pub parts : line ≡ before ++ (piece ++ rest)
   pub sum : width + texts_width (pieces_from piece (chars rest)) ≡ texts_width (line_pieces line)
 
-pieces-stays : (piece : List ℕ) (c : ℕ) (cs : List ℕ) → replacement c ≡ None → pieces_from piece (c ∷ cs) ≡ pieces_from (piece ++ encode_utf8 c) cs
-unfolding pieces_from
-pieces-stays piece c cs e = rw e refl
-
-pieces-replaced : (piece r : List ℕ) (c : ℕ) (cs : List ℕ) → replacement c ≡ Some r → pieces_from piece (c ∷ cs) ≡ piece ∷ (r ∷ pieces_from [] cs)
-unfolding pieces_from
-pieces-replaced piece r c cs e = rw e refl
-
 pub measured-none : (line rest : List ℕ) → IsUtf8 line → rest ≡ line → HasMeasured line 0 0 0 rest
 unfolding line_pieces
 measured-none line rest u e =
@@ -123,7 +113,7 @@ measured-stays line rest next start read width end c h first e none =
       utf8 = IsUtf8-past_char rest next c h.utf8 first;
       tail = subst IsUtf8 same h.tail;
       parts = h.parts ∙ ap (λ t. h.before ++ t) same;
-      sum = ap (λ t. width + texts_width t) (sym (ap (pieces_from h.piece) (chars_past_char rest next c h.utf8 first) ∙ pieces-stays h.piece c (chars next) none)) ∙ h.sum;
+      sum = ap (λ t. width + texts_width t) (sym (ap (pieces_from h.piece) (chars_past_char rest next c h.utf8 first) ∙ pieces_from-stays h.piece c (chars next) none)) ∙ h.sum;
     }
 
 -- the piece that is not measured yet
@@ -143,7 +133,7 @@ pub measured-sum : (line rest next r front : List ℕ) (start read width c : ℕ
 measured-sum line rest next r front start read width c h first some at =
     let same : front ≡ h.piece = at ∙ measured-piece line rest start read width h in
     let cut : pieces_from h.piece (chars rest) ≡ front ∷ (r ∷ pieces_from [] (chars next)) =
-    ap (pieces_from h.piece) (chars_past_char rest next c h.utf8 first) ∙ pieces-replaced h.piece r c (chars next) some ∙ ap (λ t. t ∷ (r ∷ pieces_from [] (chars next))) (sym same) in
+    ap (pieces_from h.piece) (chars_past_char rest next c h.utf8 first) ∙ pieces_from-replaced h.piece r c (chars next) some ∙ ap (λ t. t ∷ (r ∷ pieces_from [] (chars next))) (sym same) in
     let all = ap texts_width cut in
     let two = two-widths front r (pieces_from [] (chars next)) in
     omega (arith, all, two, h.sum)

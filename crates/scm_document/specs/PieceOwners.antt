@@ -1,6 +1,5 @@
 -- The owners of the columns of a document's rows, by its pieces alone.
-use Rattle.std.specs.Prelude.{ℕ, ◌-◌, ◌==◌, nat_le, nat_lt, Bool, ◌&&◌, ◌||◌, if◌then◌else◌, List, [], ◌∷◌, Option, Some, None, option_map}
-use Rattle.std.specs.List.{filter}
+use Rattle.std.specs.Prelude.{ℕ, ◌-◌, ◌==◌, nat_le, nat_lt, ◌||◌, if◌then◌else◌, List, [], ◌∷◌, Option, Some, None, option_map}
 use Rattle.scm_render.specs.Hits.{first_of_two}
 use Rattle.scm_types.specs.declared.keys.SectionKey.{SectionKey}
 use Rattle.scm_types.specs.declared.keys.LineKey.{LineKey}
@@ -10,8 +9,6 @@ use Rattle.scm_widgets.specs.declared.ids.ComponentId.{ComponentId}
 use Rattle.scm_widgets.specs.declared.ids.ComponentId.TheVariants as ids
 use Rattle.scm_document.specs.declared.index_pieces.FilePiece.{FilePiece}
 use Rattle.scm_document.specs.declared.index_pieces.SectionPiece.{SectionPiece}
-use Rattle.scm_document.specs.declared.index_pieces.Piece.{Piece}
-use Rattle.scm_document.specs.declared.index_pieces.Piece.TheVariants.{File, Section}
 use Rattle.scm_document.specs.declared.index_pieces.RowKinds.{RowKinds}
 use Rattle.scm_document.specs.declared.index_pieces.RowKinds.TheVariants.{Changed, Mark, Context}
 use Rattle.scm_document.specs.Rows.{file_id, section_id, line_id}
@@ -73,18 +70,3 @@ files_owner w (f ∷ fs) o y x = if is_from f.top f.end y then file_owner w f o 
 -- the owner of row y and column x among files and their sections, if any
 abbrev pub rows_owner : ℕ → List FilePiece → List SectionPiece → ℕ → ℕ → Option ComponentId
 rows_owner w fs ss y x = files_owner w fs (sections_owner w ss y x) y x
-
--- ---- the pieces near the screen
-
--- whether rows first..last and rows top..end overlap
-abbrev pub meets : ℕ → ℕ → ℕ → ℕ → Bool
-meets first last top end = nat_lt top last && nat_lt first end
-
--- whether a piece has one of the rows first..last
-abbrev pub is_near : ℕ → ℕ → Piece → Bool
-is_near first last (File f) = meets first last f.top f.end
-is_near first last (Section s) = meets first last s.top s.end
-
--- the pieces that have one of the rows first..last
-abbrev pub near : ℕ → ℕ → List Piece → List Piece
-near first last ps = filter (is_near first last) ps

@@ -93,6 +93,11 @@ abbrev pub piece_places : Piece → List Place
 piece_places (File f) = record { key = selection.File f.key; top = f.top; rows = f.end - f.top } ∷ []
 piece_places (Section s) = section_places s
 
+-- the first row of a key's place, and how many rows it has; it may have none
+abbrev pub found_in : SelectionKey → List Place → Option (ℕ × ℕ)
+found_in key [] = None
+found_in key (p ∷ ps) = if is_key key p.key then Some (p.top, p.rows) else found_in key ps
+
 -- ---- the row of a key
 
 -- the row of line x, if lines i..i + n start on row `row`

@@ -1,18 +1,18 @@
 //! The pieces of an index: files and sections with their row ranges, as plain data, and hit tests
 //! among them.
-ghost use Rattle.std.specs.Prelude.{◌≡◌, ◌<◌, ◌^◌, ◌+◌, ◌-◌, ◌++◌, ◌||◌, nat_le, if◌then◌else◌, Some, None, OnOk, IfOk};
+ghost use Rattle.std.specs.Prelude.{◌≡◌, ◌<◌, ◌^◌, ◌+◌, ◌-◌, ◌++◌, ◌||◌, nat_le, if◌then◌else◌, Some, None, OnOk};
 ghost use Rattle.scm_document.specs.HeaderRects.{header_rects, pinned_rects};
 ghost use Rattle.scm_render.specs.Hits.{first_of_two};
 ghost use Rattle.scm_document.specs.Rows.{line_id as id_of_line, section_id};
 ghost use Rattle.scm_types.specs.Keys.{line_key_of};
 ghost use Rattle.scm_widgets.specs.Layers.{is_among as among};
-ghost use Rattle.scm_document.specs.PieceOwners.{box_owner, context_line, file_owner, files_owner, header_owner, is_near, line_owner, near, part_owner, rows_owner, section_owner, sections_owner};
+ghost use Rattle.scm_document.specs.PieceOwners.{box_owner, context_line, file_owner, files_owner, header_owner, line_owner, part_owner, rows_owner, section_owner, sections_owner};
 ghost use Rattle.scm_document.specs.Pieces.{files_of, sections_of};
 
 use scm_types::{FileKey, LineKey, SectionKey, SelectionKey};
 use scm_widgets::ids::ComponentId;
 use scm_widgets::overlay_rects::{OverlayRect, is_from, row_overlay_rect};
-use std::alloc::{AllocError, Global};
+use std::alloc::AllocError;
 
 /// The kinds of a section's rows.
 #[derive(Clone, Copy)]
@@ -279,39 +279,6 @@ pub fn rows_owner(width: usize, pieces: &[Piece], row: usize, column: usize) -> 
 {
     let owner = sections_owner(width, pieces, row, column);
     files_owner(width, pieces, owner, row, column)
-}
-
-impl Piece {
-    /// Returns whether the piece has one of the rows `first..last`.
-    fn is_near(&self, first: usize, last: usize) -> bool
-        ensures { result ≡ is_near first last self.now }
-    {
-        match self {
-            Piece::File(file) => file.top < last && first < file.end,
-            Piece::Section(section) => section.top < last && first < section.end,
-        }
-    }
-}
-
-/// Returns those of `pieces` that have one of the rows `first..last`.
-///
-/// # Errors
-/// `AllocError`: an allocation failed.
-pub fn pieces_near(
-    alloc: Global,
-    pieces: &[Piece],
-    first: usize,
-    last: usize,
-) -> Result<Vec<Piece>, AllocError>
-    ensures ok { IfOk result (λ list. list.items ≡ near first last pieces.now) }
-{
-    let mut near = Vec::new(alloc);
-    for piece in pieces {
-        if piece.is_near(first, last) {
-            near.push(*piece)?;
-        }
-    }
-    Ok(near)
 }
 
 /// Adds the overlay rectangles of the header of file `key` on `row`.

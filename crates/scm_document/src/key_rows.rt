@@ -1,10 +1,8 @@
 //! The rows of a key among the pieces of an index.
 ghost use Rattle.std.specs.Prelude.{◌≡◌, ◌≤◌, ◌<◌, ◌+◌, ◌-◌, ◌^◌, ◌==◌, if◌then◌else◌, Some, None};
-ghost use Rattle.std.specs.List.{flat_map, list_any};
-ghost use Rattle.scm_types.specs.Keys.{is_key};
-ghost use Rattle.scm_document.specs.Places.{Place};
+ghost use Rattle.std.specs.List.{flat_map};
 ghost use Rattle.scm_document.specs.DocumentRows.{rows_of_key};
-ghost use Rattle.scm_document.specs.Pieces.{first_at_end, key_row, line_row, lines_at_end, lines_on_top, piece_places, run_row, section_places};
+ghost use Rattle.scm_document.specs.Pieces.{first_at_end, found_in, key_row, line_row, lines_at_end, lines_on_top, piece_places, run_row, section_places};
 
 use crate::index_pieces::{Piece, RowKinds, SectionPiece};
 use scm_types::keys::is_key;
@@ -22,11 +20,11 @@ fn run_row(row: usize, first: usize, count: usize, index: usize) -> Option<usize
     }
 }
 
-/// Returns `rows` rows from row `top` on, or `None` if there are none.
-fn some_rows(top: usize, rows: usize) -> Option<(usize, usize)>
-    ensures { result ≡ (if rows == 0 then None else Some (top, rows)) }
+/// Returns `rows`, a first row and a number of rows, or `None` if that number is 0.
+fn some_rows(rows: (usize, usize)) -> Option<(usize, usize)>
+    ensures { result ≡ (if rows.1 == 0 then None else Some rows) }
 {
-    if rows == 0 { None } else { Some((top, rows)) }
+    if rows.1 == 0 { None } else { Some(rows) }
 }
 
 impl RowKinds {
@@ -108,22 +106,13 @@ impl SectionPiece {
         }
     }
 
-    /// Returns whether `key` is the section's key or that of a line that has a row.
-    fn has(&self, key: SelectionKey) -> bool
-        ensures { result ≡ list_any (λ (p : Place). is_key key p.key) (section_places self.now) }
-    {
-        let is_own = is_key(key, SelectionKey::Section(self.key));
-        let is_line = self.key_row(key).is_some();
-        // `|`: one branch for the prover
-        is_own | is_line
-    }
-
-    /// Returns the first row of `key` and how many rows it has, if the piece has rows of it.
+    /// Returns the first row of `key` and how many rows it has, if it is the section's key or that of a
+    /// line that has a row.
     fn find(&self, key: SelectionKey) -> Option<(usize, usize)>
-        ensures { result ≡ rows_of_key key (section_places self.now) }
+        ensures { result ≡ found_in key (section_places self.now) }
     {
         if is_key(key, SelectionKey::Section(self.key)) {
-            some_rows(self.top, self.end.saturating_sub(self.top))
+            Some((self.top, self.end.saturating_sub(self.top)))
         } else {
             match self.key_row(key) {
                 Some(row) => Some((row, 1)),
@@ -134,24 +123,15 @@ impl SectionPiece {
 }
 
 impl Piece {
-    /// Returns whether `key` is that of the file, of the section or of one of its lines.
-    fn has(&self, key: SelectionKey) -> bool
-        ensures { result ≡ list_any (λ (p : Place). is_key key p.key) (piece_places self.now) }
-    {
-        match self {
-            Piece::File(file) => is_key(key, SelectionKey::File(file.key)),
-            Piece::Section(section) => section.has(key),
-        }
-    }
-
-    /// Returns the first row of `key` and how many rows it has, if the piece has rows of it.
+    /// Returns the first row of `key` and how many rows it has, if it is that of the file, of the section
+    /// or of a line of it that has a row.
     fn find(&self, key: SelectionKey) -> Option<(usize, usize)>
-        ensures { result ≡ rows_of_key key (piece_places self.now) }
+        ensures { result ≡ found_in key (piece_places self.now) }
     {
         match self {
             Piece::File(file) => {
                 if is_key(key, SelectionKey::File(file.key)) {
-                    some_rows(file.top, file.end.saturating_sub(file.top))
+                    Some((file.top, file.end.saturating_sub(file.top)))
                 } else {
                     None
                 }
@@ -166,8 +146,9 @@ pub fn find_in(pieces: &[Piece], key: SelectionKey) -> Option<(usize, usize)>
     ensures { result ≡ rows_of_key key (flat_map piece_places pieces.now) }
 {
     for piece in pieces {
-        if piece.has(key) {
-            return piece.find(key);
+        match piece.find(key) {
+            Some(rows) => return some_rows(rows),
+            None => {}
         }
     }
     None

@@ -8,6 +8,7 @@ use Rattle.scm_types.specs.Marks.{is_editable_section}
 use Rattle.scm_rows.specs.Lines.{is_changed}
 use Rattle.scm_rows.specs.Context.{place}
 use Rattle.scm_rows.specs.Heights.{height_of, shape_of}
+use Rattle.scm_rows.proofs.HeightLemmas.{one-le}
 use Rattle.scm_layout.specs.Rows.{fold_count, folded_count, is_expanded, is_first_open, is_open, rows_at, sections_height, sections_rows, visible_height}
 use Rattle.scm_layout.specs.Refolds.{folded_after, is_open_above, last_end}
 
@@ -99,11 +100,9 @@ module _ (ks ls : List SelectionKey) (k : FileKey) where
     after-cases : (changed old new : Bool) (before after : ℕ) → new ≡ not old
         → after + (if changed && not old then 1 else 0) ≡ before + (if changed && not new then 1 else 0)
         → after ≡ (if changed then (if new then before - 1 else before + 1) else before)
-    after-cases false old new before after flip e = omega arith
     after-cases true true true before after flip e = absurd cc
-    after-cases true true false before after flip e = omega arith
-    after-cases true false true before after flip e = omega arith
     after-cases true false false before after flip e = absurd cc
+    after-cases _ _ _ before after flip e = omega arith
 
     -- the number of folded sections steps by one
     pub folds-after : (ss : List Section) (s : Section) → j < length ss → s ≡ get_or ss j s → is_expanded ks k j ≡ not (is_expanded ls k j)
@@ -115,7 +114,3 @@ pub folds-le : (ks : List SelectionKey) (k : FileKey) (i : ℕ) (ss : List Secti
 unfolding folded_count
 folds-le ks k i [] = omega arith
 folds-le ks k i (s ∷ ss) = omega (arith, one-le (is_changed s && not (is_expanded ks k i)), folds-le ks k (suc i) ss)
-  where
-    one-le : (b : Bool) → (if b then 1 else 0) ≤ 1
-    one-le true = omega arith
-    one-le false = omega arith

@@ -1,6 +1,6 @@
 -- A toggle changes marks alone: without their marks, the files before and after it are the same.
 use Rattle.std.proofs.Common.{◌≡◌, ℕ, Bool, true, false, not, List, [], ◌∷◌, ◌&&◌, ◌+◌, map, slice_get, Option, Some, None, cond, sym, ap, ◌∙◌, refl}
-use Rattle.std.specs.Prelude.{option_and_then, count_by}
+use Rattle.std.specs.Prelude.{option_and_then, count_by, sum_by}
 use Rattle.scm_types.specs.declared.file_mode.FileMode.{FileMode}
 use Rattle.scm_types.specs.declared.section.Section.{Section}
 use Rattle.scm_types.specs.declared.section.Section.TheVariants as sections
@@ -40,36 +40,26 @@ abbrev pub bare_file : File → File
 bare_file = file_with_marks (λ _. false)
 
 marks-hidden : (f : Bool → Bool) (s : Section) → bare_section (section_with_marks f s) ≡ bare_section s
-marks-hidden f (sections.Unchanged lines) = refl
 marks-hidden f (sections.Changed lines) =
     ap sections.Changed (map-hidden (line_with_mark (λ _. false)) (line_with_mark f) (λ l. refl) lines)
-marks-hidden f (sections.FileMode is_checked mode) = refl
-marks-hidden f (sections.Binary is_checked old new) = refl
+marks-hidden f _ = refl
 
 changed-hidden : (checked : Bool) (s : Section) → bare_section (with_changed_set checked s) ≡ bare_section s
-changed-hidden checked (sections.Unchanged lines) = refl
 changed-hidden checked (sections.Changed lines) = marks-hidden (λ _. checked) (sections.Changed lines)
-changed-hidden checked (sections.FileMode is_checked mode) = refl
-changed-hidden checked (sections.Binary is_checked old new) = refl
+changed-hidden checked _ = refl
 
-deletion-hidden : (s : Section) → bare_section (with_deletion_unchecked s) ≡ bare_section s
+pub deletion-hidden : (s : Section) → bare_section (with_deletion_unchecked s) ≡ bare_section s
 deletion-hidden (sections.Unchanged lines) = refl
-deletion-hidden (sections.Changed lines) = refl
-deletion-hidden (sections.FileMode is_checked mode) = refl
-deletion-hidden (sections.Binary is_checked old new) = refl
+deletion-hidden _ = refl
 
-mode-hidden : (s : Section) → bare_section (with_mode_checked s) ≡ bare_section s
+pub mode-hidden : (s : Section) → bare_section (with_mode_checked s) ≡ bare_section s
 mode-hidden (sections.Unchanged lines) = refl
-mode-hidden (sections.Changed lines) = refl
-mode-hidden (sections.FileMode is_checked mode) = refl
-mode-hidden (sections.Binary is_checked old new) = refl
+mode-hidden _ = refl
 
 pub line-hidden : (line : ℕ) (s : Section) → bare_section (with_line_inverted line s) ≡ bare_section s
-line-hidden line (sections.Unchanged lines) = refl
 line-hidden line (sections.Changed lines) =
     ap sections.Changed (map-modify-same (line_with_mark (λ _. false)) (line_with_mark not) lines line (λ l. refl))
-line-hidden line (sections.FileMode is_checked mode) = refl
-line-hidden line (sections.Binary is_checked old new) = refl
+line-hidden line _ = refl
 
 pub after_lines-hidden : (mode : FileMode) (checked : Bool) (list : List Section) → bare (after_lines mode checked list) ≡ bare list
 after_lines-hidden mode false list = map-hidden bare_section with_deletion_unchecked deletion-hidden list
@@ -83,10 +73,9 @@ after_mode-hidden mode new_mode false list =
     cond-hidden bare (is_absent mode) (map (section_with_marks (λ _. false)) list) list list (map-hidden bare_section (section_with_marks (λ _. false)) (marks-hidden (λ _. false)) list) refl
 
 after_section-hidden : (mode : FileMode) (checked : Bool) (s : Section) (list : List Section) → bare (after_section mode checked s list) ≡ bare list
-after_section-hidden mode checked (sections.Unchanged lines) list = refl
 after_section-hidden mode checked (sections.Changed lines) list = after_lines-hidden mode checked list
 after_section-hidden mode checked (sections.FileMode is_checked new_mode) list = after_mode-hidden mode new_mode checked list
-after_section-hidden mode checked (sections.Binary is_checked old new) list = refl
+after_section-hidden mode checked _ list = refl
 
 pub file-hidden : (file : File) → bare_file (with_file_toggled file) ≡ bare_file file
 file-hidden file =
@@ -151,43 +140,36 @@ inverted-hidden files =
 
 -- ---- what sections have in common that are the same without their marks
 
-count-mapped : {A : Type 0} (p : A → Bool) (v : A → A) → ((x : A) → p (v x) ≡ p x) → (xs : List A) → count_by p (map v xs) ≡ count_by p xs
-count-mapped p v same [] = refl
-count-mapped p v same (x ∷ xs) =
-    sum_by-cons (λ y. cond (p y) 1 0) (v x) (map v xs)
-    ∙ ap (λ b. cond b 1 0 + count_by p (map v xs)) (same x)
-    ∙ ap (λ n. cond (p x) 1 0 + n) (count-mapped p v same xs)
-    ∙ sym (sum_by-cons (λ y. cond (p y) 1 0) x xs)
+pub sum-mapped : {A : Type 0} (n : A → ℕ) (v : A → A) → ((x : A) → n (v x) ≡ n x) → (xs : List A) → sum_by n (map v xs) ≡ sum_by n xs
+sum-mapped n v same [] = refl
+sum-mapped n v same (x ∷ xs) =
+    sum_by-cons n (v x) (map v xs)
+    ∙ ap (λ m. m + sum_by n (map v xs)) (same x)
+    ∙ ap (λ m. n x + m) (sum-mapped n v same xs)
+    ∙ sym (sum_by-cons n x xs)
 
-items-bare : (s : Section) → items_in (bare_section s) ≡ items_in s
-items-bare (sections.Unchanged lines) = refl
+count-mapped : {A : Type 0} (p : A → Bool) (v : A → A) → ((x : A) → p (v x) ≡ p x) → (xs : List A) → count_by p (map v xs) ≡ count_by p xs
+count-mapped p v same xs = sum-mapped (λ y. cond (p y) 1 0) v (λ x. ap (λ b. cond b 1 0) (same x)) xs
+
+pub items-bare : (s : Section) → items_in (bare_section s) ≡ items_in s
 items-bare (sections.Changed lines) = simp length-map refl
-items-bare (sections.FileMode is_checked mode) = refl
-items-bare (sections.Binary is_checked old new) = refl
+items-bare _ = refl
 
 old_lines-bare : (s : Section) → old_lines (bare_section s) ≡ old_lines s
-old_lines-bare (sections.Unchanged lines) = refl
 old_lines-bare (sections.Changed lines) = count-mapped is_removed (line_with_mark (λ _. false)) (λ l. refl) lines
-old_lines-bare (sections.FileMode is_checked mode) = refl
-old_lines-bare (sections.Binary is_checked old new) = refl
+old_lines-bare _ = refl
 
-size-bare : (s : Section) → section_size (bare_section s) ≡ section_size s
-size-bare (sections.Unchanged lines) = refl
+pub size-bare : (s : Section) → section_size (bare_section s) ≡ section_size s
 size-bare (sections.Changed lines) = length-map lines (line_with_mark (λ _. false))
-size-bare (sections.FileMode is_checked mode) = refl
-size-bare (sections.Binary is_checked old new) = refl
+size-bare _ = refl
 
-editable-bare : (s : Section) → is_editable_section (bare_section s) ≡ is_editable_section s
+pub editable-bare : (s : Section) → is_editable_section (bare_section s) ≡ is_editable_section s
 editable-bare (sections.Unchanged lines) = refl
-editable-bare (sections.Changed lines) = refl
-editable-bare (sections.FileMode is_checked mode) = refl
-editable-bare (sections.Binary is_checked old new) = refl
+editable-bare _ = refl
 
 mode-bare : (s : Section) → is_mode (bare_section s) ≡ is_mode s
 mode-bare (sections.Unchanged lines) = refl
-mode-bare (sections.Changed lines) = refl
-mode-bare (sections.FileMode is_checked mode) = refl
-mode-bare (sections.Binary is_checked old new) = refl
+mode-bare _ = refl
 
 module _ (ss ts : List Section) (e : bare ss ≡ bare ts) where
   count-same : (p : Section → Bool) → ((s : Section) → p (bare_section s) ≡ p s) → count_by p ss ≡ count_by p ts
@@ -205,9 +187,6 @@ module _ (s t : Section) (e : bare_section s ≡ bare_section t) where
 
   pub old_lines-same : old_lines s ≡ old_lines t
   old_lines-same = sym (old_lines-bare s) ∙ ap (λ u. old_lines u) e ∙ old_lines-bare t
-
-  pub size-same : section_size s ≡ section_size t
-  size-same = sym (size-bare s) ∙ ap (λ u. section_size u) e ∙ size-bare t
 
   pub editable-same : is_editable_section s ≡ is_editable_section t
   editable-same = sym (editable-bare s) ∙ ap (λ u. is_editable_section u) e ∙ editable-bare t

@@ -8,33 +8,26 @@ use Rattle.scm_types.specs.declared.file.File.{File}
 use Rattle.scm_types.specs.declared.file_mode.FileMode.{FileMode as Mode}
 use Rattle.scm_types.specs.declared.line.SectionChangedLine.{SectionChangedLine}
 use Rattle.scm_types.specs.declared.section.Section.{Section}
-use Rattle.scm_types.specs.declared.section.Section.TheVariants.{Unchanged, Changed, FileMode, Binary}
+use Rattle.scm_types.specs.declared.section.Section.TheVariants.{Changed, FileMode, Binary}
 use Rattle.scm_types.specs.Edits.{modify}
 use Rattle.scm_types.specs.Limits.{file_size, max_items, section_size}
 use Rattle.scm_types.specs.Marks.{checked_count, file_marks, is_editable_section, line_with_mark, section_marks}
 use Rattle.scm_types.specs.Mode.{is_absent}
 use Rattle.scm_types.specs.Repair.{with_deletion_unchecked, with_mode_checked}
 use Rattle.scm_types.proofs.EditLemmas.{map-modify-same}
-use Rattle.scm_selection.specs.Toggle.{after_lines, line_mark, with_line_inverted, with_line_toggled}
+use Rattle.scm_selection.specs.Toggle.{after_lines, line_mark, with_line_alone_inverted, with_line_inverted, with_line_toggled}
 use Rattle.scm_rows.specs.Lines.{is_removed, old_lines}
 use Rattle.scm_layout.specs.declared.section_counts.SectionCounts.{SectionCounts}
 use Rattle.scm_layout.specs.declared.file_counts.FileCounts.{FileCounts}
 use Rattle.scm_layout.specs.Counts.{checked_in, editable_after, file_counts, items_in, modes_in, section_counts, sections_counts}
 use Rattle.scm_layout.specs.Recounts.{AreCountsButLine, AreCountsButMarks, checked_after_mark, may_follow, recounted, remarked, stepped, total_checked, total_items, with_file_line_counted, with_line_counted, with_sections, zipped}
-use Rattle.scm_layout.proofs.BareLemmas.{after_lines-hidden, bare, bare_file, bare_section, editable-same, editables-same, items-same, line-hidden, modes-same, old_lines-same, size-same}
+use Rattle.scm_layout.proofs.BareLemmas.{after_lines-hidden, bare, bare_file, bare_section, editable-same, editables-same, items-bare, items-same, line-hidden, modes-same, old_lines-same, size-bare, sum-mapped, deletion-hidden, mode-hidden}
 use Rattle.scm_layout.proofs.ModeLemmas.{after_lines-kept}
 
 -- ---- the items of a section
 
 pub items_of_lines : (lines : List SectionChangedLine) → length (map (λ (l : SectionChangedLine). l.is_checked) lines) ≡ length lines
 items_of_lines lines = length-map lines (λ (l : SectionChangedLine). l.is_checked)
-
-pub checked_of_lines : (lines : List SectionChangedLine) → checked_count (map (λ (l : SectionChangedLine). l.is_checked) lines) ≡ count_by (λ (l : SectionChangedLine). l.is_checked) lines
-checked_of_lines [] = refl
-checked_of_lines (l ∷ ls) =
-    sum_by-cons (λ b. cond b 1 0) l.is_checked (map (λ (m : SectionChangedLine). m.is_checked) ls)
-    ∙ ap (λ n. cond l.is_checked 1 0 + n) (checked_of_lines ls)
-    ∙ sym (sum_by-cons (λ (m : SectionChangedLine). cond m.is_checked 1 0) l ls)
 
 pub checked_of_mark : (b : Bool) → (if b then 1 else 0) ≡ checked_count (b ∷ [])
 checked_of_mark true = refl
@@ -58,20 +51,14 @@ pub sections_counts-end : (editable lines i : ℕ) (sections : List Section) →
 unfolding sections_counts
 sections_counts-end editable lines i sections h = rw (drop_all i sections h) refl
 
-pub pushed : {A : Type 0} (made : List A) (next : A) (left : List A) → (made ++ next ∷ []) ++ left ≡ made ++ (next ∷ left)
-pushed [] next left = refl
-pushed (x ∷ xs) next left = ap (λ ys. x ∷ ys) (pushed xs next left)
-
 pub old_lines-more : (i : ℕ) (sections : List Section) (d : Section) → i < length sections → sum_by old_lines (drop i sections) ≡ old_lines (get_or sections i d) + sum_by old_lines (drop (i + 1) sections)
 old_lines-more i sections d h =
     let more : drop i sections ≡ get_or sections i d ∷ drop (i + 1) sections = rw add-one (drop-cons sections i d h) in
     rw more (sum_by-cons old_lines (get_or sections i d) (drop (i + 1) sections))
 
 old_lines-le : (section : Section) → old_lines section ≤ section_size section
-old_lines-le (Unchanged lines) = omega arith
 old_lines-le (Changed lines) = count_by-le-length is_removed lines
-old_lines-le (FileMode checked mode) = omega arith
-old_lines-le (Binary checked old new) = omega arith
+old_lines-le _ = omega arith
 
 pub old_lines-fit : (sections : List Section) → sum_by old_lines sections ≤ sum_by section_size sections
 old_lines-fit [] = omega arith
@@ -103,10 +90,8 @@ total_items-marks editable lines (s ∷ ss) =
     ∙ sym (length-append (section_marks s) (marks ss))
 
 items-le : (s : Section) → items_in s ≤ 1 + section_size s
-items-le (Unchanged lines) = omega arith
 items-le (Changed lines) = omega (arith, items_of_lines lines)
-items-le (FileMode checked mode) = omega arith
-items-le (Binary checked old new) = omega arith
+items-le _ = omega arith
 
 marks-le : (ss : List Section) → length (marks ss) ≤ length ss + sum_by section_size ss
 marks-le [] = omega arith
@@ -124,9 +109,6 @@ old_lines-fit_file file = omega (arith, old_lines-fit file.sections)
 
 -- ---- what files have in common that are the same without their marks
 
-length-same : (ss ts : List Section) → bare ss ≡ bare ts → length ss ≡ length ts
-length-same ss ts e = sym (length-map ss bare_section) ∙ ap (λ us. length us) e ∙ length-map ts bare_section
-
 pub head-same : {A B : Type 0} (f : A → B) (x y : A) (xs ys : List A) → map f (x ∷ xs) ≡ map f (y ∷ ys) → f x ≡ f y
 head-same f x y xs ys e = cc
 
@@ -136,37 +118,31 @@ tail-same f x y xs ys e = cc
 pub none-same : {A B : Type 0} {C : Type 0} (f : A → B) (x : A) (xs : List A) → map f [] ≡ map f (x ∷ xs) → C
 none-same f x xs e = absurd cc
 
-lengths-same : (ss ts : List Section) → bare ss ≡ bare ts → length (marks ss) ≡ length (marks ts)
-lengths-same [] [] e = refl
-lengths-same [] (t ∷ ts) e = none-same bare_section t ts e
-lengths-same (s ∷ ss) [] e = none-same bare_section s ss (sym e)
-lengths-same (s ∷ ss) (t ∷ ts) e =
-    length-append (section_marks s) (marks ss)
-    ∙ ap (λ n. n + length (marks ss)) (items-same s t (head-same bare_section s t ss ts e))
-    ∙ ap (λ n. items_in t + n) (lengths-same ss ts (tail-same bare_section s t ss ts e))
-    ∙ sym (length-append (section_marks t) (marks ts))
+lengths-bare : (ss : List Section) → length (marks (bare ss)) ≡ length (marks ss)
+lengths-bare [] = refl
+lengths-bare (s ∷ ss) =
+    length-append (section_marks (bare_section s)) (marks (bare ss))
+    ∙ ap (λ n. n + length (marks (bare ss))) (items-bare s)
+    ∙ ap (λ n. items_in s + n) (lengths-bare ss)
+    ∙ sym (length-append (section_marks s) (marks ss))
 
-sizes-same : (ss ts : List Section) → bare ss ≡ bare ts → sum_by section_size ss ≡ sum_by section_size ts
-sizes-same [] [] e = refl
-sizes-same [] (t ∷ ts) e = none-same bare_section t ts e
-sizes-same (s ∷ ss) [] e = none-same bare_section s ss (sym e)
-sizes-same (s ∷ ss) (t ∷ ts) e =
-    sum_by-cons section_size s ss
-    ∙ ap (λ n. n + sum_by section_size ss) (size-same s t (head-same bare_section s t ss ts e))
-    ∙ ap (λ n. section_size t + n) (sizes-same ss ts (tail-same bare_section s t ss ts e))
-    ∙ sym (sum_by-cons section_size t ts)
+lengths-same : (ss ts : List Section) → bare ss ≡ bare ts → length (marks ss) ≡ length (marks ts)
+lengths-same ss ts e = sym (lengths-bare ss) ∙ ap (λ us. length (marks us)) e ∙ lengths-bare ts
 
 -- the sections of files that are the same without their marks
 pub sections-same : (f g : File) → bare_file f ≡ bare_file g → bare f.sections ≡ bare g.sections
 sections-same f g e = ap (λ (h : File). h.sections) e
 
 pub file_length-same : (f g : File) → bare_file f ≡ bare_file g → length f.sections ≡ length g.sections
-file_length-same f g e = length-same f.sections g.sections (sections-same f g e)
+file_length-same f g e = sym (length-map f.sections bare_section) ∙ ap (λ (h : File). length h.sections) e ∙ length-map g.sections bare_section
 
-pub file_size-same : (f g : File) → bare_file f ≡ bare_file g → file_size f ≡ file_size g
-file_size-same f g e =
-    ap (λ n. n + sum_by section_size f.sections) (file_length-same f g e)
-    ∙ ap (λ n. length g.sections + n) (sizes-same f.sections g.sections (sections-same f g e))
+pub file_size-bare : (f : File) → file_size (bare_file f) ≡ file_size f
+file_size-bare f =
+    ap (λ n. n + sum_by section_size (bare f.sections)) (length-map f.sections bare_section)
+    ∙ ap (λ n. length f.sections + n) (sum-mapped section_size bare_section size-bare f.sections)
+
+file_size-same : (f g : File) → bare_file f ≡ bare_file g → file_size f ≡ file_size g
+file_size-same f g e = sym (file_size-bare f) ∙ ap (λ (h : File). file_size h) e ∙ file_size-bare g
 
 pub length-sections_counts : (editable lines : ℕ) (ss : List Section) → length (sections_counts editable lines ss) ≡ length ss
 unfolding sections_counts
@@ -267,10 +243,9 @@ stepped-is true n m h = h
 stepped-is false n m h = omega arith
 
 steps-mark : (checked b : Bool) (n : ℕ) → b ≡ not checked → Steps checked (cond b 1 0 + n) (cond (not b) 1 0 + n)
-steps-mark true true n h = absurd cc
 steps-mark true false n h = omega arith
 steps-mark false true n h = omega arith
-steps-mark false false n h = absurd cc
+steps-mark _ _ n h = absurd cc
 
 -- the marks of changed lines
 abbrev line_marks : List SectionChangedLine → List Bool
@@ -297,10 +272,8 @@ lines-step checked (l ∷ ls) (suc line) h =
     (steps-below checked (cond l.is_checked 1 0) _ _ (lines-step checked ls line h))
 
 section-step : (checked : Bool) (s : Section) (line : ℕ) → line_mark line s ≡ Some (not checked) → Steps checked (checked_in s) (checked_in (with_line_inverted line s))
-section-step checked (Unchanged lines) line h = no_mark (not checked) h
 section-step checked (Changed lines) line h = lines-step checked lines line h
-section-step checked (FileMode is_checked mode) line h = no_mark (not checked) h
-section-step checked (Binary is_checked old new) line h = no_mark (not checked) h
+section-step checked _ line h = no_mark (not checked) h
 
 -- the mark of a line of a file's sections
 abbrev mark_at : ℕ → ℕ → List Section → Option Bool
@@ -329,15 +302,11 @@ sections-line checked editable lines (s ∷ ss) zero line h =
 sections-line checked editable lines (s ∷ ss) (suc section) line h =
     ap (λ cs. section_counts editable lines s ∷ cs) (sections-line checked (editable_after editable s) (lines + old_lines s) ss section line h)
 
--- the file with a line inverted, without the marks that follow
-abbrev with_this_line : ℕ → ℕ → File → File
-with_this_line section line f = record f { sections = modify (with_line_inverted line) f.sections section }
-
 this_line-hidden : (section line : ℕ) (ss : List Section) → bare (modify (with_line_inverted line) ss section) ≡ bare ss
 this_line-hidden section line ss = map-modify-same bare_section (with_line_inverted line) ss section (line-hidden line)
 
 line-counted : (checked : Bool) (section line : ℕ) (f : File) → mark_at section line f.sections ≡ Some (not checked)
-    → with_file_line_counted checked section (file_counts f) ≡ file_counts (with_this_line section line f)
+    → with_file_line_counted checked section (file_counts f) ≡ file_counts (with_line_alone_inverted section line f)
 line-counted checked section line f h =
     let ss = f.sections in
     let ts = modify (with_line_inverted line) ss section in
@@ -364,10 +333,9 @@ zipped-remarked change hidden marked editable lines (s ∷ ss) =
     ∙ ap (λ cs. section_counts editable lines t ∷ cs) (sym (after-same editable lines t s (map change ss) (hidden s)))
 
 unchanged-marked : (s : Section) → checked_after_mark (checked_in s) s ≡ checked_in s
-unchanged-marked (Unchanged lines) = refl
-unchanged-marked (Changed lines) = refl
 unchanged-marked (FileMode is_checked mode) = checked_of_mark is_checked
 unchanged-marked (Binary is_checked old new) = checked_of_mark is_checked
+unchanged-marked _ = refl
 
 remarked-same : (editable lines : ℕ) (ss : List Section) → zipped remarked (sections_counts editable lines ss) ss ≡ sections_counts editable lines ss
 unfolding sections_counts
@@ -376,29 +344,15 @@ remarked-same editable lines (s ∷ ss) =
     ap (λ n. counts_with (items_in s) n editable lines ∷ zipped remarked (sections_counts (editable_after editable s) (lines + old_lines s) ss) ss) (unchanged-marked s)
     ∙ ap (λ cs. section_counts editable lines s ∷ cs) (remarked-same (editable_after editable s) (lines + old_lines s) ss)
 
-deletion-hidden : (s : Section) → bare_section (with_deletion_unchecked s) ≡ bare_section s
-deletion-hidden (Unchanged lines) = refl
-deletion-hidden (Changed lines) = refl
-deletion-hidden (FileMode is_checked mode) = refl
-deletion-hidden (Binary is_checked old new) = refl
-
 deletion-marked : (s : Section) → checked_after_mark (checked_in s) (with_deletion_unchecked s) ≡ checked_in (with_deletion_unchecked s)
-deletion-marked (Unchanged lines) = refl
-deletion-marked (Changed lines) = refl
 deletion-marked (FileMode is_checked mode) = checked_of_mark (if is_absent mode then false else is_checked)
 deletion-marked (Binary is_checked old new) = checked_of_mark is_checked
-
-mode-hidden : (s : Section) → bare_section (with_mode_checked s) ≡ bare_section s
-mode-hidden (Unchanged lines) = refl
-mode-hidden (Changed lines) = refl
-mode-hidden (FileMode is_checked mode) = refl
-mode-hidden (Binary is_checked old new) = refl
+deletion-marked _ = refl
 
 mode-marked : (s : Section) → checked_after_mark (checked_in s) (with_mode_checked s) ≡ checked_in (with_mode_checked s)
-mode-marked (Unchanged lines) = refl
-mode-marked (Changed lines) = refl
 mode-marked (FileMode is_checked mode) = checked_of_mark true
 mode-marked (Binary is_checked old new) = checked_of_mark is_checked
+mode-marked _ = refl
 
 creation-remarked : (is_new : Bool) (ss : List Section) → zipped remarked (sections_counts 0 0 ss) (if is_new then map with_mode_checked ss else ss) ≡ sections_counts 0 0 (if is_new then map with_mode_checked ss else ss)
 creation-remarked true ss = zipped-remarked with_mode_checked mode-hidden mode-marked 0 0 ss
@@ -424,14 +378,14 @@ follow-is checked f false e = ap (λ (ss : List Section). file_counts (record f 
 -- ---- a file counted after a line was toggled
 
 toggled-line : (section line : ℕ) (f : File) (checked : Bool) → mark_at section line f.sections ≡ Some (not checked)
-    → with_line_toggled section line f ≡ followed checked (with_this_line section line f)
+    → with_line_toggled section line f ≡ followed checked (with_line_alone_inverted section line f)
 toggled-line section line f true h = rw h refl
 toggled-line section line f false h = rw h refl
 
 module _ (c : FileCounts) (g : File) (section : ℕ) (checked : Bool) (h : AreCountsButLine c g section checked) where
   -- the file with the line inverted, without the marks that follow
   abbrev between : File
-  between = with_this_line section h.line h.before
+  between = with_line_alone_inverted section h.line h.before
 
   after-is : g ≡ followed checked between
   after-is = h.after ∙ toggled-line section h.line h.before checked h.mark

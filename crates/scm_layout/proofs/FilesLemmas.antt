@@ -1,5 +1,5 @@
 -- The counts of the files of a state, after marks of one or of all changed.
-use Rattle.std.proofs.Common.{◌≡◌, ℕ, zero, suc, ◌<◌, ◌≤◌, Bool, true, false, not, List, [], ◌∷◌, length, map, get_or, set, slice_get, Some, None, refl, ap, sym, ◌∙◌, arith}
+use Rattle.std.proofs.Common.{◌≡◌, ℕ, zero, suc, ◌<◌, ◌≤◌, Bool, not, List, [], ◌∷◌, length, map, get_or, set, slice_get, Some, None, refl, ap, sym, ◌∙◌, arith}
 use Rattle.std.specs.Prelude.{sum_by, option_and_then}
 use Rattle.std.proofs.lemmas.List.{length-map}
 use Rattle.std.proofs.lemmas.List.Sums.{sum_by-cons}
@@ -108,7 +108,3 @@ counts-within counts files before change i counted after h =
 -- there was such a file before
 pub before-within : (files before : List File) (change : File → File) (i : ℕ) → files ≡ modify change before i → i < length files → i < length before
 before-within files before change i after h = omega (arith, ap (λ (fs : List File). length fs) after, length-modify change before i)
-
-pub twice : (b : Bool) → not (not b) ≡ b
-twice true = refl
-twice false = refl

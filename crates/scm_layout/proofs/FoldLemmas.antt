@@ -5,15 +5,16 @@ use Rattle.std.specs.declared.cmp.Ordering.{Ordering}
 use Rattle.std.specs.declared.cmp.Ordering.TheVariants.{Less, Equal, Greater}
 use Rattle.std.specs.Ordering.{match_ordering}
 use Rattle.std.proofs.lemmas.List.Sums.{sum_by-cons}
-use Rattle.std.proofs.lemmas.Bool.{and_parts, eqb-true}
+use Rattle.std.proofs.lemmas.Bool.{eqb-true, and_right, and_left, or_right, ne_eqb}
 use Rattle.std.proofs.lemmas.Bool.Decides.{nat_tests}
 use Rattle.scm_types.specs.declared.file.File.{File}
 use Rattle.scm_types.specs.declared.keys.FileKey.{FileKey}
 use Rattle.scm_types.specs.declared.keys.SelectionKey.{SelectionKey}
 use Rattle.scm_types.specs.declared.keys.SelectionKey.TheVariants as keys
-use Rattle.scm_types.specs.Keys.{file_of, has_key, is_key, numbers_of, same_numbers, section_key_of}
+use Rattle.scm_types.specs.Keys.{file_of, has_key, is_key, section_key_of}
 use Rattle.scm_types.specs.Limits.{file_size, max_items}
 use Rattle.scm_selection.specs.KeySet.{key_cmp, with_key, with_key_flipped, without_key}
+use Rattle.scm_selection.proofs.RelationLemmas.{key-same}
 use Rattle.scm_layout.specs.declared.file_rows.FileRows.{FileRows}
 use Rattle.scm_layout.specs.declared.section_rows.SectionRows.{SectionRows}
 use Rattle.scm_layout.specs.Rows.{each_file_rows, file_height, file_key_of, file_rows, folded_count, is_expanded, moved_to, sections_height, sections_rows, stacked}
@@ -28,7 +29,7 @@ pub record AgreeOn (ks ls : List SelectionKey) (k : FileKey) : Type 0 where
   pub sections : (i : ℕ) → is_expanded ks k i ≡ is_expanded ls k i
 
 -- the rows of a file by their numbers
-abbrev rows_with : ℕ → ℕ → List SectionRows → FileRows
+abbrev pub rows_with : ℕ → ℕ → List SectionRows → FileRows
 rows_with height folded sections = record { top = 0; end = height; folded = folded; sections = sections }
 
 file-agree : (ks ls : List SelectionKey) (k : FileKey) (f : File) → AgreeOn ks ls k → file_rows ks k f ≡ file_rows ls k f
@@ -131,14 +132,6 @@ total-set u rs i r = sym (total-stacked 0 (set (stacked u rs) i r)) ∙ ap (λ x
 
 -- ---- a key that is added or removed
 
-same-numbers : (ms ns : List ℕ) → same_numbers ms ns ≡ true → ms ≡ ns
-same-numbers [] [] e = refl
-same-numbers [] (n ∷ ns) e = absurd cc
-same-numbers (m ∷ ms) [] e = absurd cc
-same-numbers (m ∷ ms) (n ∷ ns) e =
-    let parts = and_parts (nat_eq m n) (same_numbers ms ns) e in
-    ap (λ k. k ∷ ms) (eqb-true m n parts.0) ∙ ap (λ ks. n ∷ ks) (same-numbers ms ns parts.1)
-
 pub other-added : (ks : List SelectionKey) (key x : SelectionKey) → is_key x key ≡ false → has_key (with_key ks key) x ≡ has_key ks x
 other-added [] key x e = ap (λ b. b || false) e
 other-added (k ∷ ks) key x e = go (key_cmp key k) (other-added ks key x e)
@@ -154,41 +147,23 @@ other-removed (k ∷ ks) key x e = go (is_key key k) refl (other-removed ks key 
   where
     go : (b : Bool) → is_key key k ≡ b → has_key (without_key ks key) x ≡ has_key ks x → has_key (if b then ks else k ∷ without_key ks key) x ≡ (is_key x k || has_key ks x)
     go true same h =
-        let unlike : is_key x k ≡ false = ap (λ ns. same_numbers (numbers_of x) ns) (sym (same-numbers (numbers_of key) (numbers_of k) same)) ∙ e in
+        let unlike : is_key x k ≡ false = ap (λ (j : SelectionKey). is_key x j) (sym (key-same key k same)) ∙ e in
         sym (ap (λ b. b || has_key ks x) unlike)
     go false same h = ap (λ b. is_key x k || b) h
 
 pub other-flipped : (ks : List SelectionKey) (key x : SelectionKey) → is_key x key ≡ false → has_key (with_key_flipped ks key) x ≡ has_key ks x
-other-flipped ks key x e = go (has_key ks key)
-  where
-    go : (b : Bool) → has_key (if b then without_key ks key else with_key ks key) x ≡ has_key ks x
-    go true = other-removed ks key x e
-    go false = other-added ks key x e
-
-differ : (i j : ℕ) → i ≢ j → nat_eq i j ≡ false
-differ i j h = grind (arith, nat_tests)
+other-flipped ks key x e = elim (has_key ks key) as (λ b. has_key (if b then without_key ks key else with_key ks key) x ≡ has_key ks x) [ true ↦ other-removed ks key x e | false ↦ other-added ks key x e ]
 
 and-second : (a b c : Bool) → b ≡ false → (a && (b && c)) ≡ false
 and-second true b c e = ap (λ d. d && c) e
 and-second false b c e = refl
-
-and-then : (a b : Bool) → b ≡ false → (a && b) ≡ false
-and-then true b e = e
-and-then false b e = refl
-
-and-first : (a b : Bool) → a ≡ false → (a && b) ≡ false
-and-first a b e = ap (λ c. c && b) e
 
 index-is : (here : Bool) (a b : ℕ) → (if here then Some a else None) ≡ Some b → a ≡ b
 index-is true a b e = cc
 index-is false a b e = absurd cc
 
 elsewhere : (a b : ℕ) (index : ℕ) → (if nat_eq a b then Some index else None) ≡ None → nat_eq b a ≡ false
-elsewhere a b index e = go (nat_eq a b) refl e
-  where
-    go : (here : Bool) → nat_eq a b ≡ here → (if here then Some index else None) ≡ None → nat_eq b a ≡ false
-    go true same f = absurd cc
-    go false other f = grind (arith, nat_tests)
+elsewhere a b index e = (elim (nat_eq a b) as (λ here. nat_eq a b ≡ here → (if here then Some index else None) ≡ None → nat_eq b a ≡ false) [ true ↦ (λ same f. absurd cc) | false ↦ (λ other f. grind (arith, nat_tests)) ]) refl e
 
 found-at : (here : Bool) (commit index c i : ℕ) → nat_eq c commit ≡ here → (if here then Some i else None) ≡ Some index → file_key_of c i ≡ file_key_of commit index
 found-at true commit index c i same e =
@@ -201,20 +176,16 @@ found-at false commit index c i other e = absurd cc
 -- a key is not that of another file or section
 module _ (commit i index : ℕ) (h : i ≢ index) where
   other-file : (key : SelectionKey) → file_index commit key ≡ Some index → is_key (keys.File (file_key_of commit i)) key ≡ false
-  other-file keys.None e = refl
   other-file (keys.File key) e =
       let same : key.file_idx ≡ index = index-is (nat_eq key.commit_idx commit) key.file_idx index e in
-      and-second (nat_eq commit key.commit_idx) (nat_eq i key.file_idx) true (differ i key.file_idx (λ d. h (d ∙ same)))
-  other-file (keys.Section key) e = refl
-  other-file (keys.Line key) e = refl
+      and-second (nat_eq commit key.commit_idx) (nat_eq i key.file_idx) true (ne_eqb i key.file_idx (λ d. h (d ∙ same)))
+  other-file _ e = refl
 
   other-section : (j : ℕ) (key : SelectionKey) → file_index commit key ≡ Some index → is_key (keys.Section (section_key_of (file_key_of commit i) j)) key ≡ false
-  other-section j keys.None e = refl
-  other-section j (keys.File key) e = refl
   other-section j (keys.Section key) e =
       let same : key.file_idx ≡ index = index-is (nat_eq key.commit_idx commit) key.file_idx index e in
-      and-second (nat_eq commit key.commit_idx) (nat_eq i key.file_idx) (nat_eq j key.section_idx && true) (differ i key.file_idx (λ d. h (d ∙ same)))
-  other-section j (keys.Line key) e = refl
+      and-second (nat_eq commit key.commit_idx) (nat_eq i key.file_idx) (nat_eq j key.section_idx && true) (ne_eqb i key.file_idx (λ d. h (d ∙ same)))
+  other-section j _ e = refl
 
 -- sets that differ in a key agree on all other files
 differ-but : (ks ls : List SelectionKey) (key : SelectionKey) (commit index : ℕ) → DifferIn ks ls key → file_index commit key ≡ Some index → AgreeBut ks ls commit index
@@ -226,16 +197,12 @@ differ-but ks ls key commit index h at i other = record {
 -- a key that is in no file of the commit is no key of it
 module _ (commit i : ℕ) where
   no-file : (key : SelectionKey) → file_index commit key ≡ None → is_key (keys.File (file_key_of commit i)) key ≡ false
-  no-file keys.None e = refl
-  no-file (keys.File key) e = and-first (nat_eq commit key.commit_idx) (nat_eq i key.file_idx && true) (elsewhere key.commit_idx commit key.file_idx e)
-  no-file (keys.Section key) e = refl
-  no-file (keys.Line key) e = refl
+  no-file (keys.File key) e = and_left (nat_eq commit key.commit_idx) (nat_eq i key.file_idx && true) (elsewhere key.commit_idx commit key.file_idx e)
+  no-file _ e = refl
 
   no-section : (j : ℕ) (key : SelectionKey) → file_index commit key ≡ None → is_key (keys.Section (section_key_of (file_key_of commit i) j)) key ≡ false
-  no-section j keys.None e = refl
-  no-section j (keys.File key) e = refl
-  no-section j (keys.Section key) e = and-first (nat_eq commit key.commit_idx) (nat_eq i key.file_idx && (nat_eq j key.section_idx && true)) (elsewhere key.commit_idx commit key.file_idx e)
-  no-section j (keys.Line key) e = refl
+  no-section j (keys.Section key) e = and_left (nat_eq commit key.commit_idx) (nat_eq i key.file_idx && (nat_eq j key.section_idx && true)) (elsewhere key.commit_idx commit key.file_idx e)
+  no-section j _ e = refl
 
 -- then the sets agree on all files, as on those past the last
 differ-none : (ks ls : List SelectionKey) (key : SelectionKey) (commit : ℕ) → DifferIn ks ls key → file_index commit key ≡ None → (i : ℕ) → AgreeOn ks ls (file_key_of commit i)
@@ -248,38 +215,29 @@ differ-none ks ls key commit h none i = record {
 pub section-others : (ks ls : List SelectionKey) (k : FileKey) (j : ℕ) → DifferIn ks ls (keys.Section (section_key_of k j)) → (m : ℕ) → m ≢ j → is_expanded ks k m ≡ is_expanded ls k m
 section-others ks ls k j h m other =
     h.others (keys.Section (section_key_of k m))
-    (and-then (nat_eq k.commit_idx k.commit_idx) (nat_eq k.file_idx k.file_idx && (nat_eq m j && true))
-    (and-second (nat_eq k.file_idx k.file_idx) (nat_eq m j) true (differ m j other)))
+    (and_right (nat_eq k.commit_idx k.commit_idx) (nat_eq k.file_idx k.file_idx && (nat_eq m j && true))
+    (and-second (nat_eq k.file_idx k.file_idx) (nat_eq m j) true (ne_eqb m j other)))
 
 -- the file of a key
 file-found : (commit index : ℕ) (key : SelectionKey) → file_index commit key ≡ Some index → file_of key ≡ keys.File (file_key_of commit index)
-file-found commit index keys.None e = absurd cc
 file-found commit index (keys.File key) e = ap keys.File (found-at (nat_eq key.commit_idx commit) commit index key.commit_idx key.file_idx refl e)
 file-found commit index (keys.Section key) e = ap keys.File (found-at (nat_eq key.commit_idx commit) commit index key.commit_idx key.file_idx refl e)
-file-found commit index (keys.Line key) e = absurd cc
+file-found commit index _ e = absurd cc
 
 -- ---- a key that is added again
-
-or-right : (a b : Bool) → b ≡ true → (a || b) ≡ true
-or-right true b e = refl
-or-right false b e = e
 
 or-still : (a b c : Bool) → (b ≡ true → c ≡ true) → (a || b) ≡ true → (a || c) ≡ true
 or-still true b c h e = refl
 or-still false b c h e = h e
 
-still-has : (ks : List SelectionKey) (key x : SelectionKey) → has_key ks x ≡ true → has_key (with_key ks key) x ≡ true
+pub still-has : (ks : List SelectionKey) (key x : SelectionKey) → has_key ks x ≡ true → has_key (with_key ks key) x ≡ true
 still-has [] key x e = absurd cc
 still-has (k ∷ ks) key x e = go (key_cmp key k) (still-has ks key x)
   where
     go : (o : Ordering) → (has_key ks x ≡ true → has_key (with_key ks key) x ≡ true) → has_key (match_ordering o (key ∷ k ∷ ks) (k ∷ ks) (k ∷ with_key ks key)) x ≡ true
-    go Less h = or-right (is_key x key) (is_key x k || has_key ks x) e
+    go Less h = or_right (is_key x key) (is_key x k || has_key ks x) e
     go Equal h = e
     go Greater h = or-still (is_key x k) (has_key ks x) (has_key (with_key ks key) x) h e
-
-same-has : (ks : List SelectionKey) (key x : SelectionKey) → numbers_of x ≡ numbers_of key → has_key ks x ≡ has_key ks key
-same-has [] key x e = refl
-same-has (k ∷ ks) key x e = ap (λ ns. same_numbers ns (numbers_of k) || has_key ks x) e ∙ ap (λ b. is_key key k || b) (same-has ks key x e)
 
 -- sets that agree on all other keys agree on all keys if they agree on this one
 pub same-keys : (ks ls : List SelectionKey) (key x : SelectionKey) → has_key ks key ≡ has_key ls key → ((y : SelectionKey) → is_key y key ≡ false → has_key ks y ≡ has_key ls y) → has_key ks x ≡ has_key ls x
@@ -287,8 +245,8 @@ same-keys ks ls key x at others = go (is_key x key) refl
   where
     go : (b : Bool) → is_key x key ≡ b → has_key ks x ≡ has_key ls x
     go true same =
-        let numbers : numbers_of x ≡ numbers_of key = same-numbers (numbers_of x) (numbers_of key) same in
-        same-has ks key x numbers ∙ at ∙ sym (same-has ls key x numbers)
+        let one = key-same x key same in
+        ap (λ (y : SelectionKey). has_key ks y) one ∙ at ∙ sym (ap (λ (y : SelectionKey). has_key ls y) one)
     go false other = others x other
 
 pub same-agree : (ks ls : List SelectionKey) (key : SelectionKey) (k : FileKey) → has_key ks key ≡ has_key ls key → ((y : SelectionKey) → is_key y key ≡ false → has_key ks y ≡ has_key ls y) → AgreeOn ks ls k

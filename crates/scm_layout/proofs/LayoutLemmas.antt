@@ -1,6 +1,5 @@
 -- A layout of a state: what its parts are ready for, and what it is after one of them changed.
-use Rattle.std.proofs.Common.{◌≡◌, ℕ, ◌+◌, ◌<◌, ◌≤◌, ◌^◌, List, [], ◌∷◌, Bool, true, not, Option, Some, None, length, map, refl, ap, sym, ◌∙◌, arith}
-use Rattle.std.specs.Prelude.{slice_get}
+use Rattle.std.proofs.Common.{◌≡◌, ℕ, ◌+◌, ◌<◌, ◌≤◌, ◌^◌, List, [], ◌∷◌, Bool, true, not, length, map, ap, sym, ◌∙◌, arith}
 use Rattle.scm_types.specs.declared.keys.SelectionKey.{SelectionKey}
 use Rattle.scm_types.specs.declared.state.Commit.{Commit}
 use Rattle.scm_types.specs.declared.state.RecordState.{RecordState}
@@ -12,16 +11,12 @@ use Rattle.scm_layout.specs.declared.state_counts.StateCounts.{StateCounts}
 use Rattle.scm_layout.specs.declared.state_rows.StateRows.{StateRows}
 use Rattle.scm_layout.specs.declared.state_layout.Layout.{Layout}
 use Rattle.scm_layout.specs.Counts.{counts_of}
-use Rattle.scm_rows.specs.Heights.{message_height}
+use Rattle.scm_rows.proofs.HeightLemmas.{message-le}
 use Rattle.scm_layout.specs.Layouts.{files_top, layout_of, IsLayoutBut, IsLayoutButCommits}
 use Rattle.scm_layout.specs.Refolds.{AreFilesButKey, AreRowsOfFiles, total_height}
 use Rattle.scm_layout.specs.Rows.{each_file_rows, restacked, rows_of, stacked}
 use Rattle.scm_layout.proofs.FoldLemmas.{again-agrees, each-agree, other-added, other-flipped, other-removed, same-agree, stacked-again, total-stacked}
 use Rattle.scm_layout.proofs.StackLemmas.{each-fit, rows-of-files}
-
-message-le : (message : Option (List ℕ)) → message_height message ≤ 3
-message-le None = omega arith
-message-le (Some text) = omega arith
 
 pub top-le : (commits : List Commit) → files_top commits ≤ 4
 top-le [] = omega arith
@@ -31,23 +26,12 @@ pub top-fits : (commits : List Commit) → files_top commits ≤ max_items
 unfolding max_items
 top-fits commits = omega (arith, top-le commits)
 
-pub top-get : (commits : List Commit) (c : Commit) → slice_get commits 0 ≡ Some c → files_top commits ≡ 1 + message_height c.message
-top-get [] c e = absurd cc
-top-get (d ∷ ds) c e = let same : d ≡ c = cc in ap (λ (x : Commit). 1 + message_height x.message) same
-
-pub top-none : (commits : List Commit) → slice_get commits 0 ≡ None → files_top commits ≡ 1
-top-none [] e = refl
-top-none (d ∷ ds) e = absurd cc
-
 -- the rows of a layout are those of the state's files
 pub ready-rows : (layout : Layout) (state : RecordState) (set : List SelectionKey) → layout ≡ layout_of state set → state_size state ≤ max_items → AreRowsOfFiles layout.rows.files state.files
 ready-rows layout state set is fits = record {
   lengths = ap (λ (l : Layout). map (λ (r : FileRows). length r.sections) l.rows.files) is ∙ (rows-of-files set 0 (files_top state.commits) state.files fits).lengths;
   fits = fits;
 }
-
-pub ready-counts : (layout : Layout) (state : RecordState) (set : List SelectionKey) → layout ≡ layout_of state set → layout.counts ≡ counts_of state.files
-ready-counts layout state set is = ap (λ (l : Layout). l.counts) is
 
 pub ready-key : (layout : Layout) (state : RecordState) (expanded : List SelectionKey) (key : SelectionKey) (was : Bool) → IsLayoutBut layout state expanded key was → has_key expanded key ≡ not was → state_size state ≤ max_items
     → AreFilesButKey layout.rows.files expanded 0 state.files key
@@ -66,11 +50,6 @@ layout_with counts rows = record { counts = counts; rows = rows }
 -- rows by their files
 abbrev rows_with : List FileRows → StateRows
 rows_with files = record { files = files }
-
--- the layout after its rows were found anew
-pub refolded : (layout : Layout) (state : RecordState) (set expanded : List SelectionKey) (rows : StateRows) → layout ≡ layout_of state set → rows ≡ rows_of expanded 0 (files_top state.commits) state.files
-    → layout_with layout.counts rows ≡ layout_of state expanded
-refolded layout state set expanded rows is found = ap (λ (l : Layout). layout_with l.counts rows) is ∙ ap (λ rs. layout_with (counts_of state.files) rs) found
 
 -- the layout while the set of unfolded keys stays
 pub unchanged : (layout : Layout) (state : RecordState) (expanded : List SelectionKey) (key : SelectionKey) (was : Bool) → IsLayoutBut layout state expanded key was → has_key expanded key ≡ was → layout ≡ layout_of state expanded

@@ -10,9 +10,10 @@ use Rattle.scm_layout.specs.declared.section_rows.SectionRows.{SectionRows}
 use Rattle.scm_rows.specs.declared.section_shape.SectionShape.{SectionShape}
 use Rattle.scm_rows.specs.Heights.{shape_of}
 use Rattle.scm_layout.specs.Rows.{is_expanded, is_first_open, is_open, rows_at, sections_height, sections_rows, visible_height}
-use Rattle.scm_layout.specs.Refolds.{AreWithin, height_from, is_open_above, moved_rows, rows_from}
+use Rattle.scm_layout.specs.Refolds.{AreRowsButSection, AreWithin, height_from, is_open_above, moved_rows, rows_from}
 use Rattle.scm_layout.proofs.ZipLemmas.{cut-at}
 use Rattle.scm_layout.proofs.AgreeLemmas.{above-agree, first-heights, first-rows, rows-agree}
+use Rattle.scm_layout.proofs.RowLemmas.{length-sections_rows}
 
 no-more : (i : ℕ) → i ≡ i + 0
 no-more i = omega arith
@@ -27,18 +28,16 @@ from-none n = omega arith
 
 module _ (ks : List SelectionKey) (k : FileKey) (total : ℕ) where
   -- the row on which section n begins, counted from section i on, or on which they end
-  abbrev pub row_at : ℕ → ℕ → ℕ → Bool → List Section → ℕ
-  row_at zero i top before ss = top
-  row_at (suc n) i top before [] = top
+  abbrev row_at : ℕ → ℕ → ℕ → Bool → List Section → ℕ
   row_at (suc n) i top before (s ∷ ss) = row_at n (suc i) (top + visible_height ks k total i before s (is_first_open ks k (suc i) ss)) (is_open ks k i s) ss
+  row_at _ i top before _ = top
 
   -- whether the section above it is open
-  abbrev pub open_at : ℕ → ℕ → Bool → List Section → Bool
-  open_at zero i before ss = before
-  open_at (suc n) i before [] = before
+  abbrev open_at : ℕ → ℕ → Bool → List Section → Bool
   open_at (suc n) i before (s ∷ ss) = open_at n (suc i) (is_open ks k i s) ss
+  open_at _ i before _ = before
 
-  pub drop-rows : (n i top : ℕ) (before : Bool) (ss : List Section)
+  drop-rows : (n i top : ℕ) (before : Bool) (ss : List Section)
       → drop n (sections_rows ks k total i top before ss) ≡ sections_rows ks k total (i + n) (row_at n i top before ss) (open_at n i before ss) (drop n ss)
   unfolding sections_rows
   drop-rows zero i top before ss = ap (λ j. sections_rows ks k total j top before ss) (no-more i)
@@ -48,14 +47,14 @@ module _ (ks : List SelectionKey) (k : FileKey) (total : ℕ) where
       drop-rows n (suc i) (top + height) (is_open ks k i s) ss
       ∙ ap (λ j. sections_rows ks k total j (row_at n (suc i) (top + height) (is_open ks k i s) ss) (open_at n (suc i) (is_open ks k i s) ss) (drop n ss)) (one-more i n)
 
-  pub row-top : (n i top : ℕ) (before : Bool) (ss : List Section) (d : SectionRows) → n < length ss
+  row-top : (n i top : ℕ) (before : Bool) (ss : List Section) (d : SectionRows) → n < length ss
       → (get_or (sections_rows ks k total i top before ss) n d).top ≡ row_at n i top before ss
   unfolding sections_rows
   row-top n i top before [] d h = absurd (omega arith)
   row-top zero i top before (s ∷ ss) d h = refl
   row-top (suc n) i top before (s ∷ ss) d h = row-top n (suc i) (top + visible_height ks k total i before s (is_first_open ks k (suc i) ss)) (is_open ks k i s) ss d (omega arith)
 
-  pub row-end : (n i top : ℕ) (before : Bool) (ss : List Section) (d : SectionRows) → n < length ss
+  row-end : (n i top : ℕ) (before : Bool) (ss : List Section) (d : SectionRows) → n < length ss
       → (get_or (sections_rows ks k total i top before ss) n d).end ≡ row_at (suc n) i top before ss
   unfolding sections_rows
   row-end n i top before [] d h = absurd (omega arith)
@@ -63,7 +62,7 @@ module _ (ks : List SelectionKey) (k : FileKey) (total : ℕ) where
   row-end (suc n) i top before (s ∷ ss) d h = row-end n (suc i) (top + visible_height ks k total i before s (is_first_open ks k (suc i) ss)) (is_open ks k i s) ss d (omega arith)
 
   -- the last of the sections above section `end`
-  pub row-last : (end top : ℕ) (before : Bool) (ss : List Section) (d : SectionRows) → 0 < end → end ≤ length ss
+  row-last : (end top : ℕ) (before : Bool) (ss : List Section) (d : SectionRows) → 0 < end → end ≤ length ss
       → (get_or (sections_rows ks k total 0 top before ss) (end - 1) d).end ≡ row_at end 0 top before ss
   row-last zero top before ss d some h = absurd (omega arith)
   row-last (suc n) top before ss d some h =
@@ -75,7 +74,7 @@ module _ (ks : List SelectionKey) (k : FileKey) (total : ℕ) where
   open-next zero i before (s ∷ ss) h = ap (λ j. is_open ks k j s) (no-more i)
   open-next (suc n) i before (s ∷ ss) h = open-next n (suc i) (is_open ks k i s) ss (omega arith) ∙ ap (λ j. is_first_open ks k j (drop n ss)) (one-more i n)
 
-  pub above-is : (n : ℕ) (ss : List Section) → n ≤ length ss → open_at n 0 false ss ≡ is_open_above ks k n ss
+  above-is : (n : ℕ) (ss : List Section) → n ≤ length ss → open_at n 0 false ss ≡ is_open_above ks k n ss
   above-is zero ss h = refl
   above-is (suc n) ss h =
       let same : 0 + n ≡ suc n - 1 = omega arith in
@@ -106,7 +105,7 @@ module _ (ks : List SelectionKey) (k : FileKey) (total : ℕ) where
       let ends : to + (top + h - from) ≡ new + h = omega arith in
       ap (λ m. rows_with m (to + (top + h - from)) shape) tops ∙ ap (λ m. rows_with new m shape) ends
 
-  pub moved : (from to n i top new : ℕ) (before : Bool) (ss : List Section) → top ≡ from + n → new ≡ to + n
+  moved : (from to n i top new : ℕ) (before : Bool) (ss : List Section) → top ≡ from + n → new ≡ to + n
       → map (moved_rows from to) (sections_rows ks k total i top before ss) ≡ sections_rows ks k total i new before ss
   unfolding sections_rows
   moved from to n i top new before [] e f = refl
@@ -115,7 +114,7 @@ module _ (ks : List SelectionKey) (k : FileKey) (total : ℕ) where
       ap (λ r. r ∷ map (moved_rows from to) (sections_rows ks k total (suc i) (top + height) (is_open ks k i s) ss)) (moved-at from to n top new height (shape_of s) e f)
       ∙ ap (λ rs. rows_at new height (shape_of s) ∷ rs) (moved from to (n + height) (suc i) (top + height) (new + height) (is_open ks k i s) ss (omega arith) (omega arith))
 
-  pub within-rows : (from until i top : ℕ) (before : Bool) (ss : List Section) → from ≤ top → top + sections_height ks k total i before ss ≤ until
+  within-rows : (from until i top : ℕ) (before : Bool) (ss : List Section) → from ≤ top → top + sections_height ks k total i before ss ≤ until
       → AreWithin from until (sections_rows ks k total i top before ss)
   unfolding sections_rows sections_height
   within-rows from until i top before [] low high = tt
@@ -153,7 +152,7 @@ module _ (ks ls : List SelectionKey) (k : FileKey) (total j : ℕ) (h : (m : ℕ
       ∙ omega (arith, height-but n (suc i) (top + height) is_above ss (omega arith), first)
 
 -- where the sections from section n on begin, and how many rows they have
-pub height-at : (ks : List SelectionKey) (k : FileKey) (total n i top : ℕ) (before : Bool) (ss : List Section)
+height-at : (ks : List SelectionKey) (k : FileKey) (total n i top : ℕ) (before : Bool) (ss : List Section)
     → row_at ks k total n i top before ss + sections_height ks k total (i + n) (open_at ks k total n i before ss) (drop n ss) ≡ top + sections_height ks k total i before ss
 height-at ks k total n i top before ss = height-but ks ks k total (i + n + 1) (λ m other. refl) n i top before ss (omega arith)
 
@@ -169,67 +168,83 @@ tail-agree ks ls k total end top j above below (x ∷ xs) h some =
 
 -- ---- the rows after the fold of section j
 
-module _ (ks ls : List SelectionKey) (k : FileKey) (ss : List Section) (j : ℕ) (h : (m : ℕ) → m ≢ j → is_expanded ks k m ≡ is_expanded ls k m) where
-  -- what stays, and what follows it
-  module _ (first top : ℕ) (low : first ≤ j - 1) (within : first ≤ length ss) (at : top ≡ row_at ls k (length ss) first 0 0 false ss) where
-    above : open_at ls k (length ss) first 0 false ss ≡ is_open_above ks k first ss
-    above = above-is ls k (length ss) first ss within ∙ sym (above-agree ks ls k first ss (λ some. h (first - 1) (omega arith)))
+module _ (rows : List SectionRows) (ks : List SelectionKey) (k : FileKey) (ss : List Section) (j : ℕ) (h : AreRowsButSection rows ks k ss j) (d : SectionRows) where
+  abbrev ls : List SelectionKey
+  ls = h.before
 
-    pub front-rows : take first (sections_rows ls k (length ss) 0 0 false ss) ++ rows_from ks k first top ss ≡ sections_rows ks k (length ss) 0 0 false ss
+  pub rows-length : length rows ≡ length ss
+  rows-length = ap (λ rs. length rs) h.is_it ∙ length-sections_rows ls k (length ss) 0 0 false ss
+
+  -- what stays, and what follows it
+  module _ (first : ℕ) (low : first ≤ j - 1) (inside : first < length ss) where
+    abbrev top : ℕ
+    top = (get_or rows first d).top
+
+    at-top : top ≡ row_at ls k (length ss) first 0 0 false ss
+    at-top = ap (λ rs. (get_or rs first d).top) h.is_it ∙ row-top ls k (length ss) first 0 0 false ss d inside
+
+    above : open_at ls k (length ss) first 0 false ss ≡ is_open_above ks k first ss
+    above = above-is ls k (length ss) first ss (omega arith) ∙ sym (above-agree ks ls k first ss (λ some. h.agree (first - 1) (omega arith)))
+
+    front-rows : take first (sections_rows ls k (length ss) 0 0 false ss) ++ rows_from ks k first top ss ≡ sections_rows ks k (length ss) 0 0 false ss
     front-rows =
         let kept = take first (sections_rows ls k (length ss) 0 0 false ss) in
-        ap (λ m. kept ++ sections_rows ks k (length ss) first m (is_open_above ks k first ss) (drop first ss)) at
+        ap (λ m. kept ++ sections_rows ks k (length ss) first m (is_open_above ks k first ss) (drop first ss)) at-top
         ∙ ap (λ b. kept ++ sections_rows ks k (length ss) first (row_at ls k (length ss) first 0 0 false ss) b (drop first ss)) (sym above)
         ∙ ap (λ m. kept ++ sections_rows ks k (length ss) m (row_at ls k (length ss) first 0 0 false ss) (open_at ls k (length ss) first 0 false ss) (drop first ss)) (sym (from-none first))
-        ∙ rows-but ks ls k (length ss) j h first 0 0 false ss (omega arith)
+        ∙ rows-but ks ls k (length ss) j h.agree first 0 0 false ss (omega arith)
 
     pub front-height : top + height_from ks k first ss ≡ sections_height ks k (length ss) 0 false ss
     front-height =
         ap (λ b. top + sections_height ks k (length ss) first b (drop first ss)) (sym above)
         ∙ ap (λ m. top + sections_height ks k (length ss) m (open_at ls k (length ss) first 0 false ss) (drop first ss)) (sym (from-none first))
-        ∙ omega (arith, at, height-but ks ls k (length ss) j h first 0 0 false ss (omega arith))
+        ∙ omega (arith, at-top, height-but ks ls k (length ss) j h.agree first 0 0 false ss (omega arith))
 
   -- what moves
-  module _ (end from : ℕ) (within : end ≤ length ss) (at : from ≡ row_at ls k (length ss) end 0 0 false ss) where
-    rest : drop end (sections_rows ls k (length ss) 0 0 false ss) ≡ sections_rows ls k (length ss) end from (is_open_above ls k end ss) (drop end ss)
+  module _ (end : ℕ) (some : 0 < end) (within : end ≤ length ss) where
+    abbrev from : ℕ
+    from = (get_or rows (end - 1) d).end
+
+    at-end : from ≡ row_at ls k (length ss) end 0 0 false ss
+    at-end = ap (λ rs. (get_or rs (end - 1) d).end) h.is_it ∙ row-last ls k (length ss) end 0 false ss d some within
+
+    rest : drop end rows ≡ sections_rows ls k (length ss) end from (is_open_above ls k end ss) (drop end ss)
     rest =
-        drop-rows ls k (length ss) end 0 0 false ss
+        ap (λ rs. drop end rs) h.is_it
+        ∙ drop-rows ls k (length ss) end 0 0 false ss
         ∙ ap (λ m. sections_rows ls k (length ss) m (row_at ls k (length ss) end 0 0 false ss) (open_at ls k (length ss) end 0 false ss) (drop end ss)) (from-none end)
-        ∙ ap (λ m. sections_rows ls k (length ss) end m (open_at ls k (length ss) end 0 false ss) (drop end ss)) (sym at)
+        ∙ ap (λ m. sections_rows ls k (length ss) end m (open_at ls k (length ss) end 0 false ss) (drop end ss)) (sym at-end)
         ∙ ap (λ b. sections_rows ls k (length ss) end from b (drop end ss)) (above-is ls k (length ss) end ss within)
 
     rest-height : from + sections_height ls k (length ss) end (is_open_above ls k end ss) (drop end ss) ≡ sections_height ls k (length ss) 0 false ss
     rest-height =
         ap (λ b. from + sections_height ls k (length ss) end b (drop end ss)) (sym (above-is ls k (length ss) end ss within))
         ∙ ap (λ m. from + sections_height ls k (length ss) m (open_at ls k (length ss) end 0 false ss) (drop end ss)) (sym (from-none end))
-        ∙ omega (arith, at, height-at ls k (length ss) end 0 0 false ss)
+        ∙ omega (arith, at-end, height-at ls k (length ss) end 0 0 false ss)
 
-    pub rest-within : (until : ℕ) → sections_height ls k (length ss) 0 false ss ≤ until → AreWithin from until (drop end (sections_rows ls k (length ss) 0 0 false ss))
+    pub rest-within : (until : ℕ) → sections_height ls k (length ss) 0 false ss ≤ until → AreWithin from until (drop end rows)
     rest-within until high =
         subst (λ rs. AreWithin from until rs) (sym rest)
         (within-rows ls k (length ss) from until end from (is_open_above ls k end ss) (drop end ss) (omega arith) (omega (arith, rest-height)))
 
-    pub rest-moved : (to : ℕ) → (end < length ss → j + 2 ≤ end) → map (moved_rows from to) (drop end (sections_rows ls k (length ss) 0 0 false ss)) ≡ rows_from ks k end to ss
+    rest-moved : (to : ℕ) → (end < length ss → j + 2 ≤ end) → map (moved_rows from to) (drop end rows) ≡ rows_from ks k end to ss
     rest-moved to past =
         ap (λ rs. map (moved_rows from to) rs) rest
         ∙ moved ls k (length ss) from to 0 end from to (is_open_above ls k end ss) (drop end ss) (omega arith) (omega arith)
-        ∙ tail-agree ks ls k (length ss) end to j (is_open_above ks k end ss) (is_open_above ls k end ss) (drop end ss) h
+        ∙ tail-agree ks ls k (length ss) end to j (is_open_above ks k end ss) (is_open_above ls k end ss) (drop end ss) h.agree
         (λ some. let more : end < length ss = omega (arith, length-drop end ss) in
         let beyond : j + 2 ≤ end = past more in
-        (omega arith, sym (above-agree ks ls k end ss (λ _. h (end - 1) (omega arith)))))
+        (omega arith, sym (above-agree ks ls k end ss (λ _. h.agree (end - 1) (omega arith)))))
 
   -- the rows after the sections around section j were found anew, and those below them moved
-  pub mended : (rows mid new : List SectionRows) (first end top from to : ℕ) → rows ≡ sections_rows ls k (length ss) 0 0 false ss
-      → first ≤ j - 1 → first ≤ length ss → end ≤ length ss → (end < length ss → j + 2 ≤ end)
-      → top ≡ row_at ls k (length ss) first 0 0 false ss → from ≡ row_at ls k (length ss) end 0 0 false ss
-      → take end mid ++ rows_from ks k end to ss ≡ take first rows ++ rows_from ks k first top ss → drop end mid ≡ drop end rows
-      → new ≡ take end mid ++ map (moved_rows from to) (drop end mid)
+  pub mended : (mid new : List SectionRows) (first end to : ℕ) → first ≤ j - 1 → first < length ss → 0 < end → end ≤ length ss → (end < length ss → j + 2 ≤ end)
+      → take end mid ++ rows_from ks k end to ss ≡ take first rows ++ rows_from ks k first (get_or rows first d).top ss → drop end mid ≡ drop end rows
+      → new ≡ take end mid ++ map (moved_rows (get_or rows (end - 1) d).end to) (drop end mid)
       → new ≡ sections_rows ks k (length ss) 0 0 false ss
-  mended rows mid new first end top from to is low within inside past tops ends anew others moves =
-      let last : drop end mid ≡ drop end (sections_rows ls k (length ss) 0 0 false ss) = others ∙ ap (λ rs. drop end rs) is in
+  mended mid new first end to low inside some within past anew others moves =
       moves
-      ∙ ap (λ rs. take end mid ++ map (moved_rows from to) rs) last
-      ∙ ap (λ rs. take end mid ++ rs) (rest-moved end from inside ends to past)
+      ∙ ap (λ rs. take end mid ++ map (moved_rows (get_or rows (end - 1) d).end to) rs) others
+      ∙ ap (λ rs. take end mid ++ rs) (rest-moved end some within to past)
       ∙ anew
-      ∙ ap (λ rs. take first rs ++ rows_from ks k first top ss) is
-      ∙ front-rows first top low within tops
+      ∙ ap (λ rs. take first rs ++ rows_from ks k first (get_or rows first d).top ss) h.is_it
+      ∙ front-rows first low inside

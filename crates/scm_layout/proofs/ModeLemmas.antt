@@ -21,16 +21,12 @@ use Rattle.scm_layout.proofs.BareLemmas.{bare_section, line-hidden, modes-same}
 -- ---- nothing follows
 
 deletion-kept : (s : Section) → is_mode s ≡ false → with_deletion_unchecked s ≡ s
-deletion-kept (Unchanged lines) h = refl
-deletion-kept (Changed lines) h = refl
 deletion-kept (FileMode is_checked mode) h = absurd (cc h)
-deletion-kept (Binary is_checked old new) h = refl
+deletion-kept _ h = refl
 
 mode-kept : (s : Section) → is_mode s ≡ false → with_mode_checked s ≡ s
-mode-kept (Unchanged lines) h = refl
-mode-kept (Changed lines) h = refl
 mode-kept (FileMode is_checked mode) h = absurd (cc h)
-mode-kept (Binary is_checked old new) h = refl
+mode-kept _ h = refl
 
 none-counted : (b : Bool) → ◌≡◌ {A = ℕ} (cond b 1 0) 0 → b ≡ false
 none-counted true h = absurd (omega arith)
@@ -85,10 +81,8 @@ lines-missing (l ∷ ls) zero e = no-some l.is_checked e
 lines-missing (l ∷ ls) (suc line) e = ap (λ ms. l ∷ ms) (lines-missing ls line e)
 
 section-missing : (s : Section) (line : ℕ) → line_mark line s ≡ None → with_line_inverted line s ≡ s
-section-missing (Unchanged lines) line e = refl
 section-missing (Changed lines) line e = ap Changed (lines-missing lines line e)
-section-missing (FileMode is_checked mode) line e = refl
-section-missing (Binary is_checked old new) line e = refl
+section-missing _ line e = refl
 
 sections-missing : (ss : List Section) (section line : ℕ) → option_and_then (line_mark line) (slice_get ss section) ≡ None → modify (with_line_inverted line) ss section ≡ ss
 sections-missing [] section line e = refl

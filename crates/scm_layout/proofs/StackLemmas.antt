@@ -1,5 +1,5 @@
 -- Files one below the other: the loops that find their rows, and how many rows they have at most.
-use Rattle.std.proofs.Common.{◌≡◌, ℕ, zero, suc, ◌+◌, ◌-◌, ◌*◌, ◌<◌, ◌≤◌, List, [], ◌∷◌, length, map, drop, get_or, refl, ap, sym, ◌∙◌, arith}
+use Rattle.std.proofs.Common.{◌≡◌, ℕ, suc, ◌+◌, ◌-◌, ◌*◌, ◌<◌, ◌≤◌, List, [], ◌∷◌, length, map, drop, get_or, refl, ap, sym, ◌∙◌, arith}
 use Rattle.std.specs.Prelude.{sum_by}
 use Rattle.std.proofs.lemmas.List.{drop_all, length-map}
 use Rattle.std.proofs.lemmas.List.Sums.{get_or-le-sum_by, sum_by-cons}
@@ -92,26 +92,3 @@ pub file-within : (i : ℕ) (fs : List File) (f : File) → i < length fs → f 
 file-within i fs f h at fits =
     let size : file_size f ≡ file_size (get_or fs i f) = ap (λ g. file_size g) at in
     omega (arith, get_or-le-sum_by file_size fs i f h)
-
--- how many sections each file of a list has
-abbrev row_counts : List FileRows → List ℕ
-row_counts rs = map (λ (x : FileRows). length x.sections) rs
-
-abbrev section_counts : List File → List ℕ
-section_counts fs = map (λ (x : File). length x.sections) fs
-
-first-length : (r : FileRows) (rs : List FileRows) (f : File) (fs : List File) → row_counts (r ∷ rs) ≡ section_counts (f ∷ fs) → length r.sections ≡ length f.sections
-first-length r rs f fs e = cc
-
-later-lengths : (r : FileRows) (rs : List FileRows) (f : File) (fs : List File) → row_counts (r ∷ rs) ≡ section_counts (f ∷ fs) → row_counts rs ≡ section_counts fs
-later-lengths r rs f fs e = cc
-
-no-length : {C : Type 0} (f : File) (fs : List File) → row_counts [] ≡ section_counts (f ∷ fs) → C
-no-length f fs e = absurd cc
-
--- the rows of a file have its sections
-pub lengths-at : (rs : List FileRows) (fs : List File) (i : ℕ) (r : FileRows) (f : File) → i < length fs → row_counts rs ≡ section_counts fs → r ≡ get_or rs i r → f ≡ get_or fs i f → length r.sections ≡ length f.sections
-lengths-at rs [] i r f h e at by = absurd (omega arith)
-lengths-at [] (g ∷ gs) i r f h e at by = no-length g gs e
-lengths-at (x ∷ xs) (g ∷ gs) zero r f h e at by = ap (λ (y : FileRows). length y.sections) at ∙ first-length x xs g gs e ∙ ap (λ (y : File). length y.sections) (sym by)
-lengths-at (x ∷ xs) (g ∷ gs) (suc i) r f h e at by = lengths-at xs gs i r f (omega arith) (later-lengths x xs g gs e) at by

@@ -3,11 +3,6 @@ use Rattle.std.proofs.Common.{◌≡◌, ℕ, zero, suc, ◌+◌, ◌<◌, List,
 use Rattle.scm_types.specs.Edits.{modify}
 use Rattle.scm_layout.specs.Recounts.{zipped}
 
-pub length-zipped : {A B : Type 0} (f : A → B → A) (xs : List A) (ys : List B) → length (zipped f xs ys) ≡ length xs
-length-zipped f xs [] = refl
-length-zipped f [] (y ∷ ys) = refl
-length-zipped f (x ∷ xs) (y ∷ ys) = ap suc (length-zipped f xs ys)
-
 -- what stands at an index that was not reached
 zipped-unreached : {A B : Type 0} (f : A → B → A) (xs : List A) (ys : List B) (i : ℕ) (d : A) → get_or (zipped f xs (take i ys)) i d ≡ get_or xs i d
 zipped-unreached f xs ys zero d = refl
@@ -17,10 +12,9 @@ zipped-unreached f (x ∷ xs) (y ∷ ys) (suc i) d = zipped-unreached f xs ys i 
 
 zipped-next : {A B : Type 0} (f : A → B → A) (xs : List A) (ys : List B) (i : ℕ) (d : A) (e : B) → i < length xs → i < length ys
     → set (zipped f xs (take i ys)) i (f (get_or xs i d) (get_or ys i e)) ≡ zipped f xs (take (suc i) ys)
-zipped-next f [] ys i d e h k = absurd (omega arith)
-zipped-next f (x ∷ xs) [] i d e h k = absurd (omega arith)
 zipped-next f (x ∷ xs) (y ∷ ys) zero d e h k = refl
 zipped-next f (x ∷ xs) (y ∷ ys) (suc i) d e h k = ap (λ zs. f x y ∷ zs) (zipped-next f xs ys i d e (omega arith) (omega arith))
+zipped-next f _ _ i d e h k = absurd (omega arith)
 
 -- the next step of a loop
 pub zipped-more : {A B : Type 0} (f : A → B → A) (xs zs : List A) (ys : List B) (i : ℕ) (d z : A) (y : B) → i < length xs → i < length ys
@@ -37,9 +31,8 @@ zipped-at f xs zs ys i d made = ap (λ ws. get_or ws i d) made ∙ zipped-unreac
 -- where each becomes what the other list makes of it
 pub zipped-map : {A B : Type 0} (g : B → A) (xs : List A) (ys : List B) → length xs ≡ length ys → zipped (λ x y. g y) xs ys ≡ map g ys
 zipped-map g [] [] h = refl
-zipped-map g (x ∷ xs) [] h = absurd (omega arith)
-zipped-map g [] (y ∷ ys) h = absurd (omega arith)
 zipped-map g (x ∷ xs) (y ∷ ys) h = ap (λ zs. g y ∷ zs) (zipped-map g xs ys (omega arith))
+zipped-map g _ _ h = absurd (omega arith)
 
 -- the element at an index, whatever stands for one past the end, and those after it
 pub cut : {A : Type 0} (xs : List A) (i : ℕ) (x : A) → i < length xs → drop i xs ≡ get_or xs i x ∷ drop (i + 1) xs

@@ -16,9 +16,8 @@ use Rattle.scm_view.specs.AppView.{views_picture, has_help, help_dialog_if_open,
 -- views of the same documents, one for one
 abbrev AreAlike : List CommitView → List CommitView → Type 0
 AreAlike [] [] = Unit {0}
-AreAlike [] (w ∷ ws) = ⊥
-AreAlike (v ∷ vs) [] = ⊥
 AreAlike (v ∷ vs) (w ∷ ws) = (document_of v ≡ document_of w) × AreAlike vs ws
+AreAlike _ _ = ⊥
 
 view-alike : (v u : CommitView) (s : Sight) (x y : ℤ) → document_of v ≡ document_of u → commit_picture v s x y ≡ commit_picture u s x y
 unfolding commit_picture
@@ -27,11 +26,10 @@ view-alike v u s x y e = rw e refl
 views-alike : (vs us : List CommitView) (n : ℕ) (s : Sight) (x : ℤ) → AreAlike vs us → views_picture vs n s x ≡ views_picture us n s x
 unfolding views_picture
 views-alike [] [] n s x e = refl
-views-alike [] (u ∷ us) n s x e = absurd e
-views-alike (v ∷ vs) [] n s x e = absurd e
 views-alike (v ∷ vs) (u ∷ us) n s x e =
     let same : view_picture v s x n ≡ view_picture u s x n = view-alike v u _ x (pos 1) e.0 in
     rw same (ap (λ p. followed_by (part ids.AppFiles (view_picture u s x n)) p) (views-alike vs us n s (next_view u s x n) e.1))
+views-alike _ _ n s x e = absurd e
 
 -- the views that are drawn show the commits in order
 first-alike : (mode : CommitViewMode) (vs : List CommitView) (shown : ViewState) → ShowInOrder vs shown 0 → view_count mode ≤ length vs

@@ -41,15 +41,13 @@ views_picture-end vs i n s x h = rw (drop_all i vs h) refl
 -- one view alone
 pub views_picture-one : (vs : List CommitView) (d : CommitView) (n : ℕ) (s : Sight) (x : ℤ) → length vs ≡ 1 → views_picture vs n s x ≡ part ids.AppFiles (view_picture (get_or vs 0 d) s x n)
 unfolding views_picture
-views_picture-one [] d n s x h = absurd (omega (arith, h))
 views_picture-one (v ∷ []) d n s x h = followed-nothing (part ids.AppFiles (view_picture v s x n))
-views_picture-one (v ∷ (w ∷ vs)) d n s x h = absurd (omega (arith, h))
+views_picture-one _ d n s x h = absurd (omega (arith, h))
 
 pub views_counts-one : (vs : List CommitView) (d : CommitView) (n : ℕ) (s : Sight) (x : ℤ) → length vs ≡ 1 → views_counts vs n s x ≡ view_counts (get_or vs 0 d) s x n
 unfolding views_counts
-views_counts-one [] d n s x h = absurd (omega (arith, h))
 views_counts-one (v ∷ []) d n s x h = plus-none (view_counts v s x n)
-views_counts-one (v ∷ (w ∷ vs)) d n s x h = absurd (omega (arith, h))
+views_counts-one _ d n s x h = absurd (omega (arith, h))
 
 -- ---- the mask
 

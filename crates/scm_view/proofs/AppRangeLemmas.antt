@@ -67,11 +67,10 @@ views-in shown (v ∷ vs) commit n w h s x a shows pw ps pn low high =
     (views-in shown vs (suc commit) n w h s (next_view v screen x n) a shows.1 pw ps pn (step-low x _ low) (step-high x _ n _ _ (length vs) columns pn high))
 
 show-first : (k : ℕ) (shown : ViewState) (vs : List CommitView) (commit : ℕ) → ShowInOrder vs shown commit → ShowInOrder (take k vs) shown commit
-show-first zero shown vs commit h = tt
-show-first (suc k) shown [] commit h = tt
 show-first (suc k) shown (v ∷ vs) commit h = (h.0, show-first k shown vs (suc commit) h.1)
+show-first _ shown _ commit h = tt
 
-few-views : (mode : CommitViewMode) (vs : List CommitView) → length (take (view_count mode) vs) ≤ 2
+pub few-views : (mode : CommitViewMode) (vs : List CommitView) → length (take (view_count mode) vs) ≤ 2
 few-views Inline vs = omega (arith, length-take 1 vs)
 few-views Adjacent vs = omega (arith, length-take 2 vs)
 

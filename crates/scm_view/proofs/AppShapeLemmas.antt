@@ -1,10 +1,10 @@
 -- What the inline view draws: one document below the menu bar, and what lies over it.
-use Rattle.std.proofs.Common.{◌≡◌, ◌∙◌, append-nil, ℕ, ◌-◌, ℤ, pos, ◌+ℤ◌, ◌-ℤ◌, List, ◌∷◌, take, refl, ap, arith}
+use Rattle.std.proofs.Common.{◌≡◌, ◌∙◌, ℕ, ◌-◌, ℤ, pos, ◌+ℤ◌, ◌-ℤ◌, List, ◌∷◌, take, refl, ap, arith}
 use Rattle.std.specs.Prelude.{min}
 use Rattle.std.specs.Int.{int_min, int_max}
 use Rattle.scm_cells.specs.Rect.{or_zero}
 use Rattle.scm_cells.proofs.RectLemmas.{places}
-use Rattle.scm_render.specs.Picture.{Picture, nothing, followed_by, part}
+use Rattle.scm_render.specs.Picture.{followed_by, part}
 use Rattle.scm_render.specs.Canvas.{under}
 use Rattle.scm_widgets.specs.declared.ids.ComponentId.TheVariants as ids
 use Rattle.scm_view.specs.declared.app_view.AppView.{AppView}
@@ -17,6 +17,7 @@ use Rattle.scm_overlay.proofs.OverlaysPicture.{overlays_picture}
 use Rattle.scm_document.specs.ViewColumns.{view_mask}
 use Rattle.scm_view.specs.AppView.{views_picture, app_picture, ShowsSession}
 use Rattle.scm_document.proofs.AppShapeLemmas.{below_bar}
+use Rattle.scm_document.proofs.RowsLemmas.{followed-nothing}
 
 first-column : (w : ℕ) → int_min (int_max (pos 0) (pos 0)) (pos 0 +ℤ pos w) ≡ pos 0
 first-column w = omega (arith, places)
@@ -27,14 +28,10 @@ all-columns w = omega (arith, places)
 pub whole-mask : (w h s : ℕ) → view_mask (sight w h s) (pos 0) w ≡ below_bar w s
 whole-mask w h s = rw (first-column w, all-columns w) refl
 
-followed-by_nothing : {K : Type 0} (p : Picture K) → followed_by p nothing ≡ p
-unfolding followed_by nothing
-followed-by_nothing p = λ i. record { puts = append-nil p.puts i; boxes = append-nil p.boxes i; areas = append-nil p.areas i }
-
 pub one-view : (v : CommitView) (vs : List CommitView) (w h s : ℕ)
     → views_picture (take 1 (v ∷ vs)) w (sight w h s) (pos 0) ≡ part ids.AppFiles (commit_picture v (under (below_bar w s) (sight w h s)) (pos 0) (pos 1))
 unfolding views_picture
-one-view v vs w h s = followed-by_nothing _ ∙ ap (λ m. part ids.AppFiles (commit_picture v (under m (sight w h s)) (pos 0) (pos 1))) (whole-mask w h s)
+one-view v vs w h s = followed-nothing _ ∙ ap (λ m. part ids.AppFiles (commit_picture v (under m (sight w h s)) (pos 0) (pos 1))) (whole-mask w h s)
 
 pub app-inline : (a : AppView) (shown : ViewState) (v : CommitView) (vs : List CommitView) (w h s : ℕ) (y : ℤ) → ShowsSession a shown → shown.view_mode ≡ Inline → a.commit_views ≡ v ∷ vs
     → app_picture a (sight w h s) (pos 0) y

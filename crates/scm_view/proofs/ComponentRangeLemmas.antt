@@ -2,12 +2,11 @@
 use Rattle.std.proofs.Common.{◌≡◌, ℕ, zero, suc, ◌+◌, ◌-◌, ◌*◌, ◌/◌, ◌≤◌, ◌^◌, ℤ, pos, ◌+ℤ◌, Bool, true, false, List, [], ◌∷◌, ◌++◌, length, length-append, map, take, refl, arith}
 use Rattle.std.specs.Int.{int_min, int_max}
 use Rattle.scm_cells.specs.Rect.{end_x_of}
-use Rattle.std.specs.Prelude.{min, ◌&&◌, if◌then◌else◌, nat_le, sum_by, codes, Option, Some, None}
+use Rattle.std.specs.Prelude.{min, ◌&&◌, if◌then◌else◌, nat_le, codes, Option, Some, None, sum_by}
 use Rattle.std.specs.List.{list_all}
 use Rattle.std.proofs.Math.Nat.{div-le_self}
-use Rattle.std.proofs.lemmas.List.{length-take}
-use Rattle.std.proofs.lemmas.List.Sums.{sum_by-cons}
-use Rattle.scm_types.specs.Limits.{is_short_text, is_short_option, has_short_texts, section_size}
+use Rattle.std.proofs.lemmas.Bool.{and_parts}
+use Rattle.scm_types.specs.Limits.{is_short_text, is_short_option, section_size}
 use Rattle.scm_cells.specs.Clusters.{text_width}
 use Rattle.scm_cells.proofs.BoundLemmas.{text_width-le}
 use Rattle.scm_cells.proofs.RectLemmas.{places}
@@ -37,9 +36,9 @@ use Rattle.scm_view.specs.AppView.{shown_views, views_picture, has_help, app_pic
 use Rattle.scm_view.proofs.AppLemmas.{apply-columns}
 use Rattle.scm_widgets.specs.Texts.{box_text, button_text}
 use Rattle.scm_document.specs.Texts.{number_text, sign_text}
-use Rattle.scm_widgets.specs.Boxes.{IdBox, is_fold_open}
+use Rattle.scm_widgets.specs.Boxes.{IdBox}
 use Rattle.scm_rows.specs.Heights.{is_section_visible}
-use Rattle.scm_document.specs.Rows.{line_texts, lent_text, header_heading, rows_of, section_rows, is_open, is_first_open, shown_section, shown_sections, sections_rows, shown_file, file_rows, document_of}
+use Rattle.scm_document.specs.Rows.{line_texts, lent_text, header_heading, rows_of, section_rows, sections_rows, shown_file, file_rows, document_of}
 use Rattle.scm_document.specs.FilesRows.{files_rows}
 use Rattle.scm_widgets.specs.Pictures.{box_picture, button_picture}
 use Rattle.scm_document.specs.Pictures.{header_picture, inner_picture, line_picture, section_picture, file_picture, message_picture, commit_message_picture, commit_picture}
@@ -51,24 +50,21 @@ use Rattle.scm_widgets.specs.DrawBounds.{IsInDrawBounds, RectIsInDrawBounds}
 use Rattle.scm_document.specs.DrawBounds.{SightIsInDrawBounds}
 use Rattle.scm_view.specs.ComponentRanges.{text_of_line, IsShortSection, IsShortFile, AreShortFiles, IsShortCommit, AreShortCommits, IsShortApp, AppIsInDrawBounds, is_short_item, is_short_menu, is_short_bar, is_short_button, are_short_buttons, ComponentsAreInRange}
 use Rattle.scm_widgets.proofs.Near.{IsNear}
-use Rattle.scm_document.proofs.Near.{SightIsNear, AreNarrowSections, IsNarrowFile, AreNarrowFiles}
+use Rattle.scm_document.proofs.Near.{SightIsNear, AreNarrowFiles}
 use Rattle.scm_overlay.proofs.Ranges.{button_columns}
-use Rattle.scm_document.proofs.NearLemmas.{heading-in, changed-in, context-in, rows-near, file-near, message-near, document-near}
-use Rattle.scm_view.proofs.LimitLemmas.{first_true, second_true, short, box-narrow, line-narrow, length-sign, length-number, path-narrow, heading-narrow, message-narrow, rows-narrow, sections-append, shown-narrow, shown_if-narrow, shown-few}
-use Rattle.scm_document.proofs.SectionsLemmas.{length-sections}
+use Rattle.scm_document.proofs.NearLemmas.{heading-in, changed-in, context-in, rows-near, file-near, message-near, document-near, still-near}
+use Rattle.scm_view.proofs.AppRangeLemmas.{few-views}
+use Rattle.scm_view.proofs.LimitLemmas.{short, box-narrow, line-narrow, length-sign, length-number, path-narrow, heading-narrow, message-narrow, rows-narrow, shown-few, file-few, file-narrow, size_of}
 use Rattle.scm_overlay.proofs.RangeLemmas.{IsFewItems, menu-here, bar-here, dialog-here}
 use Rattle.scm_overlay.proofs.FixedLemmas.{short_quit, short_help}
 
 -- ---- places
 
-near : (z : ℤ) → IsInDrawBounds z → IsNear z
-near z h = record { low = omega (arith, places, h.low); high = omega (arith, places, h.high) }
-
 near-after : (z : ℤ) (n : ℕ) → IsInDrawBounds z → n ≤ 2 ^ 50 → IsNear (z +ℤ pos n)
 near-after z n h k = record { low = omega (arith, places, h.low); high = omega (arith, places, h.high, k) }
 
 sight-near : (s : Sight) → SightIsInDrawBounds s → SightIsNear s
-sight-near s h = record { x = near _ h.x; end_x = near _ h.end_x; mask_x = near _ h.mask_x }
+sight-near s h = record { x = still-near _ h.x; end_x = still-near _ h.end_x; mask_x = still-near _ h.mask_x }
 
 -- ---- boxes and buttons
 
@@ -111,13 +107,13 @@ header-here : (v : FileViewHeader) (s : Sight) (x y : ℤ) → SightIsInDrawBoun
     → PictureInRange (header_picture v s x y)
 unfolding header_picture
 header-here v s x y n p q h k =
-    heading-in (header_heading v) s x y (sight-near s n) (near x p) (near y q) (heading-narrow (header_heading v) (path-narrow (lent_text v.old_path) v.path.now h k))
+    heading-in (header_heading v) s x y (sight-near s n) (still-near x p) (still-near y q) (heading-narrow (header_heading v) (path-narrow (lent_text v.old_path) v.path.now h k))
 
 inner-here : (i : SectionLineViewInner) (s : Sight) (x y : ℤ) → SightIsInDrawBounds s → IsInDrawBounds x → IsInDrawBounds y → is_short_text (text_of_line i) ≡ true → PictureInRange (inner_picture i s x y)
 inner-here (inner.Unchanged line number) s x y n p q h =
-    context-in (line_texts (number_text number) line.now) s x y (sight-near s n) (omega (arith, places, p.low)) (omega (arith, places, p.high)) (near y q) (line-narrow (number_text number) line.now (length-number number) h)
+    context-in (line_texts (number_text number) line.now) s x y (sight-near s n) (omega (arith, places, p.low)) (omega (arith, places, p.high)) (still-near y q) (line-narrow (number_text number) line.now (length-number number) h)
 inner-here (inner.Changed box change line) s x y n p q h =
-    changed-in box (line_texts (sign_text change) line.now) s x y (sight-near s n) (omega (arith, places, p.low)) (omega (arith, places, p.high)) (near y q) (box-narrow box)
+    changed-in box (line_texts (sign_text change) line.now) s x y (sight-near s n) (omega (arith, places, p.low)) (omega (arith, places, p.high)) (still-near y q) (box-narrow box)
     (line-narrow (sign_text change) line.now (length-sign change) h)
 
 -- ---- sections and files
@@ -126,62 +122,32 @@ section-here : (v : SectionView) (s : Sight) (x y : ℤ) → SightIsInDrawBounds
 unfolding section_picture section_rows sections_rows
 section-here v s x y n p q h =
     let rows : length (rows_of v v.section.now ++ []) ≤ 2 * section_size v.section.now + 1 = shown-few true v in
-    rows-near (rows_of v v.section.now) s x y (sight-near s n) (near x p) (near y q) (near-after y _ q (omega (arith, rows, length-append (rows_of v v.section.now) [], h.lines))) (rows-narrow v v.section.now h.texts)
+    rows-near (rows_of v v.section.now) s x y (sight-near s n) (still-near x p) (still-near y q) (near-after y _ q (omega (arith, rows, length-append (rows_of v v.section.now) [], h.lines))) (rows-narrow v v.section.now h.texts)
 
-abbrev texts_of : SectionView → Bool
-texts_of w = has_short_texts w.section.now
-
-abbrev size_of : SectionView → ℕ
-size_of w = section_size w.section.now
-
-sections-narrow : (before : Bool) (vs : List SectionView) → list_all texts_of vs ≡ true → AreNarrowSections (shown_sections before vs)
-unfolding shown_sections
-sections-narrow before [] h = tt
-sections-narrow before (v ∷ vs) h =
-    sections-append (shown_section _ v) _ (shown-narrow _ v (first_true (texts_of v) (list_all texts_of vs) h)) (sections-narrow (is_open v) vs (second_true (texts_of v) (list_all texts_of vs) h))
-
-sections-few : (before : Bool) (vs : List SectionView) → length (sections_rows (shown_sections before vs)) ≤ 2 * sum_by size_of vs + length vs
-unfolding shown_sections sections_rows
-sections-few before [] = omega arith
-sections-few before (v ∷ vs) =
-    let b = is_section_visible before v.section.now (is_first_open vs) in
-    omega (arith, length-sections (shown_section b v) (shown_sections (is_open v) vs), shown-few b v, sections-few (is_open v) vs, sum_by-cons size_of v vs)
-
-file-few : (v : FileView) → IsShortFile v → length (file_rows (shown_file v)) ≤ 2 ^ 42
-unfolding file_rows shown_file sections_rows
-file-few v h = go (is_fold_open v.expand_box) (sections-few false v.section_views) h.lines
-  where
-    go : (b : Bool) → length (sections_rows (shown_sections false v.section_views)) ≤ 2 * sum_by size_of v.section_views + length v.section_views → length v.section_views + sum_by size_of v.section_views ≤ 2 ^ 40
-        → suc (length (sections_rows (if b then shown_sections false v.section_views else []))) ≤ 2 ^ 42
-    go true k l = omega (arith, k, l)
-    go false k l = omega arith
-
-file-narrow : (v : FileView) → IsShortFile v → IsNarrowFile (shown_file v)
-unfolding shown_file
-file-narrow v h = record {
-  heading = heading-narrow (shown_file v).heading (path-narrow (lent_text v.old_path) v.path.now h.old_path h.path);
-  sections = shown_if-narrow (is_fold_open v.expand_box) (shown_sections false v.section_views) (sections-narrow false v.section_views h.texts);
-}
+file-tall : (v : FileView) → IsShortFile v → length (file_rows (shown_file v)) ≤ 2 ^ 42
+file-tall v h =
+    let lines : length v.section_views + sum_by size_of v.section_views ≤ 2 ^ 40 = h.lines in
+    omega (arith, file-few v, lines)
 
 file-here : (v : FileView) (s : Sight) (x y : ℤ) → SightIsInDrawBounds s → IsInDrawBounds x → IsInDrawBounds y → IsShortFile v → PictureInRange (file_picture v s x y)
 unfolding file_picture
 file-here v s x y n p q h =
-    let narrow = file-narrow v h in
-    file-near (shown_file v) s x y (sight-near s n) (near x p) (near-after x 2 p (omega arith)) (near y q) (near-after y _ q (omega (arith, file-few v h))) narrow.heading narrow.sections
+    let narrow = file-narrow v h.old_path h.path h.texts in
+    file-near (shown_file v) s x y (sight-near s n) (still-near x p) (near-after x 2 p (omega arith)) (still-near y q) (near-after y _ q (omega (arith, file-tall v h))) narrow.heading narrow.sections
 
 -- ---- commits
 
 message-here : (commit : ℕ) (m : Option (List ℕ)) (s : Sight) (x y : ℤ) → SightIsInDrawBounds s → IsInDrawBounds x → IsInDrawBounds y → is_short_option m ≡ true → PictureInRange (message_picture commit m s x y)
-message-here commit m s x y n p q h = message-near commit m s x y (sight-near s n) (near x p) (near y q) (near-after y 1 q (omega arith)) (message-narrow m h)
+message-here commit m s x y n p q h = message-near commit m s x y (sight-near s n) (still-near x p) (still-near y q) (near-after y 1 q (omega arith)) (message-narrow m h)
 
 files-narrow : (vs : List FileView) → AreShortFiles vs → AreNarrowFiles (map shown_file vs)
 files-narrow [] h = tt
-files-narrow (v ∷ vs) h = (file-narrow v h.0, files-narrow vs h.1)
+files-narrow (v ∷ vs) h = (file-narrow v h.0.old_path h.0.path h.0.texts, files-narrow vs h.1)
 
 files-few : (vs : List FileView) → AreShortFiles vs → length (files_rows (map shown_file vs)) ≤ 4398046511104 * length vs
 unfolding files_rows
 files-few [] h = omega arith
-files-few (v ∷ vs) h = omega (arith, length-append (file_rows (shown_file v)) (files_rows (map shown_file vs)), file-few v h.0, files-few vs h.1)
+files-few (v ∷ vs) h = omega (arith, length-append (file_rows (shown_file v)) (files_rows (map shown_file vs)), file-tall v h.0, files-few vs h.1)
 
 commit-here : (v : CommitView) (s : Sight) (x y : ℤ) → SightIsInDrawBounds s → IsInDrawBounds x → IsInDrawBounds y → IsShortCommit v → PictureInRange (commit_picture v s x y)
 unfolding commit_picture
@@ -198,12 +164,12 @@ items-wide : (ts : List MenuItem) → list_all is_short_item ts ≡ true → wid
 unfolding widest_item
 items-wide [] h = omega arith
 items-wide (t ∷ ts) h =
-    omega (arith, button-wide (item_button 0 t) (first_true (is_short_item t) (list_all is_short_item ts) h), items-wide ts (second_true (is_short_item t) (list_all is_short_item ts) h))
+    omega (arith, button-wide (item_button 0 t) (and_parts (is_short_item t) (list_all is_short_item ts) h).0, items-wide ts (and_parts (is_short_item t) (list_all is_short_item ts) h).1)
 
 menu-items : (m : Menu) → is_short_menu m ≡ true → (widest_item m.items ≤ 5000000) × (length m.items ≤ 1000)
 menu-items m h =
-    let rest = second_true (is_short_text m.label) (nat_le (length m.items) 1000 && list_all is_short_item m.items) h in
-    (items-wide m.items (second_true (nat_le (length m.items) 1000) (list_all is_short_item m.items) rest), few (length m.items) (first_true (nat_le (length m.items) 1000) (list_all is_short_item m.items) rest))
+    let rest = (and_parts (is_short_text m.label) (nat_le (length m.items) 1000 && list_all is_short_item m.items) h).1 in
+    (items-wide m.items (and_parts (nat_le (length m.items) 1000) (list_all is_short_item m.items) rest).1, few (length m.items) (and_parts (nat_le (length m.items) 1000) (list_all is_short_item m.items) rest).0)
 
 menu-in : (m : Menu) (s : Sight) (x y : ℤ) → IsInDrawBounds x → IsInDrawBounds y → is_short_menu m ≡ true → PictureInRange (menu_picture m.items s x y)
 menu-in m s x y p q h =
@@ -211,27 +177,27 @@ menu-in m s x y p q h =
     menu-here s x y m.items p.low (omega (arith, places, p.high)) q.low (omega (arith, places, q.high)) (omega (arith, items.0)) (omega (arith, items.1))
 
 header-wide : (m : Menu) → is_short_menu m ≡ true → header_step m ≤ 5000001
-header-wide m h = omega (arith, button-wide (header_button 0 m) (first_true (is_short_text m.label) (nat_le (length m.items) 1000 && list_all is_short_item m.items) h))
+header-wide m h = omega (arith, button-wide (header_button 0 m) (and_parts (is_short_text m.label) (nat_le (length m.items) 1000 && list_all is_short_item m.items) h).0)
 
 headers-wide : (ms : List Menu) → list_all is_short_menu ms ≡ true → headers_width ms ≤ 5000001 * length ms
 unfolding headers_width
 headers-wide [] h = omega arith
 headers-wide (m ∷ ms) h =
-    omega (arith, header-wide m (first_true (is_short_menu m) (list_all is_short_menu ms) h), headers-wide ms (second_true (is_short_menu m) (list_all is_short_menu ms) h))
+    omega (arith, header-wide m (and_parts (is_short_menu m) (list_all is_short_menu ms) h).0, headers-wide ms (and_parts (is_short_menu m) (list_all is_short_menu ms) h).1)
 
 opened-few : (c : ℕ) (ms : List Menu) (k : Option ℕ) → list_all is_short_menu ms ≡ true → c + headers_width ms ≤ 2 ^ 50 → IsFewItems (open_menu_with_column c ms k)
 unfolding open_menu_with_column headers_width
 opened-few c ms None h w = tt
 opened-few c [] (Some k) h w = tt
 opened-few c (m ∷ ms) (Some zero) h w =
-    let items = menu-items m (first_true (is_short_menu m) (list_all is_short_menu ms) h) in
+    let items = menu-items m (and_parts (is_short_menu m) (list_all is_short_menu ms) h).0 in
     (omega (arith, w), (omega (arith, items.0), omega (arith, items.1)))
-opened-few c (m ∷ ms) (Some (suc k)) h w = opened-few (c + header_step m) ms (Some k) (second_true (is_short_menu m) (list_all is_short_menu ms) h) (omega (arith, w))
+opened-few c (m ∷ ms) (Some (suc k)) h w = opened-few (c + header_step m) ms (Some k) (and_parts (is_short_menu m) (list_all is_short_menu ms) h).1 (omega (arith, w))
 
 bar-in : (b : MenuBar) (s : Sight) (x y : ℤ) → RectIsInDrawBounds s.rect → IsInDrawBounds x → IsInDrawBounds y → is_short_bar b ≡ true → PictureInRange (menu_bar_picture b s x y)
 bar-in b s x y r p q h =
-    let menus = second_true (nat_le (length b.menus) 1000) (list_all is_short_menu b.menus) h in
-    let count = few (length b.menus) (first_true (nat_le (length b.menus) 1000) (list_all is_short_menu b.menus) h) in
+    let menus = (and_parts (nat_le (length b.menus) 1000) (list_all is_short_menu b.menus) h).1 in
+    let count = few (length b.menus) (and_parts (nat_le (length b.menus) 1000) (list_all is_short_menu b.menus) h).0 in
     let wide = headers-wide b.menus menus in
     bar-here b s x y r p q (omega (arith, wide, count)) (opened-few 0 b.menus b.expanded_menu_idx menus (omega (arith, wide, count)))
 
@@ -241,11 +207,11 @@ columns-few : (bs : List (Button ComponentId)) → list_all is_short_button bs �
 unfolding button_columns
 columns-few [] h = omega arith
 columns-few (b ∷ bs) h =
-    omega (arith, button-wide b (first_true (is_short_button b) (list_all is_short_button bs) h), columns-few bs (second_true (is_short_button b) (list_all is_short_button bs) h))
+    omega (arith, button-wide b (and_parts (is_short_button b) (list_all is_short_button bs) h).0, columns-few bs (and_parts (is_short_button b) (list_all is_short_button bs) h).1)
 
 buttons-few : (bs : List (Button ComponentId)) → are_short_buttons bs ≡ true → button_columns bs ≤ 2 ^ 50
 buttons-few bs h =
-    omega (arith, columns-few bs (second_true (nat_le (length bs) 1000) (list_all is_short_button bs) h), few (length bs) (first_true (nat_le (length bs) 1000) (list_all is_short_button bs) h))
+    omega (arith, columns-few bs (and_parts (nat_le (length bs) 1000) (list_all is_short_button bs) h).1, few (length bs) (and_parts (nat_le (length bs) 1000) (list_all is_short_button bs) h).0)
 
 quit-here : (q : QuitDialog) (s : Sight) → RectIsInDrawBounds s.rect → PictureInRange (named_dialog_picture (quit_dialog q) s)
 unfolding named_dialog_picture
@@ -256,10 +222,6 @@ unfolding named_dialog_picture
 help-here s r = PictureInRange-as_part ids.HelpDialog _ (dialog-here help_dialog s r (omega (arith, short_help)))
 
 -- ---- all that the selector shows
-
-few-views : (mode : CommitViewMode) (vs : List CommitView) → length (take (view_count mode) vs) ≤ 2
-few-views Inline vs = omega (arith, length-take 1 vs)
-few-views Adjacent vs = omega (arith, length-take 2 vs)
 
 held-here : (x a e : ℤ) → IsInDrawBounds x → IsInDrawBounds a → IsInDrawBounds e → IsInDrawBounds (int_min (int_max x a) e)
 held-here x a e p q r = record { low = omega (arith, places, p.low, q.low, r.low); high = omega (arith, places, r.high) }
@@ -287,9 +249,8 @@ two-views (v ∷ (u ∷ [])) s x n l h w p =
 two-views (v ∷ (u ∷ (t ∷ vs))) s x n l h w p = absurd (omega (arith, l))
 
 commits-taken : (k : ℕ) (vs : List CommitView) → AreShortCommits vs → AreShortCommits (take k vs)
-commits-taken zero vs h = tt
-commits-taken (suc k) [] h = tt
 commits-taken (suc k) (v ∷ vs) h = (h.0, commits-taken k vs h.1)
+commits-taken _ _ h = tt
 
 least-width : (w n : ℕ) → n ≤ w - 1 → min 120 n ≤ w
 least-width w n h = omega (arith, h)

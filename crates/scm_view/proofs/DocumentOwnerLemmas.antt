@@ -109,22 +109,14 @@ no-message w commit y z x = refl
 
 -- a part of a file is one of the document
 part-file : (i : ComponentId) (k : FileKey) → file_of i ≡ Some k → part_of i ≡ Body
-part-file ids.App k e = absurd (cc e)
 part-file ids.AppFiles k e = refl
-part-file ids.MenuBar k e = absurd (cc e)
-part-file ids.MenuHeader k e = absurd (cc e)
-part-file (ids.Menu n) k e = absurd (cc e)
-part-file (ids.MenuItem n) k e = absurd (cc e)
 part-file ids.CommitMessageView k e = refl
 part-file (ids.CommitEditMessageButton n) k e = refl
 part-file (ids.FileViewHeader n) k e = refl
 part-file (ids.SelectableItem n) k e = refl
 part-file (ids.ToggleBox n) k e = refl
 part-file (ids.ExpandBox n) k e = refl
-part-file ids.QuitDialog k e = absurd (cc e)
-part-file (ids.QuitDialogButton b) k e = absurd (cc e)
-part-file ids.HelpDialog k e = absurd (cc e)
-part-file ids.HelpDialogQuitButton k e = absurd (cc e)
+part-file _ k e = absurd (cc e)
 
 part-message : (commit : ℕ) (i : ComponentId) → IsOfMessage commit i → IsPart Body i
 part-message commit i (inl e) = ap part_of e
@@ -168,12 +160,6 @@ module _ (same : ComponentId → ComponentId → Bool) (law : IsLawful same) whe
       ∙ two_assoc (owner_at pinned (pos m) (pos z) x) (owner_at rest (pos k) (pos z) x) (owner_at above (pos top) (pos z) x)
       ∙ ap (first_of_two (owner_at pinned (pos m) (pos z) x)) (both-owners above rest (pos top) (pos k) (pos z) x (ap (λ j. pos top +ℤ pos j) n))))
 
-  -- the boxes of a document own what its layers say, wherever no id of the document is drawn again later
-  pub document-owns : (d : Document) (s : Sight) (w h m top : ℕ) → 10 ≤ w → IsOpen s w → mask_row s ≡ pos m → HasItsIds d
-      → (rep : ComponentId → Bool) → ((i : ComponentId) → IsPart Body i → rep i ≡ false) → (z x : ℕ) → x < w
-      → hit same is_clickable rep (document_picture d s (pos 0) (pos top)).boxes (pos z) (pos x) ≡ owned_by (document_layers w h m top d ++ pinned_layer w m top d ∷ []) z x
-  document-owns d s w h m top fits o row e rep live z x within = body-owns d.commit d.message d.files s w h m top fits o row e rep live z x within
-
   below-ids : (commit : ℕ) (fs : List ShownFile) (s : Sight) (w m top k : ℕ) → 10 ≤ w → IsOpen s w → mask_row s ≡ pos m → AreFilesOf commit 0 fs → Each (IsPart Body) (body_picture fs s (pos 0) (pos top) (pos k)).boxes
   below-ids commit [] s w m top k fits o row e = rw (no_files-none s (pos 0) (pos top)) tt
   below-ids commit (f ∷ fs) s w m top k fits o row e =
@@ -194,7 +180,7 @@ module _ (same : ComponentId → ComponentId → Bool) (law : IsLawful same) whe
   unfolding part
   body-owners d w h s fits high e rep live y x within =
       hit_still same is_clickable rep (ids.AppFiles, box_rect (document_picture d (body_sight w h s) (pos 0) (pos 1))) (document_picture d (body_sight w h s) (pos 0) (pos 1)).boxes (pos y) (pos x) refl
-      ∙ document-owns same law d (body_sight w h s) w (h - 1) (s + 1) 1 fits (open-below w h s) (row-below w h s) e rep live y x within
+      ∙ body-owns same law d.commit d.message d.files (body_sight w h s) w (h - 1) (s + 1) 1 fits (open-below w h s) (row-below w h s) e rep live y x within
 
   pub body-ids : (d : Document) (w h s : ℕ) → 10 ≤ w → HasItsIds d → Each (IsPart Body) (document_part d w h s).boxes
   unfolding part

@@ -1,6 +1,6 @@
 -- A part of a document that covers a screen shows on it what the document shows.
 use Rattle.std.proofs.Common.{◌≡◌, ℕ, zero, suc, ◌+◌, ◌-◌, ◌<◌, ◌≤◌, ⊎_elim, min, Bool, true, false, List, length, map, get_or, refl, sym, ap, ap₂, ◌∙◌, arith}
-use Rattle.std.specs.Prelude.{Option, Some, None, if◌then◌else◌}
+use Rattle.std.specs.Prelude.{Option, None, if◌then◌else◌}
 use Rattle.std.proofs.lemmas.List.{length-map, get_or-append_right}
 use Rattle.scm_render.specs.Canvas.{Row}
 use Rattle.scm_overlay.specs.declared.quit_dialog.QuitDialog.{QuitDialog}
@@ -15,6 +15,7 @@ use Rattle.scm_document.specs.DocumentParts.{files_to, files_from, rows_left_out
 use Rattle.scm_document.proofs.SameWindowLemmas.{drawn_by, as_it_is}
 use Rattle.scm_view.proofs.SameWindowLemmas.{shows_of, Alike, windows-alike}
 use Rattle.scm_document.proofs.LeftOutLemmas.{to-rows, to-pinned, pinned-moved, from-pinned, from-rows, out-to, some-of, some-to, some-from, to-none, none-out, from-none}
+use Rattle.scm_document.proofs.DocumentLemmas.{length-message}
 
 -- ---- the window of a session is the window of its document
 
@@ -24,13 +25,8 @@ window-of w h s shown = refl
 
 -- ---- the rows of a message
 
-message-length : (w commit : ℕ) (message : Option (List ℕ)) → length (message_strips w commit message) ≡ message_height message
-unfolding message_strips
-message-length w commit None = refl
-message-length w commit (Some message) = refl
-
 shows-length : (w commit : ℕ) (message : Option (List ℕ)) → length (map shows_of (message_strips w commit message)) ≡ message_height message
-shows-length w commit message = length-map (message_strips w commit message) shows_of ∙ message-length w commit message
+shows-length w commit message = length-map (message_strips w commit message) shows_of ∙ length-message w commit message
 
 -- ---- one cut at a time
 
@@ -42,7 +38,7 @@ below-alike : (w h s k b : ℕ) (d : Document) → 2 ≤ h → 0 < length d.file
     → min (s + h) (end_of_document d) ≤ 1 + (message_height d.message + length (files_rows (files_to k b d.files))) → Alike w h s s d (with_files d (files_to k b d.files))
 below-alike w h s k b d high some reach =
     let n = shows-length w d.commit d.message in
-    let m = message-length w d.commit d.message in
+    let m = length-message w d.commit d.message in
     record {
       some = some-of d.files some;
       others = some-of (files_to k b d.files) (some-to k b d.files some);
@@ -56,7 +52,7 @@ above-alike : (w h s i a : ℕ) (d : Document) → 0 < length d.files → 0 < le
 above-alike w h s i a d some others above =
     let M = map shows_of (message_strips w d.commit d.message) in
     let n = shows-length w d.commit d.message in
-    let m = message-length w d.commit d.message in
+    let m = length-message w d.commit d.message in
     let out = rows_left_out i a d.files in
     record {
       some = some-of d.files some;
@@ -75,7 +71,7 @@ unfolding message_strips
 message-alike w h s d some above =
     let M = map shows_of (message_strips w d.commit d.message) in
     let n = shows-length w d.commit d.message in
-    let m = message-length w d.commit d.message in
+    let m = length-message w d.commit d.message in
     record {
       some = some-of d.files some;
       others = some-of d.files some;
@@ -146,5 +142,4 @@ parts-show w h s p d menu quit help high seen =
     least : (i a : ℕ) → (0 < i + a → message_height d.message + (rows_left_out i a d.files + header_kept a) ≤ s) → message_height d.message ≤ s
         → rows_left_out i a (files_to p.last_file p.end_section d.files) ≡ rows_left_out i a d.files → message_height d.message ≤ s - rows_left_out i a (files_to p.last_file p.end_section d.files)
     least zero zero above h e = let none = none-out d.files in omega (arith, none, e, h)
-    least zero (suc a) above h e = let r = above (omega arith) in omega (arith, r, e)
-    least (suc i) a above h e = let r = above (omega arith) in omega (arith, r, e)
+    least _ _ above h e = let r = above (omega arith) in omega (arith, r, e)

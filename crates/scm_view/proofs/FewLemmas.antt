@@ -71,12 +71,7 @@ few-row v y n h = go (has_row v y) refl
 
 few-calls : (r : DocRow) → row_calls r ≤ 4
 few-calls (HeaderRow key h) = omega arith
-few-calls (SectionRow selected h) = omega arith
-few-calls (LineRow key b ts) = omega arith
-few-calls (MarkRow selected b t) = omega arith
-few-calls (ContextRow key ts) = omega arith
-few-calls (DotsRow t) = omega arith
-few-calls BlankRow = omega arith
+few-calls _ = omega arith
 
 few-to : (v : Rect) (x y z : ℤ) (c : Counts) → y ≡ z → Few v x y c → Few v x z c
 few-to v x y z c e p = rw e at p
@@ -185,11 +180,7 @@ document-few d s y = go (length d.files == 0) refl
         record { rows = omega (arith, message.rows, one, before-most v below); calls = omega (arith, message.calls, words.calls) }
       where
         row-most : (v : Rect) (z : ℤ) (n : ℕ) → (on_row v z (drawn 1 n)).rows ≤ 1
-        row-most v z n = at (has_row v z) refl
-          where
-            at : (b : Bool) → has_row v z ≡ b → (on_row v z (drawn 1 n)).rows ≤ 1
-            at true k = rw (on_row-shown v z (drawn 1 n) k) (omega arith)
-            at false k = rw (on_row-hidden v z (drawn 1 n) k) (omega arith)
+        row-most v z n = (elim (has_row v z) as (λ b. has_row v z ≡ b → (on_row v z (drawn 1 n)).rows ≤ 1) [ true ↦ (λ k. rw (on_row-shown v z (drawn 1 n) k) (omega arith)) | false ↦ (λ k. rw (on_row-hidden v z (drawn 1 n) k) (omega arith)) ]) refl
     go false e =
         let message = few-message d.message v y in
         let files = files-few d.files v (mask_row s) below in

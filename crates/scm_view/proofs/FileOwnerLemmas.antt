@@ -5,6 +5,7 @@ use Rattle.std.specs.Ordering.{int_eq}
 use Rattle.std.proofs.lemmas.Int.{ints}
 use Rattle.std.proofs.lemmas.Bool.Decides.{Decides-int_eq}
 use Rattle.std.proofs.lemmas.List.{length-map}
+use Rattle.std.proofs.lemmas.Bool.{or_right}
 use Rattle.scm_render.specs.Picture.{Box, nothing, followed_by, part, box_rect}
 use Rattle.scm_render.specs.Canvas.{Sight, under}
 use Rattle.scm_render.specs.Drawing.{span_picture}
@@ -46,47 +47,23 @@ key_file (selection.Line k) = Some (file_of_section (section_of_line k))
 
 -- the file of a part of the document
 abbrev pub file_of : ComponentId → Option FileKey
-file_of ids.App = None
-file_of ids.AppFiles = None
-file_of ids.MenuBar = None
-file_of ids.MenuHeader = None
-file_of (ids.Menu k) = None
-file_of (ids.MenuItem k) = None
-file_of ids.CommitMessageView = None
-file_of (ids.CommitEditMessageButton k) = None
 file_of (ids.FileViewHeader k) = Some k
 file_of (ids.SelectableItem k) = key_file k
 file_of (ids.ToggleBox k) = key_file k
 file_of (ids.ExpandBox k) = key_file k
-file_of ids.QuitDialog = None
-file_of (ids.QuitDialogButton b) = None
-file_of ids.HelpDialog = None
-file_of ids.HelpDialogQuitButton = None
+file_of _ = None
 
 key-file : (i : ComponentId) (k : SelectionKey) (m : SectionKey) → file_of i ≡ key_file k → section_of (ids.SelectableItem k) ≡ Some m → file_of i ≡ Some (file_of_section m)
-key-file i selection.None m f e = absurd (cc e)
-key-file i (selection.File k) m f e = absurd (cc e)
 key-file i (selection.Section k) m f e = let same : k ≡ m = cc e in f ∙ ap (λ k. Some (file_of_section k)) same
 key-file i (selection.Line k) m f e = let same : section_of_line k ≡ m = cc e in f ∙ ap (λ k. Some (file_of_section k)) same
+key-file i _ m f e = absurd (cc e)
 
 -- a part of a section is one of the section's file
 section-file : (i : ComponentId) (m : SectionKey) → section_of i ≡ Some m → file_of i ≡ Some (file_of_section m)
-section-file ids.App m e = absurd (cc e)
-section-file ids.AppFiles m e = absurd (cc e)
-section-file ids.MenuBar m e = absurd (cc e)
-section-file ids.MenuHeader m e = absurd (cc e)
-section-file (ids.Menu k) m e = absurd (cc e)
-section-file (ids.MenuItem k) m e = absurd (cc e)
-section-file ids.CommitMessageView m e = absurd (cc e)
-section-file (ids.CommitEditMessageButton k) m e = absurd (cc e)
-section-file (ids.FileViewHeader k) m e = absurd (cc e)
 section-file (ids.SelectableItem k) m e = key-file (ids.SelectableItem k) k m refl e
 section-file (ids.ToggleBox k) m e = key-file (ids.ToggleBox k) k m refl e
 section-file (ids.ExpandBox k) m e = key-file (ids.ExpandBox k) k m refl e
-section-file ids.QuitDialog m e = absurd (cc e)
-section-file (ids.QuitDialogButton b) m e = absurd (cc e)
-section-file ids.HelpDialog m e = absurd (cc e)
-section-file ids.HelpDialogQuitButton m e = absurd (cc e)
+section-file _ m e = absurd (cc e)
 
 -- one of the two boxes of a file's heading
 abbrev pub IsBoxOf : FileKey → ComponentId → Type 0
@@ -205,22 +182,10 @@ module _ (same : ComponentId → ComponentId → Bool) (law : IsLawful same) whe
   unfolding row_picture part has_id followed_by box_picture span_picture
   has-head k h s w y i fits o e p = rw (heading-boxes h s w 0 y (omega (arith, fits)) o) (go p)
     where
-      third : (a b : Bool) → (a || (b || (true || false))) ≡ true
-      third true b = refl
-      third false true = refl
-      third false false = refl
-
-      second : (a c : Bool) → (a || (true || c)) ≡ true
-      second true c = refl
-      second false c = refl
-
-      first : (c : Bool) → (true || c) ≡ true
-      first c = refl
-
       go : IsHeadOf k i → (same i (ids.FileViewHeader k) || (same i h.fold.id || (same i h.toggle.id || false))) ≡ true
       go (inl q) = let t : same i (ids.FileViewHeader k) ≡ true = rw q (law.self (ids.FileViewHeader k)) in rw t refl
-      go (inr (inl q)) = let t : same i h.toggle.id ≡ true = rw (q, e.toggle) (law.self (ids.ToggleBox (selection.File k))) in rw t (third (same i (ids.FileViewHeader k)) (same i h.fold.id))
-      go (inr (inr q)) = let t : same i h.fold.id ≡ true = rw (q, e.fold) (law.self (ids.ExpandBox (selection.File k))) in rw t (second (same i (ids.FileViewHeader k)) (same i h.toggle.id || false))
+      go (inr (inl q)) = let t : same i h.toggle.id ≡ true = rw (q, e.toggle) (law.self (ids.ToggleBox (selection.File k))) in rw t (or_right (same i (ids.FileViewHeader k)) (same i h.fold.id || (true || false)) (or_right (same i h.fold.id) (true || false) refl))
+      go (inr (inr q)) = let t : same i h.fold.id ≡ true = rw (q, e.fold) (law.self (ids.ExpandBox (selection.File k))) in rw t (or_right (same i (ids.FileViewHeader k)) (true || (same i h.toggle.id || false)) refl)
 
   -- the pinned header draws these ids again, and no others
   redrawn : (f : ShownFile) (b : Bool) (s : Sight) (w m : ℕ) (i : ComponentId) → 10 ≤ w → IsOpen s w → IsHeadingOf f.key f.heading → IsHeadOf f.key i
@@ -234,9 +199,6 @@ module _ (same : ComponentId → ComponentId → Bool) (law : IsLawful same) whe
 
   section-head : (k : FileKey) (i j : ComponentId) → IsSectionFrom k 0 i → IsHeadOf k j → same i j ≡ false
   section-head k i j p q = differ same law i j (λ e. let none = head-section k j q in let some = p.section in cc (none, some, ap section_of e))
-
-  file-head : (k : FileKey) (j : ComponentId) → IsHeadOf k j → same (file_id k) j ≡ false
-  file-head k j q = not-file same law k j (inl q)
 
   one_file-owns : (commit n : ℕ) (f : ShownFile) (s : Sight) (w m top : ℕ) (z : ℤ) (x : ℕ) (rep : ComponentId → Bool) → 10 ≤ w → IsOpen s w → mask_row s ≡ pos m → IsFileOf commit n f
       → ((i : ComponentId) → IsOfFile f.key i → rep i ≡ false) → x < w
@@ -254,7 +216,7 @@ module _ (same : ComponentId → ComponentId → Bool) (law : IsLawful same) whe
       (whole_file-owns same law commit n f b after (under (file_mask s (pos 0) (pos top)) s) w (pos top) z x fits (under-open s w (pos top) None o) e
       (λ i p. or-known (rep i) (has_id same i pinned.boxes) b (live i (head-file f.key i p)) (redrawn f b s w m i fits o e.heading p))
       (λ i p. or-known (rep i) (has_id same i pinned.boxes) false (live i (section-file i p.key p.section ∙ ap Some p.file)) (none_of same is_clickable (IsHeadOf f.key) i pinned.boxes (λ j q. section-head f.key i j p q) again.ids))
-      (or-known (rep (file_id f.key)) (has_id same (file_id f.key) pinned.boxes) false (live (file_id f.key) refl) (none_of same is_clickable (IsHeadOf f.key) (file_id f.key) pinned.boxes (λ j q. file-head f.key j q) again.ids))
+      (or-known (rep (file_id f.key)) (has_id same (file_id f.key) pinned.boxes) false (live (file_id f.key) refl) (none_of same is_clickable (IsHeadOf f.key) (file_id f.key) pinned.boxes (λ j q. not-file same law f.key j (inl q)) again.ids))
       within))
 
   file-part : (k : FileKey) (i : ComponentId) → IsHeadOf k i ⊎ IsSectionFrom k 0 i → IsOfFile k i

@@ -17,8 +17,6 @@ use Rattle.scm_render.proofs.HitLemmas.{two_none, two_assoc}
 use Rattle.scm_widgets.specs.declared.ids.ComponentId.{ComponentId}
 use Rattle.scm_widgets.specs.declared.ids.ComponentId.TheVariants as ids
 use Rattle.scm_view.specs.declared.app_view.AppView.{AppView}
-use Rattle.scm_view.specs.declared.frame_index.FrameIndex.{FrameIndex}
-use Rattle.scm_view.specs.Index.{HasParts, IsIndexOf}
 use Rattle.scm_document.specs.declared.commit_view.CommitView.{CommitView}
 use Rattle.scm_document.specs.declared.commit_view.CommitViewMode.{CommitViewMode}
 use Rattle.scm_document.specs.declared.file_view.FileView.{FileView}
@@ -30,6 +28,7 @@ use Rattle.scm_document.specs.declared.index_pieces.SectionPiece.{SectionPiece}
 use Rattle.scm_widgets.specs.Layers.{Strip, Layer, clear, is_within, strip_at, owned_by, end_of, rows_around}
 use Rattle.scm_widgets.specs.Screens.{screen}
 use Rattle.scm_rows.specs.Heights.{message_height}
+use Rattle.scm_rows.proofs.HeightLemmas.{message-le}
 use Rattle.scm_document.specs.Rows.{Document, document_of, shown_file, file_rows}
 use Rattle.scm_view.specs.ViewState.{ViewState, Shows}
 use Rattle.scm_view.specs.AppView.{ShowInOrder, has_help}
@@ -43,8 +42,7 @@ use Rattle.scm_overlay.specs.Menus.{menu_layer, open_menu}
 use Rattle.scm_overlay.specs.Tables.{menus_with, quit_dialog, help_dialog}
 use Rattle.scm_widgets.specs.OverlayRects.{is_from, overlay_owner}
 use Rattle.scm_document.specs.PieceOwners.{files_owner, rows_owner, sections_owner}
-use Rattle.scm_document.specs.declared.index_pieces.Piece.{Piece}
-use Rattle.scm_document.specs.Pieces.{files_of, files_pieces, piece_places, sections_of}
+use Rattle.scm_document.specs.Pieces.{files_pieces, piece_places}
 use Rattle.scm_document.specs.ViewPieces.{file_height, files_height, file_piece_list, sections_in_files}
 use Rattle.scm_document.specs.HeaderRects.{message_rects, pinned_rects}
 use Rattle.scm_overlay.specs.OverlayRects.{menu_bar_rects, quit_dialog_rects, help_dialog_rects, dialog_run, open_menu_height}
@@ -63,7 +61,7 @@ use Rattle.scm_widgets.proofs.ButtonLemmas.{no-owner}
 use Rattle.scm_document.proofs.DocumentLemmas.{length-message}
 use Rattle.scm_view.proofs.DocumentOwnerLemmas.{message-cell}
 use Rattle.scm_overlay.proofs.OverlayLemmas.{owned-append}
-use Rattle.scm_view.proofs.LimitLemmas.{session-few}
+use Rattle.scm_view.proofs.LimitLemmas.{few-rows}
 use Rattle.scm_view.proofs.SessionLemmas.{session-ids}
 use Rattle.scm_document.proofs.ViewPieceLemmas.{file-strips-length, owner_of, upper, lower, files-owned, file-height}
 use Rattle.scm_document.proofs.PieceLemmas.{files-places}
@@ -88,7 +86,7 @@ message-owner w commit y x None = no-message-strips w commit y x
 message-owner w commit y x (Some t) = message-button y x commit ∙ message-cell w commit t (pos 1) (pos y) x
 
 -- no file stands above the first
-files-above : (w m top y x : ℕ) (o : Option ComponentId) (vs : List FileView) → y < top → files_owner w (file_piece_list m top vs) o y x ≡ None
+pub files-above : (w m top y x : ℕ) (o : Option ComponentId) (vs : List FileView) → y < top → files_owner w (file_piece_list m top vs) o y x ≡ None
 files-above w m top y x o [] h = refl
 files-above w m top y x o (v ∷ vs) h =
     let out : is_from top (top + file_height v) y ≡ false = grind (arith, nat_tests, h) in
@@ -225,15 +223,11 @@ unfolding files_rows
 files-rows-height [] = refl
 files-rows-height (v ∷ vs) = length-append (file_rows (shown_file v)) (files_rows (map shown_file vs)) ∙ ap₂ (λ a b. a + b) (file-height v) (files-rows-height vs)
 
-message-few : (message : Option (List ℕ)) → message_height message ≤ 3
-message-few None = omega arith
-message-few (Some t) = omega arith
-
 pub index-few : (shown : ViewState) (v : CommitView) → is_accepted_state shown.state ≡ true → Shows v shown 0 → 1 + message_height (document_of v).message + files_height v.file_views < 2 ^ 62
 index-few shown v a shows =
-    let few = session-few shown 0 v a shows in
+    let few = few-rows shown 0 v a shows in
     let size = files-rows-height v.file_views in
-    let message = message-few (document_of v).message in
+    let message = message-le (document_of v).message in
     omega (arith, few, size, message)
 
 first-shows : (vs : List CommitView) (shown : ViewState) (v : CommitView) → ShowInOrder vs shown 0 → 1 ≤ length vs → v ≡ get_or vs 0 v → Shows v shown 0
@@ -323,9 +317,6 @@ unfolding around
 help-around w h s true r high = dialog-around w h s help_dialog r high
 help-around w h s false r high = refl
 
-bar-end : (w s : ℕ) (b : MenuBar) → end_of (menu_layer w s b) ≡ s + (1 + open_menu_height (open_menu b))
-bar-end w s b = length-bar w s b
-
 pub index-extent : (w h s : ℕ) (shown : ViewState) (v : CommitView) → Shows v shown 0 → 2 ≤ h
     → let b = menus_with shown.open_menu in
     let d = document_of v in
@@ -341,7 +332,7 @@ index-extent w h s shown v shows high =
     let help = help_layers w h s shown.is_help_open in
     let all : around (s, end_of (menu_layer w s b)) (rows ++ (quit ++ help)) ≡ joined_with (joined_with (joined (s, s + (1 + open_menu_height (open_menu b))) (document_run (h - 1) (message_height d.message) (length v.file_views == 0) (1 + message_height d.message + files_height v.file_views)))
     (option_map (λ q. dialog_run (screen w h s) (quit_dialog q)) shown.quit_dialog)) (if shown.is_help_open then Some (dialog_run (screen w h s) help_dialog) else None) =
-    ap (λ e. around (s, e) (rows ++ (quit ++ help))) (bar-end w s b)
+    ap (λ e. around (s, e) (rows ++ (quit ++ help))) (length-bar w s b)
     ∙ around-append rows (quit ++ help) _ ∙ ap (λ r. around r (quit ++ help)) (document-around w (h - 1) (s + 1) d.commit d.message v.file_views _)
     ∙ around-append quit help _ ∙ ap (λ r. around r help) (quit-around w h s shown.quit_dialog _ high) ∙ help-around w h s shown.is_help_open _ high in
     ap (λ (r : ℕ × ℕ). r.1 - r.0) (sym all ∙ around-is (rows ++ (quit ++ help)) s (end_of (menu_layer w s b)))
@@ -394,15 +385,3 @@ answers-extent w h s a shown v run below n e none quit help plain shows er eb en
     (option_map (λ q. dialog_run (screen w h s) (quit_dialog q)) shown.quit_dialog)) (if shown.is_help_open then Some (dialog_run (screen w h s) help_dialog) else None) =
     er ∙ ap₂ joined_with (ap₂ joined_with (ap₂ joined (ap (λ z. (s, z)) bar) doc) q) k in
     ap (λ (r : ℕ × ℕ). r.1 - r.0) all ∙ index-extent w h s shown v shows plain.high
-
--- an index with these parts answers by them
-pub of-parts : (w h s : ℕ) (shown : ViewState) (rs : List OverlayRect) (ps : List Piece) (n : ℕ) (i : FrameIndex) → HasParts w h s rs ps n i
-    → ((y x : ℕ) → (if nat_lt x w then first_of_two (overlay_owner rs y x) (rows_owner w (files_of ps) (sections_of ps) y x) else None) ≡ (if nat_lt x w then owner w h s shown y x else None))
-    → ((k : SelectionKey) → rows_of_key k (flat_map piece_places ps) ≡ span shown k) → n ≡ extent w h s shown
-    → IsIndexOf w h s shown i
-of-parts w h s shown rs ps n i has own keys all = record {
-  near = has.near;
-  owner = λ y x. rw (has.width, has.rects, has.pieces) (own y x);
-  span = λ k. ap (λ (qs : List Piece). rows_of_key k (flat_map piece_places qs)) has.pieces ∙ keys k;
-  extent = has.extent ∙ all;
-}

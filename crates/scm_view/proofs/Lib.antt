@@ -24,5 +24,3 @@ pub mod MovedLemmas
 pub mod PaintPartLemmas
 pub mod SameWindowLemmas
 pub mod DocumentPartLemmas
--- the pieces near the screen own what all pieces do on its rows
-pub mod NearPieceLemmas

@@ -1,5 +1,5 @@
 -- From the limits of an accepted state: how many rows its document has, and that each text of it is narrow.
-use Rattle.std.proofs.Common.{◌≡◌, ℕ, zero, suc, ◌+◌, ◌-◌, ◌*◌, ◌/◌, ◌%◌, ◌≤◌, ◌^◌, Bool, true, false, cond, ◌==◌, ℤ, List, [], ◌∷◌, ◌++◌, length, length-append, take, drop, map, refl, ap, arith}
+use Rattle.std.proofs.Common.{◌≡◌, ℕ, zero, suc, ◌+◌, ◌-◌, ◌*◌, ◌/◌, ◌%◌, ◌≤◌, ◌^◌, Bool, true, false, cond, ◌==◌, ℤ, List, [], ◌∷◌, ◌++◌, length, length-append, take, drop, map, refl, ap, ◌∙◌, arith}
 use Rattle.std.specs.Prelude.{◌&&◌, if◌then◌else◌, nat_le, sum_by, Option, Some, None, codes, encode_utf8_all, decimal, option_map}
 use Rattle.std.specs.Char.{encode_utf8, is_whitespace}
 use Rattle.std.specs.Fmt.{digits, digits_onto, digit_glyph}
@@ -8,6 +8,8 @@ use Rattle.std.specs.Str.{trim, trim_start, trim_end, chars, chars_after, skip_l
 use Rattle.std.proofs.lemmas.List.Sums.{sum_by-cons}
 use Rattle.std.proofs.lemmas.List.{length-take}
 use Rattle.std.proofs.lemmas.Str.{length-encode, len_utf8_bounds}
+use Rattle.std.proofs.lemmas.Bool.Decides.{nat_tests}
+use Rattle.std.proofs.lemmas.Bool.{cond_both, and_parts, leb-true}
 use Rattle.scm_types.proofs.LimitLemmas.{items_room, scroll_room}
 use Rattle.scm_types.specs.declared.file.File.{File}
 use Rattle.scm_types.specs.declared.line.SectionChangedLine.{SectionChangedLine}
@@ -37,44 +39,34 @@ use Rattle.scm_document.specs.declared.section_view.SectionView.{SectionView}
 use Rattle.scm_document.specs.declared.commit_view.CommitView.{CommitView}
 use Rattle.scm_widgets.specs.Texts.{icon_text, bracketed, box_text}
 use Rattle.scm_document.specs.Texts.{path_text, section_text, mode_change_text, binary_text, number_text, sign_text, dots_text, message_text}
-use Rattle.scm_rows.specs.Context.{are_all_shown, first_below, has_dots, is_first, lines_above, lines_height}
-use Rattle.scm_rows.specs.Heights.{is_section_visible, message_height}
-use Rattle.scm_document.specs.Rows.{Document, Heading, DocRow, DotsRow, BlankRow, ShownSection, line_texts, line_box, section_box, rows_below, shown_lines, context_rows, section_height, changed_rows, numbered_rows, rows_of, section_rows, is_open, is_first_open, shown_section, shown_sections, sections_rows, shown_file, lent_text, file_rows, document_of, line_number, section_heading, place_of}
+use Rattle.scm_rows.specs.Context.{first_below, has_dots, lines_above}
+use Rattle.scm_rows.specs.Heights.{is_section_visible}
+use Rattle.scm_document.specs.Rows.{Document, Heading, DocRow, DotsRow, BlankRow, ShownSection, line_texts, line_box, section_box, rows_below, shown_lines, context_rows, changed_rows, numbered_rows, rows_of, section_rows, is_open, is_first_open, shown_section, shown_sections, sections_rows, shown_file, lent_text, file_rows, document_of, line_number, section_heading, place_of}
 use Rattle.scm_widgets.specs.Boxes.{IdBox, is_fold_open}
 use Rattle.scm_document.specs.FilesRows.{files_rows}
 use Rattle.scm_document.specs.Pictures.{commit_picture}
 use Rattle.scm_types.specs.Keys.{section_key_of}
 use Rattle.scm_rows.specs.Lines.{old_lines}
+use Rattle.scm_rows.proofs.HeightLemmas.{height-le}
 use Rattle.scm_view.specs.ViewState.{ViewState, Shows, borrow_of, Totals, totals_of, section_view_of, section_views_of, file_view_of, file_views_of, commit_at, commit_view_of}
 use Rattle.scm_document.specs.ScrollBounds.{IsInScrollBounds, SightIsInScrollBounds}
 use Rattle.scm_widgets.specs.DrawBounds.{IsInDrawBounds}
 use Rattle.scm_document.specs.DrawBounds.{SightIsInDrawBounds}
 use Rattle.scm_document.proofs.Near.{IsNarrow, IsNarrowBox, IsNarrowHeading, AreNarrow, AreNarrowSections, IsNarrowFile, AreNarrowFiles, IsNarrowMessage, IsNarrowDocument}
-use Rattle.scm_document.proofs.SectionsLemmas.{at_most, height-of, length-sections}
+use Rattle.scm_document.proofs.SectionsLemmas.{height-of, length-sections}
 use Rattle.scm_document.proofs.NearLemmas.{document-near}
+use Rattle.scm_document.specs.declared.file_view.FileView.{FileView}
 
 -- ---- tests that pass
 
-pub first_true : (a b : Bool) → (a && b) ≡ true → a ≡ true
-first_true true b h = refl
-first_true false b h = absurd (cc h)
-
-pub second_true : (a b : Bool) → (a && b) ≡ true → b ≡ true
-second_true true b h = h
-second_true false b h = absurd (cc h)
-
-within : (n m : ℕ) → nat_le n m ≡ true → n ≤ m
-within n m h = grind (arith, h)
-
 all-take : {X : Type 0} (p : X → Bool) (n : ℕ) (xs : List X) → list_all p xs ≡ true → list_all p (take n xs) ≡ true
-all-take p zero xs h = refl
-all-take p (suc n) [] h = refl
-all-take p (suc n) (x ∷ xs) h = rw (first_true (p x) (list_all p xs) h) (all-take p n xs (second_true (p x) (list_all p xs) h))
+all-take p (suc n) (x ∷ xs) h = rw (and_parts (p x) (list_all p xs) h).0 (all-take p n xs (and_parts (p x) (list_all p xs) h).1)
+all-take p _ _ h = refl
 
 all-drop : {X : Type 0} (p : X → Bool) (n : ℕ) (xs : List X) → list_all p xs ≡ true → list_all p (drop n xs) ≡ true
 all-drop p zero xs h = h
 all-drop p (suc n) [] h = refl
-all-drop p (suc n) (x ∷ xs) h = all-drop p n xs (second_true (p x) (list_all p xs) h)
+all-drop p (suc n) (x ∷ xs) h = all-drop p n xs (and_parts (p x) (list_all p xs) h).1
 
 -- ---- lengths of texts
 
@@ -91,10 +83,9 @@ unfolding digits
 length-digits base upper n = omega (arith, length-digits_onto 64 base upper n [])
 
 length-chars_after : (n c : ℕ) (bs : List ℕ) → length (chars_after n c bs) ≤ length bs + 1
-length-chars_after zero c [] = omega arith
 length-chars_after zero c (b ∷ bs) = omega (arith, length-chars_after (continuation_len b) (lead_bits b) bs)
-length-chars_after (suc n) c [] = omega arith
 length-chars_after (suc n) c (b ∷ bs) = omega (arith, length-chars_after n (c * 64 + (b - 128)) bs)
+length-chars_after _ c _ = omega arith
 
 length-chars : (bs : List ℕ) → length (chars bs) ≤ length bs
 unfolding chars
@@ -107,11 +98,7 @@ length-encoded (c ∷ cs) = omega (arith, length-append (encode_utf8 c) (encode_
 
 length-skipped : (cs : List ℕ) → length (skip_leading_whitespace cs) ≤ length cs
 length-skipped [] = omega arith
-length-skipped (c ∷ cs) = go (is_whitespace c) (length-skipped cs)
-  where
-    go : (b : Bool) → length (skip_leading_whitespace cs) ≤ length cs → length (cond b (skip_leading_whitespace cs) (c ∷ cs)) ≤ suc (length cs)
-    go true h = omega (arith, h)
-    go false h = omega arith
+length-skipped (c ∷ cs) = (elim (is_whitespace c) as (λ b. length (skip_leading_whitespace cs) ≤ length cs → length (cond b (skip_leading_whitespace cs) (c ∷ cs)) ≤ suc (length cs)) [ true ↦ (λ h. omega (arith, h)) | false ↦ (λ h. omega arith) ]) (length-skipped cs)
 
 length-dropped : (cs : List ℕ) → length (drop_trailing_whitespace cs) ≤ length cs
 length-dropped [] = omega arith
@@ -178,7 +165,7 @@ mode-narrow (mode.Unix bits) = narrow-one (mode_change_text (mode.Unix bits)) (o
 mode-narrow mode.Absent = narrow-one (mode_change_text mode.Absent) (omega arith)
 
 pub short : (t : List ℕ) → is_short_text t ≡ true → length t ≤ max_text
-short t h = within (length t) max_text h
+short t h = leb-true (length t) max_text h
 
 binary-narrow : (old new : Option (List ℕ)) → is_short_option old ≡ true → is_short_option new ≡ true → IsNarrow (binary_text old new ∷ [])
 binary-narrow (Some old) (Some new) p q =
@@ -234,16 +221,16 @@ numbered-narrow : (v : SectionView) (i : ℕ) (ls : List (List ℕ)) → list_al
 unfolding numbered_rows
 numbered-narrow v i [] h = tt
 numbered-narrow v i (l ∷ ls) h = (
-  line-narrow (number_text (line_number v.line_start_num i)) l (length-number (line_number v.line_start_num i)) (first_true (is_short_text l) (list_all is_short_text ls) h),
-  numbered-narrow v (suc i) ls (second_true (is_short_text l) (list_all is_short_text ls) h),
+  line-narrow (number_text (line_number v.line_start_num i)) l (length-number (line_number v.line_start_num i)) (and_parts (is_short_text l) (list_all is_short_text ls) h).0,
+  numbered-narrow v (suc i) ls (and_parts (is_short_text l) (list_all is_short_text ls) h).1,
 )
 
 changed-narrow : (v : SectionView) (i : ℕ) (ls : List SectionChangedLine) → list_all (λ (l : SectionChangedLine). is_short_text l.line) ls ≡ true → AreNarrow (changed_rows v i ls)
 unfolding changed_rows
 changed-narrow v i [] h = tt
 changed-narrow v i (l ∷ ls) h = (
-  (box-narrow (line_box v i l.is_checked), line-narrow (sign_text l.change_type) l.line (length-sign l.change_type) (first_true (is_short_text l.line) (list_all (λ (k : SectionChangedLine). is_short_text k.line) ls) h)),
-  changed-narrow v (suc i) ls (second_true (is_short_text l.line) (list_all (λ (k : SectionChangedLine). is_short_text k.line) ls) h),
+  (box-narrow (line_box v i l.is_checked), line-narrow (sign_text l.change_type) l.line (length-sign l.change_type) (and_parts (is_short_text l.line) (list_all (λ (k : SectionChangedLine). is_short_text k.line) ls) h).0),
+  changed-narrow v (suc i) ls (and_parts (is_short_text l.line) (list_all (λ (k : SectionChangedLine). is_short_text k.line) ls) h).1,
 )
 
 dots_row-narrow : (b : Bool) (v : SectionView) → AreNarrow (if b then DotsRow (dots_text v.use_unicode) ∷ [] else [])
@@ -264,19 +251,15 @@ context-narrow v ls h = go (length ls == 0)
     go true = (tt, tt)
     go false = shown
 
-some-narrow : (b : Bool) (rs : List DocRow) → AreNarrow rs → AreNarrow (if b then rs else [])
-some-narrow true rs h = h
-some-narrow false rs h = tt
-
 pub heading-narrow : (h : Heading) → IsNarrow (h.title ∷ []) → IsNarrowHeading h
 heading-narrow h w = record { toggle = box-narrow h.toggle; fold = box-narrow h.fold; title = w }
 
 pub rows-narrow : (v : SectionView) (section : Section) → has_short_texts section ≡ true → AreNarrow (rows_of v section)
 rows-narrow v (Unchanged ls) h = context-narrow v ls h
 rows-narrow v (Changed ls) h =
-    (heading-narrow (section_heading v) (section-narrow v.editable_section_num v.total_num_editable_sections), some-narrow (is_fold_open v.expand_box) (changed_rows v 0 ls) (changed-narrow v 0 ls h))
+    (heading-narrow (section_heading v) (section-narrow v.editable_section_num v.total_num_editable_sections), cond_both (is_fold_open v.expand_box) (changed_rows v 0 ls) [] AreNarrow (λ _. changed-narrow v 0 ls h) (λ _. tt))
 rows-narrow v (FileMode checked m) h = ((box-narrow (section_box v checked), mode-narrow m), tt)
-rows-narrow v (Binary checked old new) h = ((box-narrow (section_box v checked), binary-narrow old new (first_true (is_short_option old) (is_short_option new) h) (second_true (is_short_option old) (is_short_option new) h)), tt)
+rows-narrow v (Binary checked old new) h = ((box-narrow (section_box v checked), binary-narrow old new (and_parts (is_short_option old) (is_short_option new) h).0 (and_parts (is_short_option old) (is_short_option new) h).1), tt)
 
 -- ---- narrow sections and files
 
@@ -289,29 +272,34 @@ unfolding section_rows
 shown-narrow true v h = (rows-narrow v v.section.now h, tt)
 shown-narrow false v h = tt
 
-sections-narrow : (s : ViewState) (totals : Totals) (k : FileKey) (before : Bool) (i editable line : ℕ) (sections : List Section) → list_all has_short_texts sections ≡ true
-    → AreNarrowSections (shown_sections before (section_views_of s totals k i editable line sections))
-unfolding shown_sections section_views_of
-sections-narrow s totals k before i editable line [] h = tt
-sections-narrow s totals k before i editable line (section ∷ more) h =
-    let v = section_view_of s totals (section_key_of k i) editable line section in
-    sections-append (shown_section _ v) _ (shown-narrow _ v (first_true (has_short_texts section) (list_all has_short_texts more) h))
-    (sections-narrow s totals k (is_open v) (suc i) _ _ more (second_true (has_short_texts section) (list_all has_short_texts more) h))
+abbrev pub texts_of : SectionView → Bool
+texts_of v = has_short_texts v.section.now
 
-pub shown_if-narrow : (b : Bool) (ps : List ShownSection) → AreNarrowSections ps → AreNarrowSections (if b then ps else [])
-shown_if-narrow true ps h = h
-shown_if-narrow false ps h = tt
+sections-narrow : (before : Bool) (vs : List SectionView) → list_all texts_of vs ≡ true → AreNarrowSections (shown_sections before vs)
+unfolding shown_sections
+sections-narrow before [] h = tt
+sections-narrow before (v ∷ vs) h =
+    sections-append (shown_section _ v) _ (shown-narrow _ v (and_parts (texts_of v) (list_all texts_of vs) h).0) (sections-narrow (is_open v) vs (and_parts (texts_of v) (list_all texts_of vs) h).1)
 
-file-narrow : (s : ViewState) (k : FileKey) (f : File) → has_short_texts_in_file f ≡ true → IsNarrowFile (shown_file (file_view_of s k f))
+pub file-narrow : (v : FileView) → is_short_option (lent_text v.old_path) ≡ true → is_short_text v.path.now ≡ true → list_all texts_of v.section_views ≡ true → IsNarrowFile (shown_file v)
 unfolding shown_file
-file-narrow s k f h =
-    let paths = first_true (is_short_option f.old_path && is_short_text f.path) (list_all has_short_texts f.sections) h in
-    let texts = second_true (is_short_option f.old_path && is_short_text f.path) (list_all has_short_texts f.sections) h in
-    let v = file_view_of s k f in
-    record {
-      heading = heading-narrow (shown_file v).heading (path-narrow (lent_text v.old_path) f.path (old f.old_path (first_true (is_short_option f.old_path) (is_short_text f.path) paths)) (second_true (is_short_option f.old_path) (is_short_text f.path) paths));
-      sections = shown_if-narrow (is_fold_open v.expand_box) (shown_sections false v.section_views) (sections-narrow s (totals_of f.sections) k false 0 0 0 f.sections texts);
-    }
+file-narrow v old path texts = record {
+  heading = heading-narrow (shown_file v).heading (path-narrow (lent_text v.old_path) v.path.now old path);
+  sections = cond_both (is_fold_open v.expand_box) (shown_sections false v.section_views) [] AreNarrowSections (λ _. sections-narrow false v.section_views texts) (λ _. tt);
+}
+
+texts-same : (s : ViewState) (totals : Totals) (k : FileKey) (i editable line : ℕ) (sections : List Section) → list_all texts_of (section_views_of s totals k i editable line sections) ≡ list_all has_short_texts sections
+unfolding section_views_of
+texts-same s totals k i editable line [] = refl
+texts-same s totals k i editable line (section ∷ more) =
+    ap (λ b. has_short_texts section && b) (texts-same s totals k (suc i) (if is_editable_section section then editable + 1 else editable) (line + old_lines section) more)
+
+session-file : (s : ViewState) (k : FileKey) (f : File) → has_short_texts_in_file f ≡ true → IsNarrowFile (shown_file (file_view_of s k f))
+session-file s k f h =
+    let paths = (and_parts (is_short_option f.old_path && is_short_text f.path) (list_all has_short_texts f.sections) h).0 in
+    let texts = (and_parts (is_short_option f.old_path && is_short_text f.path) (list_all has_short_texts f.sections) h).1 in
+    file-narrow (file_view_of s k f) (old f.old_path (and_parts (is_short_option f.old_path) (is_short_text f.path) paths).0) (and_parts (is_short_option f.old_path) (is_short_text f.path) paths).1
+    (texts-same s (totals_of f.sections) k 0 0 0 f.sections ∙ texts)
   where
     old : (o : Option (List ℕ)) → is_short_option o ≡ true → is_short_option (option_map (λ b. b.now) (option_map borrow_of o)) ≡ true
     old None h = refl
@@ -321,75 +309,59 @@ files-narrow : (s : ViewState) (commit i : ℕ) (fs : List File) → list_all ha
 unfolding file_views_of
 files-narrow s commit i [] h = tt
 files-narrow s commit i (f ∷ fs) h =
-    (file-narrow s (record { commit_idx = commit; file_idx = i }) f (first_true (has_short_texts_in_file f) (list_all has_short_texts_in_file fs) h), files-narrow s commit (suc i) fs (second_true (has_short_texts_in_file f) (list_all has_short_texts_in_file fs) h))
+    (session-file s (record { commit_idx = commit; file_idx = i }) f (and_parts (has_short_texts_in_file f) (list_all has_short_texts_in_file fs) h).0, files-narrow s commit (suc i) fs (and_parts (has_short_texts_in_file f) (list_all has_short_texts_in_file fs) h).1)
 
 -- ---- numbers of rows
 
-lines-few : (v : SectionView) (n : ℕ) → lines_height (place_of v) n ≤ 2 * n + 1
-lines-few v n = omega (arith, at_most (are_all_shown (place_of v) n) (is_first (place_of v)) n, one (has_dots (place_of v) n))
-  where
-    one : (b : Bool) → (if b then 1 else 0) ≤ 1
-    one true = omega arith
-    one false = omega arith
-
-rows-few : (v : SectionView) (section : Section) → section_height v section ≤ 2 * section_size section + 1
-rows-few v (Unchanged ls) = go (length ls == 0)
-  where
-    go : (b : Bool) → (if b then 1 else lines_height (place_of v) (length ls)) ≤ 2 * length ls + 1
-    go true = omega arith
-    go false = lines-few v (length ls)
-rows-few v (Changed ls) = go (is_fold_open v.expand_box)
-  where
-    go : (b : Bool) → (if b then 1 + length ls else 1) ≤ 2 * length ls + 1
-    go true = omega arith
-    go false = omega arith
-rows-few v (FileMode checked m) = omega arith
-rows-few v (Binary checked old new) = omega arith
-
 pub shown-few : (b : Bool) (v : SectionView) → length (sections_rows (shown_section b v)) ≤ 2 * section_size v.section.now + 1
 unfolding sections_rows section_rows
-shown-few true v = omega (arith, length-append (rows_of v v.section.now) [], height-of v v.section.now, rows-few v v.section.now)
+shown-few true v = omega (arith, length-append (rows_of v v.section.now) [], height-of v v.section.now, height-le (place_of v) (is_fold_open v.expand_box) v.section.now)
 shown-few false v = omega arith
 
-sections-few : (s : ViewState) (totals : Totals) (k : FileKey) (before : Bool) (i editable line : ℕ) (sections : List Section)
-    → length (sections_rows (shown_sections before (section_views_of s totals k i editable line sections))) ≤ 2 * sum_by section_size sections + length sections
-unfolding shown_sections section_views_of sections_rows
-sections-few s totals k before i editable line [] = omega arith
-sections-few s totals k before i editable line (section ∷ more) =
-    let v = section_view_of s totals (section_key_of k i) editable line section in
-    let rest = shown_sections (is_open v) (section_views_of s totals k (suc i) (if is_editable_section section then editable + 1 else editable) (line + old_lines section) more) in
-    let first = shown_section (is_section_visible before v.section.now (is_first_open (section_views_of s totals k (suc i) (if is_editable_section section then editable + 1 else editable) (line + old_lines section) more))) v in
-    omega (
-      arith,
-      length-sections first rest,
-      shown-few (is_section_visible before v.section.now (is_first_open (section_views_of s totals k (suc i) (if is_editable_section section then editable + 1 else editable) (line + old_lines section) more))) v,
-      sections-few s totals k (is_open v) (suc i) (if is_editable_section section then editable + 1 else editable) (line + old_lines section) more,
-      sum_by-cons section_size section more,
-    )
+abbrev pub size_of : SectionView → ℕ
+size_of v = section_size v.section.now
 
-file-few : (s : ViewState) (k : FileKey) (f : File) → length (file_rows (shown_file (file_view_of s k f))) ≤ 2 * file_size f + 1
+sections-few : (before : Bool) (vs : List SectionView) → length (sections_rows (shown_sections before vs)) ≤ 2 * sum_by size_of vs + length vs
+unfolding shown_sections sections_rows
+sections-few before [] = omega arith
+sections-few before (v ∷ vs) =
+    let b = is_section_visible before v.section.now (is_first_open vs) in
+    omega (arith, length-sections (shown_section b v) (shown_sections (is_open v) vs), shown-few b v, sections-few (is_open v) vs, sum_by-cons size_of v vs)
+
+pub file-few : (v : FileView) → length (file_rows (shown_file v)) ≤ 1 + (2 * sum_by size_of v.section_views + length v.section_views)
 unfolding file_rows shown_file sections_rows
-file-few s k f = go _ (sections-few s (totals_of f.sections) k false 0 0 0 f.sections)
+file-few v = go (is_fold_open v.expand_box) (sections-few false v.section_views)
   where
-    go : (b : Bool) → length (sections_rows (shown_sections false (section_views_of s (totals_of f.sections) k 0 0 0 f.sections))) ≤ 2 * sum_by section_size f.sections + length f.sections
-        → suc (length (sections_rows (if b then shown_sections false (section_views_of s (totals_of f.sections) k 0 0 0 f.sections) else []))) ≤ 2 * file_size f + 1
+    go : (b : Bool) → length (sections_rows (shown_sections false v.section_views)) ≤ 2 * sum_by size_of v.section_views + length v.section_views
+        → suc (length (sections_rows (if b then shown_sections false v.section_views else []))) ≤ 1 + (2 * sum_by size_of v.section_views + length v.section_views)
     go true h = omega (arith, h)
     go false h = omega arith
+
+-- the views of a session have its sections
+sizes-same : (s : ViewState) (totals : Totals) (k : FileKey) (i editable line : ℕ) (sections : List Section)
+    → 2 * sum_by size_of (section_views_of s totals k i editable line sections) + length (section_views_of s totals k i editable line sections) ≡ 2 * sum_by section_size sections + length sections
+unfolding section_views_of
+sizes-same s totals k i editable line [] = refl
+sizes-same s totals k i editable line (section ∷ more) =
+    let v = section_view_of s totals (section_key_of k i) editable line section in
+    let vs = section_views_of s totals k (suc i) (if is_editable_section section then editable + 1 else editable) (line + old_lines section) more in
+    let rest = sizes-same s totals k (suc i) (if is_editable_section section then editable + 1 else editable) (line + old_lines section) more in
+    omega (arith, sum_by-cons size_of v vs, sum_by-cons section_size section more, rest)
 
 files-few : (s : ViewState) (commit i : ℕ) (fs : List File) → length (files_rows (map shown_file (file_views_of s commit i fs))) ≤ 2 * sum_by file_size fs + length fs
 unfolding file_views_of files_rows
 files-few s commit i [] = omega arith
 files-few s commit i (f ∷ fs) =
     let k : FileKey = record { commit_idx = commit; file_idx = i } in
-    omega (arith, length-append (file_rows (shown_file (file_view_of s k f))) (files_rows (map shown_file (file_views_of s commit (suc i) fs))), file-few s k f, files-few s commit (suc i) fs, sum_by-cons file_size f fs)
+    omega (arith, length-append (file_rows (shown_file (file_view_of s k f))) (files_rows (map shown_file (file_views_of s commit (suc i) fs))), file-few (file_view_of s k f), sizes-same s (totals_of f.sections) k 0 0 0 f.sections, files-few s commit (suc i) fs, sum_by-cons file_size f fs)
 
 -- ---- an accepted state
 
 short-commit : (n : ℕ) (cs : List Commit) → list_all (λ (c : Commit). is_short_option c.message) cs ≡ true → is_short_option (commit_at n cs).message ≡ true
 unfolding commit_at
 short-commit n [] h = refl
-short-commit zero (c ∷ cs) h = first_true (is_short_option c.message) (list_all (λ (c : Commit). is_short_option c.message) cs) h
-short-commit (suc n) (c ∷ cs) h = short-commit n cs (second_true (is_short_option c.message) (list_all (λ (c : Commit). is_short_option c.message) cs) h)
+short-commit zero (c ∷ cs) h = (and_parts (is_short_option c.message) (list_all (λ (c : Commit). is_short_option c.message) cs) h).0
+short-commit (suc n) (c ∷ cs) h = short-commit n cs (and_parts (is_short_option c.message) (list_all (λ (c : Commit). is_short_option c.message) cs) h).1
 
 -- close places are here
 pub close-here : (z : ℤ) → IsInScrollBounds z → IsInDrawBounds z
@@ -397,6 +369,10 @@ close-here z c = record { low = omega (arith, places, c.low); high = omega (arit
 
 pub sight-here : (s : Sight) → SightIsInScrollBounds s → SightIsInDrawBounds s
 sight-here s c = record { x = close-here _ c.x; end_x = close-here _ c.end_x; mask_x = close-here _ c.mask_x; mask_y = close-here _ c.mask_y }
+
+-- an accepted state has few files, sections and lines
+pub state-few : (shown : ViewState) → is_accepted_state shown.state ≡ true → state_size shown.state ≤ max_items
+state-few shown a = grind (arith, nat_tests)
 
 -- the texts of an accepted state are narrow
 pub session-narrow : (shown : ViewState) (commit : ℕ) → is_accepted_state shown.state ≡ true → IsNarrowDocument (document_of (commit_view_of shown commit))
@@ -407,42 +383,20 @@ session-narrow shown commit a =
     let size = nat_le (state_size shown.state) max_items in
     let texts = list_all has_short_texts_in_file fs in
     let two = nat_le (length cs) 2 in
-    let first = first_true ((two && messages) && size) texts a in
-    record { message = message-narrow _ (short-commit commit cs (second_true two messages (first_true (two && messages) size first))); files = files-narrow shown commit 0 fs (second_true ((two && messages) && size) texts a) }
+    let first = (and_parts ((two && messages) && size) texts a).0 in
+    record { message = message-narrow _ (short-commit commit cs (and_parts two messages (and_parts (two && messages) size first).0).1); files = files-narrow shown commit 0 fs (and_parts ((two && messages) && size) texts a).1 }
 
 pub commits-in-range : (shown : ViewState) (commit : ℕ) (v : CommitView) (s : Sight) (x y : ℤ) → is_accepted_state shown.state ≡ true → Shows v shown commit
     → SightIsInScrollBounds s → IsInScrollBounds x → IsInScrollBounds y → PictureInRange (commit_picture v s x y)
 unfolding commit_picture
 commits-in-range shown commit v s x y a e c p q =
-    let cs = shown.state.commits in
-    let fs = shown.state.files in
-    let messages = list_all (λ (c : Commit). is_short_option c.message) cs in
-    let size = nat_le (state_size shown.state) max_items in
-    let texts = list_all has_short_texts_in_file fs in
-    let two = nat_le (length cs) 2 in
-    let first = first_true ((two && messages) && size) texts a in
-    let few : state_size shown.state ≤ max_items = within (state_size shown.state) max_items (second_true (two && messages) size first) in
-    rw e (document-near (document_of (commit_view_of shown commit)) s x y (sight-here s c) (close-here x p) (close-here y q) (omega (arith, files-few shown commit 0 fs, few, items_room))
-    (record { message = message-narrow _ (short-commit commit cs (second_true two messages (first_true (two && messages) size first))); files = files-narrow shown commit 0 fs (second_true ((two && messages) && size) texts a) }))
+    let few = state-few shown a in
+    rw e (document-near (document_of (commit_view_of shown commit)) s x y (sight-here s c) (close-here x p) (close-here y q)
+    (omega (arith, files-few shown commit 0 shown.state.files, few, items_room)) (session-narrow shown commit a))
 
 -- an accepted state has few rows
-pub few-rows : (shown : ViewState) (commit : ℕ) (v : CommitView) → is_accepted_state shown.state ≡ true → Shows v shown commit → length (files_rows (map shown_file v.file_views)) ≤ 2 ^ 42
+pub few-rows : (shown : ViewState) (commit : ℕ) (v : CommitView) → is_accepted_state shown.state ≡ true → Shows v shown commit → length (files_rows (document_of v).files) ≤ 2 ^ 42
 few-rows shown commit v a e =
-    let cs = shown.state.commits in
-    let fs = shown.state.files in
-    let messages = list_all (λ (c : Commit). is_short_option c.message) cs in
-    let size = nat_le (state_size shown.state) max_items in
-    let texts = list_all has_short_texts_in_file fs in
-    let two = nat_le (length cs) 2 in
-    let first = first_true ((two && messages) && size) texts a in
-    let few : state_size shown.state ≤ max_items = within (state_size shown.state) max_items (second_true (two && messages) size first) in
+    let few = state-few shown a in
     let same = ap (λ (d : Document). length (files_rows d.files)) e in
-    omega (arith, same, files-few shown commit 0 fs, few, items_room)
-
-pub message-most : (m : Option (List ℕ)) → message_height m ≤ 3
-message-most None = omega arith
-message-most (Some text) = omega arith
-
--- and a document of an accepted session too
-pub session-few : (shown : ViewState) (commit : ℕ) (v : CommitView) → is_accepted_state shown.state ≡ true → Shows v shown commit → length (files_rows (document_of v).files) ≤ 2 ^ 43
-session-few shown commit v a e = omega (arith, few-rows shown commit v a e)
+    omega (arith, same, files-few shown commit 0 shown.state.files, few, items_room)

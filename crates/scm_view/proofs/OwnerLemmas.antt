@@ -56,19 +56,11 @@ none-seen w z h =
 
 one-owner : (a b : Strip ComponentId) → ((x : ℕ) → a.owner x ≡ b.owner x) → (y z : ℤ) (x : ℕ) → (line clear (a ∷ []) y z).owner x ≡ (line clear (b ∷ []) y z).owner x
 unfolding line
-one-owner a b e y z x = go (int_eq z y)
-  where
-    go : (t : Bool) → (cond t a clear).owner x ≡ (cond t b clear).owner x
-    go true = e x
-    go false = refl
+one-owner a b e y z x = elim (int_eq z y) as (λ t. (cond t a clear).owner x ≡ (cond t b clear).owner x) [ true ↦ e x | false ↦ refl ]
 
 pub no-owner : (a : Strip ComponentId) → ((x : ℕ) → a.owner x ≡ None) → (y z : ℤ) (x : ℕ) → (line clear (a ∷ []) y z).owner x ≡ None
 unfolding line
-no-owner a e y z x = go (int_eq z y)
-  where
-    go : (t : Bool) → (cond t a clear).owner x ≡ None
-    go true = e x
-    go false = refl
+no-owner a e y z x = elim (int_eq z y) as (λ t. (cond t a clear).owner x ≡ None) [ true ↦ e x | false ↦ refl ]
 
 module _ (same : ComponentId → ComponentId → Bool) where
   pub owns-as : (w : ℕ) (P : ComponentId → Type 0) (m n : IdPicture) (y : ℤ) (ss ts : List (Strip ComponentId)) → m.boxes ≡ n.boxes
@@ -98,11 +90,7 @@ module _ (same : ComponentId → ComponentId → Bool) where
   -- a box owns its three columns
   cell : (b : IdBox) (c low high : ℕ) (y z : ℤ) (x : ℕ) → cond (int_eq z y && (nat_le c x && nat_lt x (c + 3))) (Some b.id) None ≡ (line clear (box_strip c b low high ∷ []) y z).owner x
   unfolding line
-  cell b c low high y z x = go (int_eq z y)
-    where
-      go : (t : Bool) → cond (t && (nat_le c x && nat_lt x (c + 3))) (Some b.id) None ≡ (cond t (box_strip c b low high) clear).owner x
-      go true = refl
-      go false = refl
+  cell b c low high y z x = elim (int_eq z y) as (λ t. cond (t && (nat_le c x && nat_lt x (c + 3))) (Some b.id) None ≡ (cond t (box_strip c b low high) clear).owner x) [ true ↦ refl | false ↦ refl ]
 
   box_owns : (b : IdBox) (s : Sight) (w c low high : ℕ) (y : ℤ) → is_clickable b.id ≡ true → Owns same w (IsId b.id) (box_part b s (pos c) y) y (box_strip c b low high ∷ [])
   unfolding part box_picture span_picture box_rect hit has_id
@@ -137,72 +125,31 @@ heading-boxes h s w c y some o =
 -- ---- whose the ids are
 
 abbrev key_section : SelectionKey → Option SectionKey
-key_section selection.None = None
-key_section (selection.File k) = None
 key_section (selection.Section k) = Some k
 key_section (selection.Line k) = Some (section_of_line k)
+key_section _ = None
 
 -- lines count from 1, and the section itself is 0
 abbrev key_rank : SelectionKey → ℕ
-key_rank selection.None = 0
-key_rank (selection.File k) = 0
-key_rank (selection.Section k) = 0
 key_rank (selection.Line k) = suc k.line_idx
+key_rank _ = 0
 
 abbrev pub section_of : ComponentId → Option SectionKey
-section_of ids.App = None
-section_of ids.AppFiles = None
-section_of ids.MenuBar = None
-section_of ids.MenuHeader = None
-section_of (ids.Menu k) = None
-section_of (ids.MenuItem k) = None
-section_of ids.CommitMessageView = None
-section_of (ids.CommitEditMessageButton k) = None
-section_of (ids.FileViewHeader k) = None
 section_of (ids.SelectableItem k) = key_section k
 section_of (ids.ToggleBox k) = key_section k
 section_of (ids.ExpandBox k) = key_section k
-section_of ids.QuitDialog = None
-section_of (ids.QuitDialogButton b) = None
-section_of ids.HelpDialog = None
-section_of ids.HelpDialogQuitButton = None
+section_of _ = None
 
 abbrev pub rank_of : ComponentId → ℕ
-rank_of ids.App = 0
-rank_of ids.AppFiles = 0
-rank_of ids.MenuBar = 0
-rank_of ids.MenuHeader = 0
-rank_of (ids.Menu k) = 0
-rank_of (ids.MenuItem k) = 0
-rank_of ids.CommitMessageView = 0
-rank_of (ids.CommitEditMessageButton k) = 0
-rank_of (ids.FileViewHeader k) = 0
 rank_of (ids.SelectableItem k) = suc (key_rank k)
 rank_of (ids.ToggleBox k) = suc (key_rank k)
 rank_of (ids.ExpandBox k) = suc (key_rank k)
-rank_of ids.QuitDialog = 0
-rank_of (ids.QuitDialogButton b) = 0
-rank_of ids.HelpDialog = 0
-rank_of ids.HelpDialogQuitButton = 0
+rank_of _ = 0
 
 -- whether the id is that of a file, a section or a line, and not that of a box of it
 abbrev pub is_item : ComponentId → Bool
-is_item ids.App = false
-is_item ids.AppFiles = false
-is_item ids.MenuBar = false
-is_item ids.MenuHeader = false
-is_item (ids.Menu k) = false
-is_item (ids.MenuItem k) = false
-is_item ids.CommitMessageView = false
-is_item (ids.CommitEditMessageButton k) = false
-is_item (ids.FileViewHeader k) = false
 is_item (ids.SelectableItem k) = true
-is_item (ids.ToggleBox k) = false
-is_item (ids.ExpandBox k) = false
-is_item ids.QuitDialog = false
-is_item (ids.QuitDialogButton b) = false
-is_item ids.HelpDialog = false
-is_item ids.HelpDialogQuitButton = false
+is_item _ = false
 
 -- a part of a section, of these ranks; and not the section itself
 pub record IsAmong (k : SectionKey) (n m : ℕ) (i : ComponentId) : Type 0 where
@@ -315,12 +262,9 @@ module _ (same : ComponentId → ComponentId → Bool) (law : IsLawful same) whe
 
   after-more : (k : SectionKey) (n : ℕ) (d : DocRow) → IsRowOf k n d → n ≤ after_row n d
   after-more k n (HeaderRow key h) e = absurd e
-  after-more k n (SectionRow selected h) e = omega (arith, e.0)
-  after-more k n (LineRow key b ts) e = omega (arith, e.0)
-  after-more k n (MarkRow selected b t) e = omega (arith, e.0)
-  after-more k n (ContextRow key ts) e = omega (arith, e.0)
   after-more k n (DotsRow t) e = omega arith
   after-more k n BlankRow e = omega arith
+  after-more k n _ e = omega (arith, e.0)
 
   pub rows_own : (k : SectionKey) (n : ℕ) (ds : List DocRow) (s : Sight) (w : ℕ) (y : ℤ) → 10 ≤ w → IsOpen s w → AreRowsOf k n ds
       → Owns same w (IsFrom k n) (rows_picture ds s (pos 2) y) y (map (row_strip w) ds)

@@ -1,8 +1,8 @@
 -- Painting a view of a document on a cleared screen leaves the document's window; what is drawn of a part of a session is in range.
-use Rattle.std.proofs.Common.{◌≡◌, ℕ, zero, suc, ◌+◌, ◌-◌, ◌<◌, ◌≤◌, Bool, true, false, List, [], ◌∷◌, ◌++◌, length, take, drop, replicate, refl, sym, ap, ap₂, subst, ◌∙◌, arith, ⊎_elim}
-use Rattle.std.specs.Prelude.{pos, ◌+ℤ◌, Option, None, if◌then◌else◌}
+use Rattle.std.proofs.Common.{◌≡◌, ℕ, zero, suc, ◌+◌, ◌-◌, ◌<◌, ◌≤◌, Bool, true, List, [], ◌∷◌, ◌++◌, length, take, drop, replicate, refl, sym, ap, ap₂, subst, ◌∙◌, arith, ⊎_elim}
+use Rattle.std.specs.Prelude.{pos, ◌+ℤ◌, Option, None}
 use Rattle.std.proofs.lemmas.Int.{ints}
-use Rattle.std.proofs.lemmas.Bool.{cases_lt}
+use Rattle.std.proofs.lemmas.Bool.{cases_lt, cond_both}
 use Rattle.scm_types.specs.Limits.{is_accepted_state, max_scroll}
 use Rattle.scm_cells.specs.declared.rect.Rect.{Rect}
 use Rattle.scm_render.specs.Canvas.{Row, under, paint, paint_rows}
@@ -29,7 +29,7 @@ use Rattle.scm_view.specs.AppView.{app_view_of, app_picture}
 use Rattle.scm_view.specs.Window.{inline_document, body_layers, rows_from}
 use Rattle.scm_document.proofs.Near.{AreNarrowSections, AreNarrowFiles, IsNarrowMessage, IsNarrowDocument}
 use Rattle.scm_document.proofs.NearLemmas.{document-near}
-use Rattle.scm_view.proofs.LimitLemmas.{close-here, sight-here, session-narrow, session-few}
+use Rattle.scm_view.proofs.LimitLemmas.{close-here, sight-here, session-narrow, few-rows}
 use Rattle.scm_view.proofs.AppRangeLemmas.{close-sight, close-row, apps-in-range}
 use Rattle.scm_document.proofs.AppShapeLemmas.{below_bar}
 use Rattle.scm_view.proofs.AppShapeLemmas.{whole-mask, one-view, app-inline}
@@ -92,8 +92,7 @@ module _ (v : CommitView) (menu : Option ℕ) (quit : Option QuitDialog) (help :
 
   row-first : (w h s : ℕ) → IsPlainScreen w h → RowIs w h s s
   row-first w h s plain =
-      let high = plain.high in
-      over-it w h s s plain (omega arith) (omega (arith, high))
+      over-it w h s s plain (omega arith) (omega (arith, plain.high))
       ∙ hides w s (menus_with menu) (quit_layers w h s quit ++ help_layers w h s help) _ _
       (length-paint (screen w h s) (body_drawn w h s).puts (pos s) (blank_row w) (blank-length w)) (first-keeps w h s (document_of v) (blank_row w) (blank-length w))
       ∙ both w h s s (blank_row w)
@@ -136,9 +135,8 @@ shows-document a d menu quit help w h s shows plain =
 -- ---- a part is in range
 
 narrow-take : (b : ℕ) (ps : List ShownSection) → AreNarrowSections ps → AreNarrowSections (take b ps)
-narrow-take zero ps n = tt
-narrow-take (suc b) [] n = tt
 narrow-take (suc b) (p ∷ ps) n = (n.0, narrow-take b ps n.1)
+narrow-take _ _ n = tt
 
 narrow-drop : (a : ℕ) (ps : List ShownSection) → AreNarrowSections ps → AreNarrowSections (drop a ps)
 narrow-drop zero ps n = n
@@ -157,12 +155,8 @@ narrow-from i a [] n = tt
 narrow-from zero a (f ∷ fs) n = (record { heading = n.0.heading; sections = narrow-drop a f.sections n.0.sections }, n.1)
 narrow-from (suc i) a (f ∷ fs) n = narrow-from i a fs n.1
 
-narrow-message : (b : Bool) (m : Option (List ℕ)) → IsNarrowMessage m → IsNarrowMessage (if b then m else None)
-narrow-message true m n = n
-narrow-message false m n = tt
-
 part-narrow : (p : DocumentPart) (d : Document) → IsNarrowDocument d → IsNarrowDocument (part_of p d)
-part-narrow p d n = record { message = narrow-message p.has_message d.message n.message; files = narrow-from p.first_file p.first_section (files_to p.last_file p.end_section d.files) (narrow-to p.last_file p.end_section d.files n.files) }
+part-narrow p d n = record { message = cond_both p.has_message d.message None IsNarrowMessage (λ _. n.message) (λ _. tt); files = narrow-from p.first_file p.first_section (files_to p.last_file p.end_section d.files) (narrow-to p.last_file p.end_section d.files n.files) }
 
 pub part-few : (p : DocumentPart) (d : Document) → length (files_rows (part_of p d).files) ≤ length (files_rows d.files)
 part-few p d = omega (arith, less-from p.first_file p.first_section (files_to p.last_file p.end_section d.files), less-to p.last_file p.end_section d.files)
@@ -176,7 +170,7 @@ part-in-range : (shown : ViewState) (p : DocumentPart) (v : CommitView) (w h s :
 unfolding commit_picture
 part-in-range shown p v w h s a e plain low =
     let d = inline_document shown in
-    let few = session-few shown 0 (commit_view_of shown 0) a refl in
+    let few = few-rows shown 0 (commit_view_of shown 0) a refl in
     let less = part-few p d in
     let close = rw (whole-mask w h s) at (close-sight w h s w (pos 0) plain.width low) in
     rw e (document-near (part_of p d) (under (below_bar w s) (sight w h s)) (pos 0) (pos 1) (sight-here (under (below_bar w s) (sight w h s)) close) (close-here (pos 0) close-first) (close-here (pos 1) close-row) (omega (arith, few, less))

@@ -25,7 +25,7 @@ use Rattle.scm_document.proofs.PlaceLemmas.{AllHaveRows, some-rows, rows-append}
 key-same : (a b : SelectionKey) → is_key a b ≡ true → a ≡ b
 key-same a b e = sym (key-back a) ∙ ap key_at (numbers-same (numbers_of a) (numbers_of b) e) ∙ key-back b
 
-key-self : (a : SelectionKey) → is_key a a ≡ true
+pub key-self : (a : SelectionKey) → is_key a a ≡ true
 key-self a = numbers-self (numbers_of a)
 
 pub all-append : (ps qs : List Place) → AllHaveRows ps → AllHaveRows qs → AllHaveRows (ps ++ qs)
@@ -68,11 +68,7 @@ module _ (same : ComponentId → ComponentId → Bool) (law : IsLawful same) whe
   kind-of : (P : ComponentId → Type 0) (i : ComponentId) (bs : List (Box ComponentId)) → Each P bs → has_id same i bs ≡ true → P i
   unfolding has_id
   kind-of P i [] h e = absurd (cc e)
-  kind-of P i (b ∷ bs) h e = go (same i b.0) refl (kind-of P i bs h.1) e
-    where
-      go : (t : Bool) → same i b.0 ≡ t → (has_id same i bs ≡ true → P i) → (t || has_id same i bs) ≡ true → P i
-      go true q more r = subst P (sym (law.same i b.0 q)) h.0
-      go false q more r = more r
+  kind-of P i (b ∷ bs) h e = (elim (same i b.0) as (λ t. same i b.0 ≡ t → (has_id same i bs ≡ true → P i) → (t || has_id same i bs) ≡ true → P i) [ true ↦ (λ q more r. subst P (sym (law.same i b.0 q)) h.0) | false ↦ (λ q more r. more r) ]) refl (kind-of P i bs h.1) e
 
   -- one below another, with ids of two kinds
   pub places_below : (P Q : ComponentId → Type 0) (a b : IdPicture) (ps qs : List Place) → Each P a.boxes → Each Q b.boxes → ((i : ComponentId) → P i → Q i → ⊥)

@@ -24,6 +24,7 @@ use Rattle.scm_view.proofs.WindowLemmas.{hides, first-keeps, blank-length}
 use Rattle.scm_view.specs.DocumentParts.{document_layers_over, window_of_document}
 use Rattle.scm_view.proofs.MovedLemmas.{line-moved, rows-alike, overlays-moved}
 use Rattle.scm_document.proofs.SameWindowLemmas.{drawn_by, as_it_is}
+use Rattle.scm_document.proofs.StripLemmas.{shows-owned}
 
 abbrev pub shows_of : Strip ComponentId → Row → Row
 shows_of s = s.shows
@@ -34,10 +35,6 @@ drawn w d = map shows_of (message_strips w d.commit d.message) ++ map (drawn_by 
 
 -- ---- strips draw their rows, whichever header is pinned
 
-owned-show : (i : ComponentId) (test : ℕ → Bool) (ss : List (Strip ComponentId)) → map shows_of (map (owned i test) ss) ≡ map shows_of ss
-owned-show i test [] = refl
-owned-show i test (s ∷ ss) = ap (λ fs. s.shows ∷ fs) (owned-show i test ss)
-
 rows-show : (w : ℕ) (rs : List DocRow) → map shows_of (map (row_strip w) rs) ≡ map (drawn_by w) rs
 rows-show w [] = refl
 rows-show w (r ∷ rs) = ap (λ fs. (row_strip w r).shows ∷ fs) (rows-show w rs)
@@ -47,7 +44,7 @@ unfolding sections_strips sections_rows section_strips
 sections-show w [] = refl
 sections-show w (p ∷ ps) =
     map-append shows_of (map (owned (section_id p.key) (is_of_section p.rows)) (map (row_strip w) p.rows)) (sections_strips w ps)
-    ∙ ap₂ (λ a b. a ++ b) (owned-show (section_id p.key) (is_of_section p.rows) (map (row_strip w) p.rows) ∙ rows-show w p.rows) (sections-show w ps)
+    ∙ ap₂ (λ a b. a ++ b) (shows-owned (section_id p.key) (is_of_section p.rows) (map (row_strip w) p.rows) ∙ rows-show w p.rows) (sections-show w ps)
     ∙ sym (map-append (drawn_by w) p.rows (sections_rows ps))
 
 header-shows : (w : ℕ) (b : Bool) (f : ShownFile) → (header_strip w b f).shows ≡ drawn_by w (HeaderRow f.key f.heading)
@@ -57,7 +54,7 @@ header-shows w false f = refl
 file-shows : (w : ℕ) (b : Bool) (f : ShownFile) → map shows_of (file_strips w b f) ≡ map (drawn_by w) (file_rows f)
 unfolding file_strips file_rows
 file-shows w b f =
-    owned-show (file_id f.key) everywhere (header_strip w b f ∷ sections_strips w f.sections) ∙ ap₂ (λ g gs. g ∷ gs) (header-shows w b f) (sections-show w f.sections)
+    shows-owned (file_id f.key) everywhere (header_strip w b f ∷ sections_strips w f.sections) ∙ ap₂ (λ g gs. g ∷ gs) (header-shows w b f) (sections-show w f.sections)
 
 pub files-show : (w m top : ℕ) (fs : List ShownFile) → map shows_of (files_strips w m top fs) ≡ map (drawn_by w) (files_rows fs)
 unfolding files_strips files_rows

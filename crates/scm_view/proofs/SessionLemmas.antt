@@ -3,10 +3,11 @@ use Rattle.std.proofs.Common.{◌≡◌, ℕ, suc, ◌+◌, ◌-◌, ◌<◌, �
 use Rattle.std.specs.Prelude.{min, nat_le, not, ◌&&◌, ◌||◌, if◌then◌else◌}
 use Rattle.std.proofs.lemmas.List.{length-drop, length-take}
 use Rattle.std.proofs.lemmas.Bool.Decides.{nat_tests}
+use Rattle.std.proofs.lemmas.Bool.{cond_both}
 use Rattle.scm_types.specs.declared.file.File.{File}
 use Rattle.scm_types.specs.declared.line.SectionChangedLine.{SectionChangedLine}
 use Rattle.scm_types.specs.declared.section.Section.{Section}
-use Rattle.scm_types.specs.declared.section.Section.TheVariants.{Unchanged, Changed, FileMode, Binary}
+use Rattle.scm_types.specs.declared.section.Section.TheVariants.{Unchanged, Changed}
 use Rattle.scm_types.specs.Marks.{is_editable_section}
 use Rattle.scm_types.specs.declared.keys.FileKey.{FileKey}
 use Rattle.scm_types.specs.declared.keys.SectionKey.{SectionKey}
@@ -14,12 +15,13 @@ use Rattle.scm_types.specs.declared.keys.SelectionKey.TheVariants as selection
 use Rattle.scm_widgets.specs.declared.ids.ComponentId.TheVariants as ids
 use Rattle.scm_document.specs.declared.section_view.SectionView.{SectionView}
 use Rattle.scm_document.specs.Texts.{dots_text}
-use Rattle.scm_rows.specs.Context.{first_below, has_dots, is_first, is_last, lines_above}
+use Rattle.scm_rows.specs.Context.{first_below, has_dots, is_first, is_last, lines_above, are_all_shown}
 use Rattle.scm_rows.specs.Heights.{is_section_visible}
-use Rattle.scm_document.specs.Rows.{DocRow, HeaderRow, SectionRow, LineRow, MarkRow, ContextRow, DotsRow, BlankRow, ShownSection, is_open, is_first_open, shown_lines, rows_below, context_rows, changed_rows, numbered_rows, rows_of, section_rows, shown_section, shown_sections, shown_file, document_of, place_of}
+use Rattle.scm_document.specs.Rows.{DocRow, HeaderRow, MarkRow, ContextRow, DotsRow, BlankRow, ShownSection, is_open, is_first_open, shown_lines, rows_below, context_rows, changed_rows, numbered_rows, rows_of, section_rows, shown_section, shown_sections, shown_file, document_of, place_of}
 use Rattle.scm_widgets.specs.Boxes.{is_fold_open}
 use Rattle.scm_types.specs.Keys.{section_key_of}
 use Rattle.scm_rows.specs.Lines.{old_lines}
+use Rattle.scm_rows.proofs.HeightLemmas.{above-le}
 use Rattle.scm_view.specs.ViewState.{ViewState, Totals, totals_of, section_view_of, section_views_of, file_view_of, file_views_of, commit_view_of}
 use Rattle.scm_document.specs.Owners.{IsRowOf, after_row, AreRowsOf, AreSectionsOf}
 use Rattle.scm_document.proofs.FilesOf.{HaveRows, IsFileOf, AreFilesOf, HasItsIds}
@@ -28,21 +30,17 @@ use Rattle.scm_document.proofs.FilesOf.{HaveRows, IsFileOf, AreFilesOf, HasItsId
 
 row-earlier : (k : SectionKey) (n m : ℕ) (d : DocRow) → n ≤ m → IsRowOf k m d → IsRowOf k n d
 row-earlier k n m (HeaderRow key h) less e = e
-row-earlier k n m (SectionRow selected h) less e = (omega (arith, less, e.0), e.1, e.2)
-row-earlier k n m (LineRow key b ts) less e = (omega (arith, less, e.0), e.1, e.2)
 row-earlier k n m (MarkRow selected b t) less e = (omega (arith, less, e.0), e.1)
 row-earlier k n m (ContextRow key ts) less e = (omega (arith, less, e.0), e.1)
 row-earlier k n m (DotsRow t) less e = tt
 row-earlier k n m BlankRow less e = tt
+row-earlier k n m _ less e = (omega (arith, less, e.0), e.1, e.2)
 
 after-earlier : (k : SectionKey) (n m : ℕ) (d : DocRow) → n ≤ m → after_row n d ≤ after_row m d
 after-earlier k n m (HeaderRow key h) less = less
-after-earlier k n m (SectionRow selected h) less = omega arith
-after-earlier k n m (LineRow key b ts) less = omega arith
-after-earlier k n m (MarkRow selected b t) less = omega arith
-after-earlier k n m (ContextRow key ts) less = omega arith
 after-earlier k n m (DotsRow t) less = less
 after-earlier k n m BlankRow less = less
+after-earlier k n m _ less = omega arith
 
 rows-earlier : (k : SectionKey) (n m : ℕ) (ds : List DocRow) → n ≤ m → AreRowsOf k m ds → AreRowsOf k n ds
 rows-earlier k n m [] less e = tt
@@ -75,16 +73,8 @@ changed-are v n i (l ∷ ls) h = ((h, refl, refl), changed-are v (suc (suc i)) (
 -- no more lines stand above the dots than there are before the first one below them
 above-below : (first last few : Bool) (n : ℕ) → nat_le n 6 ≡ few
     → (if not first && (not last && few) then n else if first then 0 else min n 3) ≤ (if not first && (not last && few) then n else if last then n else n - 3)
-above-below true last few n e = omega arith
-above-below false true few n e = omega arith
-above-below false false true n e = omega arith
 above-below false false false n e = let many : 6 < n = grind (arith, nat_tests) in omega (arith, many)
-
-above-all : (first last few : Bool) (n : ℕ) → (if not first && (not last && few) then n else if first then 0 else min n 3) ≤ n
-above-all true last few n = omega arith
-above-all false true few n = omega arith
-above-all false false true n = omega arith
-above-all false false false n = omega arith
+above-below _ _ _ n e = omega arith
 
 dots-are : (v : SectionView) (b : Bool) (n : ℕ) (rest : List DocRow) → AreRowsOf v.section_key n rest → AreRowsOf v.section_key n ((if b then DotsRow (dots_text v.use_unicode) ∷ [] else []) ++ rest)
 dots-are v true n rest e = (tt, e)
@@ -101,7 +91,7 @@ context-are v ls = go (length ls == 0)
     above = lines_above (place_of v) n
 
     taken : length (take above ls) ≡ above
-    taken = let h = above-all (is_first (place_of v)) (is_last (place_of v)) (nat_le n 6) n in omega (arith, length-take above ls, h)
+    taken = let h = above-le (are_all_shown (place_of v) n) (is_first (place_of v)) n in omega (arith, length-take above ls, h)
 
     apart : suc (0 + length (take above ls)) ≤ suc (first_below (place_of v) n)
     apart = let h = above-below (is_first (place_of v)) (is_last (place_of v)) (nat_le n 6) n refl in omega (arith, taken, h)
@@ -119,15 +109,10 @@ record HasBoxesOf (k : SectionKey) (v : SectionView) : Type 0 where
   toggle : v.toggle_box.id ≡ ids.ToggleBox (selection.Section k)
   fold : v.expand_box.id ≡ ids.ExpandBox (selection.Section k)
 
-folded-are : (k : SectionKey) (n : ℕ) (b : Bool) (rs : List DocRow) → AreRowsOf k n rs → AreRowsOf k n (if b then rs else [])
-folded-are k n true rs e = e
-folded-are k n false rs e = tt
-
 rows-are : (v : SectionView) (section : Section) → HasBoxesOf v.section_key v → AreRowsOf v.section_key 0 (rows_of v section)
 rows-are v (Unchanged ls) h = context-are v ls
-rows-are v (Changed ls) h = ((refl, h.toggle, h.fold), folded-are v.section_key 1 (is_fold_open v.expand_box) (changed_rows v 0 ls) (changed-are v 1 0 ls (omega arith)))
-rows-are v (FileMode checked mode) h = ((refl, refl), tt)
-rows-are v (Binary checked old new) h = ((refl, refl), tt)
+rows-are v (Changed ls) h = ((refl, h.toggle, h.fold), cond_both (is_fold_open v.expand_box) (changed_rows v 0 ls) [] (AreRowsOf v.section_key 1) (λ _. changed-are v 1 0 ls (omega arith)) (λ _. tt))
+rows-are v _ h = ((refl, refl), tt)
 
 -- ---- a section has a row, but for one of context that is both the first and the last
 
@@ -136,20 +121,13 @@ unfolding numbered_rows
 some-lines v i [] h = absurd (omega (arith, h))
 some-lines v i (l ∷ ls) h = omega arith
 
-some-above : (rs qs : List DocRow) → 0 < length rs → 0 < length (rs ++ qs)
-some-above rs qs h = omega (arith, h, length-append rs qs)
-
-some-below : (rs qs : List DocRow) → 0 < length qs → 0 < length (rs ++ qs)
-some-below rs qs h = omega (arith, h, length-append rs qs)
-
 -- which of the lines are shown: some above the dots, or some below them
 lines-shown : (first last few : Bool) (n : ℕ) → nat_le n 6 ≡ few → 0 < n → (first ≡ true → last ≡ false)
     → (0 < (if not first && (not last && few) then n else if first then 0 else min n 3)) ⊎ ((if not first && (not last && few) then n else if last then n else n - 3) < n)
 lines-shown true true few n e some h = absurd (cc (h refl))
 lines-shown true false few n e some h = inr (omega (arith, some))
-lines-shown false true few n e some h = inl (omega (arith, some))
 lines-shown false false true n e some h = inl some
-lines-shown false false false n e some h = inl (omega (arith, some))
+lines-shown _ _ _ n e some h = inl (omega (arith, some))
 
 context-some : (v : SectionView) (ls : List (List ℕ)) → (is_first (place_of v) ≡ true → is_last (place_of v) ≡ false) → 0 < length (context_rows v ls)
 unfolding context_rows
@@ -169,11 +147,11 @@ context-some v ls h = go (length ls == 0) refl
 
     shown : (0 < above) ⊎ (below < n) → 0 < length (shown_lines v ls)
     shown (inl p) =
-        let all = above-all (is_first (place_of v)) (is_last (place_of v)) (nat_le n 6) n in
-        some-above (numbered_rows v 0 (take above ls)) (rows_below v ls) (some-lines v 0 (take above ls) (omega (arith, length-take above ls, all, p)))
+        let all = above-le (are_all_shown (place_of v) n) (is_first (place_of v)) n in
+        omega (arith, some-lines v 0 (take above ls) (omega (arith, length-take above ls, all, p)), length-append (numbered_rows v 0 (take above ls)) (rows_below v ls))
     shown (inr p) =
-        some-below (numbered_rows v 0 (take above ls)) (rows_below v ls)
-        (some-below dots (numbered_rows v below (drop below ls)) (some-lines v below (drop below ls) (omega (arith, length-drop below ls, p))))
+        let last = some-lines v below (drop below ls) (omega (arith, length-drop below ls, p)) in
+        omega (arith, last, length-append (numbered_rows v 0 (take above ls)) (rows_below v ls), length-append dots (numbered_rows v below (drop below ls)))
 
     go : (b : Bool) → (length ls == 0) ≡ b → 0 < length (if b then BlankRow ∷ [] else shown_lines v ls)
     go true e = omega arith
@@ -182,34 +160,9 @@ context-some v ls h = go (length ls == 0) refl
 rows-some : (v : SectionView) (section : Section) → (is_editable_section section ≡ true) ⊎ (is_first (place_of v) ≡ true → is_last (place_of v) ≡ false) → 0 < length (rows_of v section)
 rows-some v (Unchanged ls) (inl e) = absurd (cc e)
 rows-some v (Unchanged ls) (inr h) = context-some v ls h
-rows-some v (Changed ls) h = omega arith
-rows-some v (FileMode checked mode) h = omega arith
-rows-some v (Binary checked old new) h = omega arith
+rows-some v _ h = omega arith
 
 -- ---- the sections of a file
-
-sections-of : (s : ViewState) (totals : Totals) (k : FileKey) (before : Bool) (i editable line : ℕ) (sections : List Section)
-    → AreSectionsOf k i (shown_sections before (section_views_of s totals k i editable line sections))
-unfolding section_views_of shown_sections section_rows
-sections-of s totals k before i editable line [] = tt
-sections-of s totals k before i editable line (section ∷ more) =
-    go (is_section_visible before v.section.now (is_first_open vs)) (sections-of s totals k (is_open v) (suc i) next below more)
-  where
-    v : SectionView
-    v = section_view_of s totals (section_key_of k i) editable line section
-
-    next : ℕ
-    next = if is_editable_section section then editable + 1 else editable
-
-    below : ℕ
-    below = line + old_lines section
-
-    vs : List SectionView
-    vs = section_views_of s totals k (suc i) next below more
-
-    go : (b : Bool) → AreSectionsOf k (suc i) (shown_sections (is_open v) vs) → AreSectionsOf k i (shown_section b v ++ shown_sections (is_open v) vs)
-    go true rest = (omega arith, refl, rows-are v section (record { key = refl; toggle = refl; fold = refl }), rest)
-    go false rest = sections-earlier k i (suc i) (shown_sections (is_open v) vs) (omega arith) rest
 
 open-more : (s : ViewState) (totals : Totals) (k : FileKey) (i editable line : ℕ) (sections : List Section) → is_first_open (section_views_of s totals k i editable line sections) ≡ true → 0 < length sections
 unfolding section_views_of
@@ -223,19 +176,20 @@ not-last : (i n total : ℕ) → total ≡ i + suc n → 0 < n → (i + 1 == tot
 not-last i n total e h = grind (arith, e, h)
 
 -- a section that is shown can be edited, or is not the first, or not the last
-shown-which : (before editable after first last : Bool) → (editable || (before || after)) ≡ true → (before ≡ true → first ≡ false) → (after ≡ true → last ≡ false)
+pub shown-which : (before editable after first last : Bool) → (editable || (before || after)) ≡ true → (before ≡ true → first ≡ false) → (after ≡ true → last ≡ false)
     → (editable ≡ true) ⊎ (first ≡ true → last ≡ false)
 shown-which before true after first last h p q = inl refl
 shown-which true false after first last h p q = inr (λ e. absurd (cc (e, p refl)))
 shown-which false false true first last h p q = inr (λ e. q refl)
 shown-which false false false first last h p q = absurd (cc h)
 
-sections-some : (s : ViewState) (totals : Totals) (k : FileKey) (before : Bool) (i editable line : ℕ) (sections : List Section) → totals.sections ≡ i + length sections → (before ≡ true → 0 < i)
-    → HaveRows (shown_sections before (section_views_of s totals k i editable line sections))
+-- the sections of a file that are shown have their ids, and rows
+sections-are : (s : ViewState) (totals : Totals) (k : FileKey) (before : Bool) (i editable line : ℕ) (sections : List Section) → totals.sections ≡ i + length sections → (before ≡ true → 0 < i)
+    → let ps = shown_sections before (section_views_of s totals k i editable line sections) in AreSectionsOf k i ps × HaveRows ps
 unfolding section_views_of shown_sections section_rows
-sections-some s totals k before i editable line [] e h = tt
-sections-some s totals k before i editable line (section ∷ more) e h =
-    go (is_section_visible before v.section.now (is_first_open vs)) refl (sections-some s totals k (is_open v) (suc i) next below more (omega (arith, e)) (λ _. omega arith))
+sections-are s totals k before i editable line [] e h = (tt, tt)
+sections-are s totals k before i editable line (section ∷ more) e h =
+    go (is_section_visible before v.section.now (is_first_open vs)) refl (sections-are s totals k (is_open v) (suc i) next below more (omega (arith, e)) (λ _. omega arith))
   where
     v : SectionView
     v = section_view_of s totals (section_key_of k i) editable line section
@@ -249,34 +203,31 @@ sections-some s totals k before i editable line (section ∷ more) e h =
     vs : List SectionView
     vs = section_views_of s totals k (suc i) next below more
 
-    go : (b : Bool) → is_section_visible before v.section.now (is_first_open vs) ≡ b → HaveRows (shown_sections (is_open v) vs) → HaveRows (shown_section b v ++ shown_sections (is_open v) vs)
+    go : (b : Bool) → is_section_visible before v.section.now (is_first_open vs) ≡ b → AreSectionsOf k (suc i) (shown_sections (is_open v) vs) × HaveRows (shown_sections (is_open v) vs)
+        → AreSectionsOf k i (shown_section b v ++ shown_sections (is_open v) vs) × HaveRows (shown_section b v ++ shown_sections (is_open v) vs)
     go true shown rest = (
-      rows-some v section (shown-which before (is_editable_section section) (is_first_open vs) (is_first (place_of v)) (is_last (place_of v)) shown
-          (λ p. not-zero i (h p)) (λ p. not-last i (length more) totals.sections e (open-more s totals k (suc i) next below more p))),
-      rest,
+      (omega arith, refl, rows-are v section (record { key = refl; toggle = refl; fold = refl }), rest.0),
+      (
+        rows-some v section (shown-which before (is_editable_section section) (is_first_open vs) (is_first (place_of v)) (is_last (place_of v)) shown
+            (λ p. not-zero i (h p)) (λ p. not-last i (length more) totals.sections e (open-more s totals k (suc i) next below more p))),
+        rest.1,
+      ),
     )
-    go false shown rest = rest
+    go false shown rest = (sections-earlier k i (suc i) (shown_sections (is_open v) vs) (omega arith) rest.0, rest.1)
 
 -- ---- files
-
-if-sections : (f : FileKey) (b : Bool) (ps : List ShownSection) → AreSectionsOf f 0 ps → AreSectionsOf f 0 (if b then ps else [])
-if-sections f true ps e = e
-if-sections f false ps e = tt
-
-if-rows : (b : Bool) (ps : List ShownSection) → HaveRows ps → HaveRows (if b then ps else [])
-if-rows true ps e = e
-if-rows false ps e = tt
 
 file-of : (s : ViewState) (k : FileKey) (n : ℕ) (f : File) → n ≤ k.file_idx → IsFileOf k.commit_idx n (shown_file (file_view_of s k f))
 unfolding shown_file
 file-of s k n f h =
     let v = file_view_of s k f in
+    let are = sections-are s (totals_of f.sections) k false 0 0 0 f.sections (omega arith) (λ e. absurd (cc e)) in
     record {
       commit_is = refl;
       index = h;
       heading = record { toggle = refl; fold = refl };
-      sections = if-sections k (is_fold_open v.expand_box) (shown_sections false v.section_views) (sections-of s (totals_of f.sections) k false 0 0 0 f.sections);
-      rows = if-rows (is_fold_open v.expand_box) (shown_sections false v.section_views) (sections-some s (totals_of f.sections) k false 0 0 0 f.sections (omega arith) (λ e. absurd (cc e)));
+      sections = cond_both (is_fold_open v.expand_box) (shown_sections false v.section_views) [] (AreSectionsOf k 0) (λ _. are.0) (λ _. tt);
+      rows = cond_both (is_fold_open v.expand_box) (shown_sections false v.section_views) [] HaveRows (λ _. are.1) (λ _. tt);
     }
 
 files-of : (s : ViewState) (commit i : ℕ) (fs : List File) → AreFilesOf commit i (map shown_file (file_views_of s commit i fs))

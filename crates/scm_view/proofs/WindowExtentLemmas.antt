@@ -140,8 +140,7 @@ module _ (same : ComponentId → ComponentId → Bool) (law : IsLawful same) whe
   extent-from shown a w h s plain of_body runs =
       let body = body_part w h s shown in
       let o = over_drawn w h s shown in
-      let wide = plain.wide in
-      let over = overlays_draw same law w h s shown.open_menu shown.quit_dialog shown.is_help_open (omega (arith, wide)) plain.high in
+      let over = overlays_draw same law w h s shown.open_menu shown.quit_dialog shown.is_help_open (omega (arith, plain.wide)) plain.high in
       let none : has_id same ids.App (body.boxes ++ o.boxes) ≡ false =
       none_of same is_clickable IsNotWhole ids.App (body.boxes ++ o.boxes) (λ j p. differ same law ids.App j (λ e. p (sym (ap part_of e))))
       (each-append IsNotWhole body.boxes o.boxes (each_more (IsPart Body) IsNotWhole body.boxes (λ i p q. cc (p, q)) of_body) (each_more IsOver IsNotWhole o.boxes over_not over.ids)) in

@@ -46,8 +46,7 @@ module _ (same : ComponentId → ComponentId → Bool) (law : IsLawful same) whe
   over_draws : (shown : ViewState) (a : AppView) (w h s : ℕ) → IsPlain a shown w h
       → DrawsLayers same is_clickable w h s IsOver (over_drawn w h s shown) (overlays w h s shown.open_menu shown.quit_dialog shown.is_help_open)
   over_draws shown a w h s plain =
-      let wide = plain.wide in
-      overlays_draw same law w h s shown.open_menu shown.quit_dialog shown.is_help_open (omega (arith, wide)) plain.high
+      overlays_draw same law w h s shown.open_menu shown.quit_dialog shown.is_help_open (omega (arith, plain.wide)) plain.high
 
   pub owners-from : (shown : ViewState) (a : AppView) (w h s : ℕ) → IsPlain a shown w h → Each (IsPart Body) (body_part w h s shown).boxes → BodyOwns w h s shown → (y x : ℕ) → x < w
       → latest same is_clickable (part ids.App (app_picture a (sight w h s) (pos 0) (pos 0))).boxes (pos y) (pos x) ≡ owner w h s shown y x

@@ -1,15 +1,14 @@
 //! The index of an inline frame: hit tests, the row ranges of keys, and the extent.
-ghost use Rattle.std.specs.Prelude.{◌≡◌, ◌≤◌, ℕ, nat_lt, if◌then◌else◌, None, IfOk, IfErr};
-ghost use Rattle.scm_types.specs.Limits.{max_scroll};
+ghost use Rattle.std.specs.Prelude.{◌≡◌, ℕ, nat_lt, if◌then◌else◌, None, IfOk, IfErr};
 ghost use Rattle.scm_errors.specs.declared.error.RecordError.TheVariants.{OutOfMemory};
 ghost use Rattle.scm_view.specs.ViewState.{ViewState};
 ghost use Rattle.scm_view.specs.Window.{IsPlain, ShowsInline, extent, owner, span};
-ghost use Rattle.scm_view.specs.Index.{HasNear, HasParts, IsIndexOf, OwnAlike, owner_in};
+ghost use Rattle.scm_view.specs.Index.{IsIndexOf, owner_in};
 
 use crate::app_view::AppView;
 use crate::frame_measures::{document_run, joined, joined_with, push_help, push_quit, screen};
 use scm_document::commit_view::push_pieces;
-use scm_document::index_pieces::{Piece, pieces_near, push_pinned, rows_owner};
+use scm_document::index_pieces::{Piece, push_pinned, rows_owner};
 use scm_document::key_rows::find_in;
 use scm_types::{RecordError, SelectionKey};
 use scm_widgets::ids::ComponentId;
@@ -17,7 +16,7 @@ use scm_widgets::overlay_rects::{OverlayRect, overlay_owner};
 use std::alloc::Global;
 
 /// The index of an inline frame: the owner of each place, the rows of each key, and the extent. It
-/// needs memory for each file and section, but not for their lines.
+/// needs memory for each file and section, but not for their lines. An answer walks over them.
 #[derive(Drop)]
 pub struct FrameIndex {
     /// The width of the screen, in columns.
@@ -27,12 +26,6 @@ pub struct FrameIndex {
     rects: Vec<OverlayRect>,
     /// The files and their visible sections, with their row ranges.
     pieces: Vec<Piece>,
-    /// The screen's first row, counted from the document's row 0.
-    first: usize,
-    /// The screen's end row (exclusive).
-    last: usize,
-    /// The pieces that have a row on the screen.
-    near: Vec<Piece>,
     /// The extent: the number of rows that the frame spans.
     extent: usize,
 }
@@ -78,41 +71,10 @@ impl FrameIndex {
             help,
         );
         let extent = run.1.saturating_sub(run.0);
-        let index = FrameIndex::of_pieces(alloc, width, height, scroll, rects, pieces, extent)?;
-        Ok(index)
-    }
-
-    /// Returns the index with the overlay rectangles `rects`, the files and visible sections
-    /// `pieces` and the extent `extent`, for a screen of `width` columns and `height` rows. The
-    /// screen's first row shows row `scroll` of the document.
-    ///
-    /// # Errors
-    ///
-    /// `OutOfMemory`: an allocation failed.
-    #[tactic(auto, using(scm_types::proofs::LimitLemmas::scroll_room))]
-    pub fn of_pieces(
-        alloc: Global,
-        width: u16,
-        height: u16,
-        scroll: usize,
-        rects: Vec<OverlayRect>,
-        pieces: Vec<Piece>,
-        extent: usize,
-    ) -> Result<FrameIndex, RecordError>
-        requires scroll { scroll ≤ max_scroll }
-        ensures ok { IfOk result
-            (λ index. HasParts width height scroll rects.items pieces.items extent index) }
-        ensures err { IfErr result (λ e. e ≡ OutOfMemory) }
-    {
-        let last = scroll + usize::from(height);
-        let near = pieces_near(alloc, pieces.as_slice(), scroll, last)?;
         Ok(FrameIndex {
             width,
             rects,
             pieces,
-            first: scroll,
-            last,
-            near,
             extent,
         })
     }
@@ -143,21 +105,9 @@ impl FrameIndex {
         self.extent
     }
 
-    /// Returns pieces that include all those on row `row`. If the screen shows the row, they are
-    /// few.
-    fn pieces_on(&self, row: usize) -> &[Piece]
-        ensures { OwnAlike self.now row result.now }
-    {
-        if self.first <= row && row < self.last {
-            self.near.as_slice()
-        } else {
-            self.pieces.as_slice()
-        }
-    }
-
     /// Returns the owner of the place at `row` and `column`, if any.
     fn owner_in(&self, row: usize, column: usize) -> Option<ComponentId>
-        ensures { HasNear self.now → result ≡ owner_in self.now row column }
+        ensures { result ≡ owner_in self.now row column }
     {
         let width = usize::from(self.width);
         if width <= column {
@@ -166,7 +116,7 @@ impl FrameIndex {
         let overlay = overlay_owner(&self.rects, row, column);
         match overlay {
             Some(_) => overlay,
-            None => rows_owner(width, self.pieces_on(row), row, column),
+            None => rows_owner(width, &self.pieces, row, column),
         }
     }
 }

@@ -1,6 +1,6 @@
 -- The view of a section of a file, by the counts of the layout.
-use Rattle.std.proofs.Common.{◌≡◌, ℕ, zero, suc, ◌+◌, ◌<◌, ◌≤◌, Bool, true, false, List, [], ◌∷◌, length, get_or, refl, sym, ap, ap₂, subst, ◌∙◌, arith}
-use Rattle.std.specs.Prelude.{sum_by, map, if◌then◌else◌}
+use Rattle.std.proofs.Common.{◌≡◌, ℕ, zero, suc, ◌+◌, ◌<◌, ◌≤◌, List, [], ◌∷◌, length, get_or, refl, sym, ap, ap₂, subst, ◌∙◌, arith}
+use Rattle.std.specs.Prelude.{sum_by, if◌then◌else◌}
 use Rattle.std.proofs.lemmas.List.Sums.{sum_by-cons}
 use Rattle.scm_types.specs.declared.file.File.{File}
 use Rattle.scm_types.specs.declared.keys.FileKey.{FileKey}
@@ -11,13 +11,12 @@ use Rattle.scm_document.specs.declared.file_view.FileView.{FileView}
 use Rattle.scm_document.specs.declared.section_view.SectionView.{SectionView}
 use Rattle.scm_rows.specs.Lines.{old_lines}
 use Rattle.scm_view.specs.ViewState.{Totals, ViewState, section_view_of, section_views_of}
-use Rattle.scm_layout.specs.declared.file_counts.FileCounts.{FileCounts}
 use Rattle.scm_layout.specs.declared.section_counts.SectionCounts.{SectionCounts}
-use Rattle.scm_layout.specs.Counts.{file_counts, section_counts, sections_counts}
+use Rattle.scm_layout.specs.Counts.{section_counts, sections_counts}
 use Rattle.scm_layout.specs.Rows.{file_key_of}
+use Rattle.scm_layout.proofs.CountLemmas.{at_most_one_more}
 use Rattle.scm_view_state.specs.declared.stretches.Stretch.{Stretch}
 use Rattle.scm_view_state.specs.Stretches.{file_part_of, file_parts_of, is_unfolded, section_range}
-use Rattle.scm_view_state.proofs.FilePartLemmas.{range_by}
 
 -- section x with index n has the counts c and the view v
 pub record IsCounted (s : ViewState) (t : Totals) (k : FileKey) (editable lines : ℕ) (n : ℕ) (x : Section) (c : SectionCounts) (v : SectionView) : Type 0 where
@@ -25,10 +24,6 @@ pub record IsCounted (s : ViewState) (t : Totals) (k : FileKey) (editable lines 
   pub view : v ≡ section_view_of s t (section_key_of k n) c.editable_before c.lines_before x
   pub before : c.editable_before ≤ editable
   pub above : c.lines_before ≤ lines
-
-editable-more : (b : Bool) (n : ℕ) → (if b then n + 1 else n) ≤ n + 1
-editable-more true n = omega arith
-editable-more false n = omega arith
 
 counted-at : (s : ViewState) (t : Totals) (k : FileKey) (i editable line line' n : ℕ) (dx : Section) (dc : SectionCounts) (dv : SectionView) (xs : List Section) → line' ≡ line → n < length xs
     → IsCounted s t k (editable + n) (line + sum_by old_lines xs) (i + n) (get_or xs n dx) (get_or (sections_counts editable line' xs) n dc) (get_or (section_views_of s t k i editable line xs) n dv)
@@ -46,15 +41,13 @@ counted-at s t k i editable line line' (suc n) dx dc dv (x ∷ xs) e h =
     let editable' = if is_editable_section x then editable + 1 else editable in
     let rest = counted-at s t k (suc i) editable' (line + old_lines x) (line' + old_lines x) n dx dc dv xs (omega (arith, e)) (omega (arith, h)) in
     let next : suc i + n ≡ i + suc n = omega arith in
-    let more = editable-more (is_editable_section x) editable in
+    let more = at_most_one_more (is_editable_section x) editable editable (omega arith) in
     let all = sum_by-cons old_lines x xs in
-    let b = rest.before in
-    let a = rest.above in
     record {
       counts = rest.counts;
       view = rest.view ∙ ap (λ j. section_view_of s t (section_key_of k j) (get_or (sections_counts editable' (line' + old_lines x) xs) n dc).editable_before (get_or (sections_counts editable' (line' + old_lines x) xs) n dc).lines_before (get_or xs n dx)) next;
-      before = omega (arith, b, more);
-      above = omega (arith, a, all);
+      before = omega (arith, rest.before, more);
+      above = omega (arith, rest.above, all);
     }
 
 -- section n of a file
@@ -63,19 +56,12 @@ pub section-at : (s : ViewState) (t : Totals) (k : FileKey) (n : ℕ) (dx : Sect
 section-at s t k n dx dc dv xs h =
     let r = counted-at s t k 0 0 0 0 n dx dc dv xs refl h in
     let zero_and : 0 + n ≡ n = omega arith in
-    let b = r.before in
-    let a = r.above in
     record {
       counts = r.counts;
       view = r.view ∙ ap (λ j. section_view_of s t (section_key_of k j) (get_or (sections_counts 0 0 xs) n dc).editable_before (get_or (sections_counts 0 0 xs) n dc).lines_before (get_or xs n dx)) zero_and;
-      before = omega (arith, b);
-      above = omega (arith, a);
+      before = omega (arith, r.before);
+      above = omega (arith, r.above);
     }
-
-pub counts-length : (editable lines : ℕ) (xs : List Section) → length (sections_counts editable lines xs) ≡ length xs
-unfolding sections_counts
-counts-length editable lines [] = refl
-counts-length editable lines (x ∷ xs) = ap suc (counts-length (if is_editable_section x then editable + 1 else editable) (lines + old_lines x) xs)
 
 -- ---- files
 
@@ -95,23 +81,6 @@ pub parts-length : (s : ViewState) (st : Stretch) (i : ℕ) (fs : List File) →
 unfolding file_parts_of
 parts-length s st i [] = refl
 parts-length s st i (f ∷ fs) = ap suc (parts-length s st (suc i) fs)
-
-pub counts-at : (n : ℕ) (df : File) (dc : FileCounts) (fs : List File) → n < length fs → get_or (map file_counts fs) n dc ≡ file_counts (get_or fs n df)
-counts-at n df dc [] h = absurd (omega (arith, h))
-counts-at zero df dc (f ∷ fs) h = refl
-counts-at (suc n) df dc (f ∷ fs) h = counts-at n df dc fs (omega (arith, h))
-
--- an element within a list is the same with any default
-pub get-any : {A : Type 0} (n : ℕ) (d e : A) (xs : List A) → n < length xs → get_or xs n d ≡ get_or xs n e
-get-any n d e [] h = absurd (omega (arith, h))
-get-any zero d e (x ∷ xs) h = refl
-get-any (suc n) d e (x ∷ xs) h = get-any n d e xs (omega (arith, h))
-
--- the end of a range is within a file
-pub range-within : (unfolded is_first is_last : Bool) (a e n : ℕ) → (is_last ≡ true → e ≤ n) → (range_by unfolded is_first is_last a e n).end ≤ n
-range-within true is_first true a e n h = h refl
-range-within true is_first false a e n h = omega arith
-range-within false is_first is_last a e n h = omega arith
 
 -- section x, with index n, has the counts c and the view that these give
 pub record IsCountedHere (s : ViewState) (t : Totals) (k : FileKey) (n : ℕ) (xs : List Section) (x : Section) (c : SectionCounts) : Type 0 where

@@ -1,7 +1,7 @@
 -- The stretch of files and sections that the layout finds covers the screen.
 use Rattle.std.proofs.Common.{◌≡◌, ℕ, zero, suc, ◌+◌, ◌-◌, ◌<◌, ◌≤◌, ◌⊎◌, inl, inr, ⊎_elim, min, nat_le, nat_lt, Bool, true, false, ◌&&◌, cond, List, [], ◌∷◌, length, take, get_or, map, refl, sym, ap, ap₂, subst, ◌∙◌, arith}
 use Rattle.std.specs.Prelude.{nat_eq, if◌then◌else◌}
-use Rattle.std.proofs.lemmas.Bool.{cases_lt}
+use Rattle.std.proofs.lemmas.Bool.{cases_lt, eqb-true}
 use Rattle.std.proofs.lemmas.Bool.Decides.{nat_tests}
 use Rattle.std.proofs.lemmas.List.{length-append}
 use Rattle.scm_types.specs.declared.file.File.{File}
@@ -39,11 +39,7 @@ use Rattle.scm_view_state.proofs.PartRowLemmas.{IsFileAt, file-of, no-rows, rows
 module _ {A : Type 0} (top : A → ℕ) where
   pub count-most : (row : ℕ) (xs : List A) → count_to top row xs ≤ length xs
   count-most row [] = omega arith
-  count-most row (x ∷ xs) = go (nat_le (top x) row) (count-most row xs)
-    where
-      go : (b : Bool) → count_to top row xs ≤ length xs → cond b (1 + count_to top row xs) 0 ≤ suc (length xs)
-      go true h = omega (arith, h)
-      go false h = omega arith
+  count-most row (x ∷ xs) = (elim (nat_le (top x) row) as (λ b. count_to top row xs ≤ length xs → cond b (1 + count_to top row xs) 0 ≤ suc (length xs)) [ true ↦ (λ h. omega (arith, h)) | false ↦ (λ h. omega arith) ]) (count-most row xs)
 
   pub count-low : (row n : ℕ) (d : A) (xs : List A) → n < count_to top row xs → top (get_or xs n d) ≤ row
   count-low row n d [] h = absurd (omega (arith, h))
@@ -179,11 +175,7 @@ module _ (s : ViewState) (k : FileKey) (f : File) where
     pub low : 0 < a → r.top + 1 + rows_before a ≤ row
 
   start-well : (first : ℕ) → StartsWell (start_of first f.sections) own
-  start-well zero = go (is_editable_at 0 f.sections)
-    where
-      go : (b : Bool) → StartsWell (if b then 0 else 0) own
-      go true = starts-first own
-      go false = starts-first own
+  start-well zero = elim (is_editable_at 0 f.sections) as (λ b. StartsWell (if b then 0 else 0) own) [ true ↦ starts-first own | false ↦ starts-first own ]
   start-well (suc n) =
       let same : suc n - 1 ≡ n = omega arith in
       subst (λ (m : ℕ). StartsWell (if is_editable_at m f.sections then m else suc n) own) (sym same) (go (is_editable_at n f.sections) (own-editable n))
@@ -193,11 +185,7 @@ module _ (s : ViewState) (k : FileKey) (f : File) where
       go false e = starts-after n own e
 
   start-most : (first : ℕ) → start_of first f.sections ≤ first
-  start-most first = go (is_editable_at (first - 1) f.sections)
-    where
-      go : (b : Bool) → (if b then first - 1 else first) ≤ first
-      go true = omega arith
-      go false = omega arith
+  start-most first = elim (is_editable_at (first - 1) f.sections) as (λ b. (if b then first - 1 else first) ≤ first) [ true ↦ omega arith | false ↦ omega arith ]
 
   -- of a folded file no section has begun
   begun-cases : (row : ℕ) (r : FileRows) → (sections_begun unfolded row r ≡ 0) ⊎ ((unfolded ≡ true) × ((r.top < row) × (sections_begun unfolded row r ≡ count_to (λ (q : SectionRows). q.top) (row - r.top - 1) r.sections)))
@@ -206,8 +194,7 @@ module _ (s : ViewState) (k : FileKey) (f : File) where
       go : (u b : Bool) → nat_lt r.top row ≡ b → ((if u && b then count_to (λ (q : SectionRows). q.top) (row - r.top - 1) r.sections else 0) ≡ 0)
           ⊎ ((u ≡ true) × ((r.top < row) × ((if u && b then count_to (λ (q : SectionRows). q.top) (row - r.top - 1) r.sections else 0) ≡ count_to (λ (q : SectionRows). q.top) (row - r.top - 1) r.sections)))
       go true true e = inr (refl, (grind (arith, nat_tests), refl))
-      go true false e = inl refl
-      go false b e = inl refl
+      go _ _ e = inl refl
 
   top-zero : (r : FileRows) → r.sections ≡ (file_rows s.expanded k f).sections → top_at 0 r.sections ≡ rows_before 0
   top-zero r same =
@@ -227,7 +214,6 @@ module _ (s : ViewState) (k : FileKey) (f : File) where
       ⊎_elim (λ (none : sections_begun unfolded row r ≡ 0). absurd (omega (arith, none, h)))
       (λ (q : (unfolded ≡ true) × ((r.top < row) × (sections_begun unfolded row r ≡ count_to (λ (q : SectionRows). q.top) (row - r.top - 1) r.sections))).
       let c = count_to (λ (q : SectionRows). q.top) (row - r.top - 1) r.sections in
-      let below = q.1.0 in
       let is = q.1.1 in
       let most = count-most (λ (q : SectionRows). q.top) (row - r.top - 1) r.sections in
       let last = count-low (λ (q : SectionRows). q.top) (row - r.top - 1) (c - 1) d r.sections (omega (arith, h, is)) in
@@ -239,7 +225,7 @@ module _ (s : ViewState) (k : FileKey) (f : File) where
         begun = omega (arith, h);
         well = w;
         top = top-there (suc a) d r.sections (omega (arith, h, is, most)) ∙ ap (λ (qs : List SectionRows). (get_or qs (suc a) d).top) same ∙ top-unfolded (suc a) d q.0 (omega (arith, h, is, most, size, own_size));
-        low = λ p. omega (arith, last, here, same_top, more, below);
+        low = λ p. omega (arith, last, here, same_top, more, q.1.0);
       })
       (begun-cases row r)
 
@@ -266,18 +252,10 @@ module _ (s : ViewState) (k : FileKey) (f : File) where
       go false e = ends-before n own e
 
   end-within : (n : ℕ) → n ≤ length f.sections → end_of n f.sections ≤ length f.sections
-  end-within n h = go (is_editable_at n f.sections) refl
-    where
-      go : (b : Bool) → is_editable_at n f.sections ≡ b → (if b then n + 1 else n) ≤ length f.sections
-      go true e = let inside = editable-within n f.sections e in omega (arith, inside)
-      go false e = h
+  end-within n h = (elim (is_editable_at n f.sections) as (λ b. is_editable_at n f.sections ≡ b → (if b then n + 1 else n) ≤ length f.sections) [ true ↦ (λ e. let inside = editable-within n f.sections e in omega (arith, inside)) | false ↦ (λ e. h) ]) refl
 
   end-least : (n : ℕ) → n ≤ end_of n f.sections
-  end-least n = go (is_editable_at n f.sections)
-    where
-      go : (b : Bool) → n ≤ (if b then n + 1 else n)
-      go true = omega arith
-      go false = omega arith
+  end-least n = elim (is_editable_at n f.sections) as (λ b. n ≤ (if b then n + 1 else n)) [ true ↦ omega arith | false ↦ omega arith ]
 
   begun-is : (row : ℕ) (r : FileRows) → unfolded ≡ true → r.top < row → sections_begun unfolded row r ≡ count_to (λ (q : SectionRows). q.top) (row - r.top - 1) r.sections
   begun-is row r e h =
@@ -347,11 +325,9 @@ module _ (s : ViewState) (k : FileKey) (f : File) where
   begun-more m n r h =
       ⊎_elim (λ (none : sections_begun unfolded m r ≡ 0). omega (arith, none))
       (λ (q : (unfolded ≡ true) × ((r.top < m) × (sections_begun unfolded m r ≡ count_to (λ (q : SectionRows). q.top) (m - r.top - 1) r.sections))).
-      let below = q.1.0 in
-      let is = q.1.1 in
-      let next = begun-is n r q.0 (omega (arith, below, h)) in
+      let next = begun-is n r q.0 (omega (arith, q.1.0, h)) in
       let more = count-more (λ (q : SectionRows). q.top) (m - r.top - 1) (n - r.top - 1) r.sections (omega (arith, h)) in
-      omega (arith, is, next, more))
+      omega (arith, q.1.1, next, more))
       (begun-cases m r)
 
 -- ---- the files
@@ -371,9 +347,6 @@ kept-none (suc n) e = absurd (omega (arith, e))
 
 not-zero : (n : ℕ) → nat_eq n 0 ≡ false → 0 < n
 not-zero n e = grind (arith, nat_tests)
-
-is-zero : (n : ℕ) → nat_eq n 0 ≡ true → n ≡ 0
-is-zero n e = grind (arith, nat_tests)
 
 -- the layout's rows of the session's files
 abbrev pub rows_of_files : ViewState → List FileRows
@@ -461,10 +434,8 @@ module _ (s : ViewState) (h scroll : ℕ) (st : Stretch) (df : File) (dr : FileR
     within-one : (n : ℕ) → st.first_file ≡ n → Ends s (file_key_of 0 n) (file n) (scroll + h - 1) (rows n) st.end_section → st.first_section ≤ st.end_section
     within-one n e = subst (λ (m : ℕ). Ends s (file_key_of 0 m) (file m) (scroll + h - 1) (rows m) st.end_section → st.first_section ≤ st.end_section) e
         (λ en.
-        let a = begins.begun in
-        let b = en.begun in
         let c = begun-more s (file_key_of 0 st.first_file) (file st.first_file) (scroll + 1) (scroll + h - 1) (rows st.first_file) (omega (arith, high)) in
-        omega (arith, a, b, c))
+        omega (arith, begins.begun, en.begun, c))
 
     one-file : st.first_file ≡ st.last_file → st.first_section ≤ st.end_section
     one-file e = within-one st.last_file e finishes
@@ -488,7 +459,7 @@ module _ (s : ViewState) (h scroll : ℕ) (st : Stretch) (df : File) (dr : FileR
     has-none e = not-zero c1 (sym is.has_message ∙ e)
 
     has-all : st.has_message ≡ true → c1 ≡ 0
-    has-all e = is-zero c1 (sym is.has_message ∙ e)
+    has-all e = eqb-true c1 0 (sym is.has_message ∙ e)
 
     -- the first file begins on the first visible row or above, if the message is left out
     first-top : 0 < c1 → (rows st.first_file).top ≤ scroll + 1
@@ -505,8 +476,7 @@ module _ (s : ViewState) (h scroll : ℕ) (st : Stretch) (df : File) (dr : FileR
     none-left : c1 ≡ 0 → st.first_section ≡ 0
     none-left p =
         let below = first-below p in
-        let low = begins.low in
-        ⊎_elim (λ (q : 0 < st.first_section). let l = low q in absurd (omega (arith, l, below))) (λ (q : st.first_section ≤ 0). omega (arith, q)) (cases_lt 0 st.first_section)
+        ⊎_elim (λ (q : 0 < st.first_section). let l = begins.low q in absurd (omega (arith, l, below))) (λ (q : st.first_section ≤ 0). omega (arith, q)) (cases_lt 0 st.first_section)
 
     abbrev n1 : ℕ
     n1 = shown_before false st.first_section (views st.first_file)
@@ -532,9 +502,8 @@ module _ (s : ViewState) (h scroll : ℕ) (st : Stretch) (df : File) (dr : FileR
         let low = first-top (omega (arith, e, p, n)) in
         let kept = kept-none n1 n in
         let none = (there st.first_file first-in).out 0 in
-        let zero_rows = no-rows in
         let same = ap (λ m. rows_left_out st.first_file m all) n in
-        omega (arith, low, kept, none, zero_rows, same, top-is))
+        omega (arith, low, kept, none, no-rows, same, top-is))
         (cases_lt 0 st.first_section)
 
     abbrev n2 : ℕ
@@ -597,8 +566,7 @@ module _ (s : ViewState) (h scroll : ℕ) (st : Stretch) (df : File) (dr : FileR
         go false e =
             let t = is.top dr in
             let inner = is.section_top dr in
-            let own_top = begins.top in
-            omega (arith, t, inner, own_top, left-above)
+            omega (arith, t, inner, begins.top, left-above)
 
     pub found : Found
     found = record {

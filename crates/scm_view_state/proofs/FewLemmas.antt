@@ -25,7 +25,7 @@ use Rattle.scm_view_state.specs.Views.{lent_file, lent_files, lent_section}
 use Rattle.scm_view_state.specs.VisibleViews.{view_count}
 use Rattle.scm_view_state.proofs.CoverLemmas.{count-high, count-low, count-more, count-most, layout-length, rows_of_files, sections-length}
 use Rattle.scm_view_state.proofs.FilePartLemmas.{is-other, is-same, range_by}
-use Rattle.scm_view_state.proofs.PartRowLemmas.{rows-length, stacked-top}
+use Rattle.scm_view_state.proofs.PartRowLemmas.{rows-length, stacked-top, each-length}
 use Rattle.scm_view_state.proofs.RiseLemmas.{files-rise}
 
 -- ---- how many sections have a row
@@ -42,18 +42,10 @@ among zero (suc e) (r ∷ rs) = one r + among zero e rs
 among (suc a) (suc e) (r ∷ rs) = among a e rs
 
 one-most : (r : SectionRows) → one r ≤ 1
-one-most r = go (has_row r)
-  where
-    go : (b : Bool) → (if b then 1 else 0) ≤ 1
-    go true = omega arith
-    go false = omega arith
+one-most r = elim (has_row r) as (λ b. (if b then 1 else 0) ≤ 1) [ true ↦ omega arith | false ↦ omega arith ]
 
 one-tall : (top tall : ℕ) → (if nat_lt top (top + tall) then 1 else 0) ≤ tall
-one-tall top tall = go (nat_lt top (top + tall)) refl
-  where
-    go : (b : Bool) → nat_lt top (top + tall) ≡ b → (if b then 1 else 0) ≤ tall
-    go true e = grind (arith, nat_tests)
-    go false e = omega arith
+one-tall top tall = (elim (nat_lt top (top + tall)) as (λ b. nat_lt top (top + tall) ≡ b → (if b then 1 else 0) ≤ tall) [ true ↦ (λ e. grind (arith, nat_tests)) | false ↦ (λ e. omega arith) ]) refl
 
 none-to : (a : ℕ) (rs : List SectionRows) → among a 0 rs ≡ 0
 none-to a [] = refl
@@ -210,18 +202,10 @@ module _ (s : ViewState) (k : FileKey) (total : ℕ) where
 -- ---- the sections of a file that are kept
 
 start-least : (first : ℕ) (xs : List Section) → first ≤ start_of first xs + 1
-start-least first xs = go (is_editable_at (first - 1) xs)
-  where
-    go : (b : Bool) → first ≤ (if b then first - 1 else first) + 1
-    go true = omega arith
-    go false = omega arith
+start-least first xs = elim (is_editable_at (first - 1) xs) as (λ b. first ≤ (if b then first - 1 else first) + 1) [ true ↦ omega arith | false ↦ omega arith ]
 
 end-most : (n : ℕ) (xs : List Section) → end_of n xs ≤ suc n
-end-most n xs = go (is_editable_at n xs)
-  where
-    go : (b : Bool) → (if b then n + 1 else n) ≤ suc n
-    go true = omega arith
-    go false = omega arith
+end-most n xs = elim (is_editable_at n xs) as (λ b. (if b then n + 1 else n) ≤ suc n) [ true ↦ omega arith | false ↦ omega arith ]
 
 -- how many sections of a file have begun, if it is unfolded
 begun-below : (row : ℕ) (r : FileRows) → r.top < row → sections_begun true row r ≡ count_to (λ (q : SectionRows). q.top) (row - r.top - 1) r.sections
@@ -333,17 +317,6 @@ part-count s k range f =
 more-views : (v : FileView) (vs : List FileView) → view_count (v ∷ vs) ≡ 1 + length v.section_views + view_count vs
 more-views v vs = sum_by-cons (λ (u : FileView). 1 + length u.section_views) v vs
 
-rows-rise : (top j : ℕ) (d : FileRows) (rs : List FileRows) → j < length rs → top ≤ (get_or (stacked top rs) j d).top
-unfolding stacked
-rows-rise top j d [] h = absurd (omega (arith, h))
-rows-rise top zero d (r ∷ rs) h = omega arith
-rows-rise top (suc j) d (r ∷ rs) h = omega (arith, rows-rise (top + (r.end - r.top)) j d rs (omega (arith, h)))
-
-each-count : (s : ViewState) (i : ℕ) (fs : List File) → length (each_file_rows s.expanded 0 i fs) ≡ length fs
-unfolding each_file_rows
-each-count s i [] = refl
-each-count s i (f ∷ fs) = ap suc (each-count s (suc i) fs)
-
 module _ (s : ViewState) (st : Stretch) (first last : ℕ) (order : first ≤ last) where
   abbrev part : ℕ → File → FileView
   part m f = file_part_of s (file_key_of 0 m) (section_range (is_unfolded s m) st m (length f.sections)) f
@@ -405,7 +378,7 @@ module _ (s : ViewState) (st : Stretch) (first last : ℕ) (order : first ≤ la
       let tall_here = tall s k top f (is_unfolded s m) in
       let a = start ∙ ap (λ n. first_section_of s n first (moved_to top (file_rows s.expanded k f)) f) here in
       let below = next (omega arith) in
-      let first_top = stacked-top (top + (1 + tall_here - 0)) dr (each_file_rows s.expanded 0 (suc m) fs) (omega (arith, h, each-count s (suc m) fs)) in
+      let first_top = stacked-top (top + (1 + tall_here - 0)) dr (each_file_rows s.expanded 0 (suc m) fs) (omega (arith, h, each-length s (suc m) fs)) in
       let count = count-by m f true false (is-same m st.first_file here) (is-other m st.last_file (λ p. omega (arith, p, to))) in
       let few = first-few s k top f (is_unfolded s m) first st.first_section st.end_section (length f.sections) a (omega (arith, below, first_top)) in
       let more = more-views (part m f) (take (suc j) (file_parts_of s st (suc m) fs)) in

@@ -8,18 +8,12 @@ use Rattle.std.specs.Ordering.{nat_cmp, is_eq, ordering_reverse, ordering_then, 
 use Rattle.std.specs.Prelude.{fold}
 use Rattle.std.specs.Cmp.{IsTotalOrder}
 use Rattle.std.specs.Cmp.Lexicographic.{on_texts, slice_cmp}
+use Rattle.std.proofs.lemmas.Bool.{or_left}
 use Rattle.scm_types.specs.declared.keys.SelectionKey.{SelectionKey}
-use Rattle.scm_selection.proofs.PartLemmas.{eq-self}
 use Rattle.scm_selection.proofs.RelationLemmas.{key-same}
 pub use Rattle.scm_view_state.specs.LineKeys.{IsBefore, Ascends}
 use Rattle.scm_selection.specs.KeySet.{key_cmp, numbers_of, same_numbers, is_key, has_key, with_key, without_key, with_key_flipped, key_set}
-
-self-numbers : (ns : List ℕ) → same_numbers ns ns ≡ true
-self-numbers [] = refl
-self-numbers (n ∷ ns) = rw (eq-self n) (self-numbers ns)
-
-pub key-self : (k : SelectionKey) → is_key k k ≡ true
-key-self k = self-numbers (numbers_of k)
+use Rattle.scm_view.proofs.PlaceLemmas.{key-self}
 
 equal-numbers : (ms ns : List ℕ) → same_numbers ms ns ≡ is_eq (slice_cmp nat_cmp ms ns)
 equal-numbers [] [] = refl
@@ -113,10 +107,9 @@ with-same (k ∷ ks) key h e = go (key_cmp key k) refl (is_key key k) refl (λ f
     go : (o : Ordering) → key_cmp key k ≡ o → (b : Bool) → is_key key k ≡ b → (has_key ks key ≡ true → with_key ks key ≡ ks) → (b || has_key ks key) ≡ true
         → match_ordering o (key ∷ k ∷ ks) (k ∷ ks) (k ∷ with_key ks key) ≡ k ∷ ks
     go Equal c b s more e = refl
-    go Greater c true s more e = let equal = same-is-equal key k s in cc
     go Greater c false s more e = ap (λ (l : List SelectionKey). k ∷ l) (more e)
-    go Less c true s more e = let equal = same-is-equal key k s in cc
     go Less c false s more e = let none : has_key ks key ≡ false = not-before key ks (before-all key k ks c h.0) in cc
+    go _ c _ s more e = let equal = same-is-equal key k s in cc
 
 -- a key that was added is in the set
 pub with-has : (ks : List SelectionKey) (key : SelectionKey) → has_key (with_key ks key) key ≡ true
@@ -133,22 +126,6 @@ with-has (k ∷ ks) key = go (key_cmp key k) refl (with-has ks key)
         let is : is_key key k ≡ true = equal-is-same key k c in
         rw is refl
     go Greater c more = rw more (or-true (is_key key k))
-
--- a key of the set stays in it
-pub with-keeps : (ks : List SelectionKey) (key other : SelectionKey) → has_key ks other ≡ true → has_key (with_key ks key) other ≡ true
-with-keeps [] key other e = cc
-with-keeps (k ∷ ks) key other e = go (key_cmp key k) (is_key other k) refl (λ found. with-keeps ks key other found) e
-  where
-    or-true : (b : Bool) → (b || true) ≡ true
-    or-true true = refl
-    or-true false = refl
-
-    go : (o : Ordering) (b : Bool) → is_key other k ≡ b → (has_key ks other ≡ true → has_key (with_key ks key) other ≡ true) → (b || has_key ks other) ≡ true
-        → has_key (match_ordering o (key ∷ k ∷ ks) (k ∷ ks) (k ∷ with_key ks key)) other ≡ true
-    go Less b s more e = rw s (rw e (or-true (is_key other key)))
-    go Equal b s more e = rw s e
-    go Greater true s more e = rw s refl
-    go Greater false s more e = rw s (more e)
 
 -- ---- what is in the set of a list
 
@@ -189,17 +166,9 @@ set-from-has (k ∷ ks) set key =
 
 -- the set of a list has the keys of the list
 pub set-has : (ks : List SelectionKey) (key : SelectionKey) → has_key (key_set ks) key ≡ has_key ks key
-set-has ks key = set-from-has ks [] key ∙ or-false (has_key ks key)
-  where
-    or-false : (b : Bool) → (b || false) ≡ b
-    or-false true = refl
-    or-false false = refl
+set-has ks key = set-from-has ks [] key ∙ (elim (has_key ks key) as (λ b. (b || false) ≡ b) [ true ↦ refl | false ↦ refl ])
 
 -- ---- sets with the same keys
-
-or-first : (b c : Bool) → b ≡ true → (b || c) ≡ true
-or-first true c e = refl
-or-first false c e = absurd (cc e)
 
 same-rest : (a b c : Bool) → (a ≡ true → (b ≡ false) × (c ≡ false)) → (a || b) ≡ (a || c) → b ≡ c
 same-rest true b c none e = let facts = none refl in facts.0 ∙ sym facts.1
@@ -212,13 +181,13 @@ lower-away x y ys e h = not-before x (y ∷ ys) (e, before-all x y ys e h)
 -- two ascending lists with the same keys are the same
 pub same-set : (xs ys : List SelectionKey) → Ascends xs → Ascends ys → ((k : SelectionKey) → has_key xs k ≡ has_key ys k) → xs ≡ ys
 same-set [] [] h g same = refl
-same-set [] (y ∷ ys) h g same = absurd (cc (same y, or-first (is_key y y) (has_key ys y) (key-self y)))
-same-set (x ∷ xs) [] h g same = absurd (cc (same x, or-first (is_key x x) (has_key xs x) (key-self x)))
+same-set [] (y ∷ ys) h g same = absurd (cc (same y, or_left (is_key y y) (has_key ys y) (key-self y)))
+same-set (x ∷ xs) [] h g same = absurd (cc (same x, or_left (is_key x x) (has_key xs x) (key-self x)))
 same-set (x ∷ xs) (y ∷ ys) h g same = go (key_cmp x y) refl (λ rest. same-set xs ys h.1 g.1 rest)
   where
     go : (o : Ordering) → key_cmp x y ≡ o → (((k : SelectionKey) → has_key xs k ≡ has_key ys k) → xs ≡ ys) → x ∷ xs ≡ y ∷ ys
-    go Less e more = absurd (cc (same x, or-first (is_key x x) (has_key xs x) (key-self x), lower-away x y ys e g.0))
-    go Greater e more = absurd (cc (same y, or-first (is_key y y) (has_key ys y) (key-self y), lower-away y x xs (turned x y e) h.0))
+    go Less e more = absurd (cc (same x, or_left (is_key x x) (has_key xs x) (key-self x), lower-away x y ys e g.0))
+    go Greater e more = absurd (cc (same y, or_left (is_key y y) (has_key ys y) (key-self y), lower-away y x xs (turned x y e) h.0))
     go Equal e more =
         let first : x ≡ y = key-same x y (equal-is-same x y e) in
         let none : (k : SelectionKey) → is_key k x ≡ true → (has_key xs k ≡ false) × (has_key ys k ≡ false) =

@@ -37,8 +37,7 @@ context_rows-lent v lines = simp (numbered_rows-lent v)
 rows_of-lent : (v : SectionView) (s : Section) → rows_of (lent_section v) s ≡ rows_of v s
 rows_of-lent v (Unchanged lines) = context_rows-lent v lines
 rows_of-lent v (Changed lines) = rw (changed_rows-lent v 0 lines) refl
-rows_of-lent v (FileMode checked mode) = refl
-rows_of-lent v (Binary checked old new) = refl
+rows_of-lent v _ = refl
 
 section_rows-lent : (v : SectionView) → section_rows (lent_section v) ≡ section_rows v
 unfolding section_rows

@@ -4,24 +4,24 @@ use Rattle.std.specs.Prelude.{if◌then◌else◌}
 use Rattle.std.proofs.lemmas.List.{length-append}
 use Rattle.scm_types.specs.declared.file.File.{File}
 use Rattle.scm_types.specs.declared.keys.FileKey.{FileKey}
-use Rattle.scm_types.specs.declared.keys.SelectionKey.TheVariants as keys
 use Rattle.scm_types.specs.declared.section.Section.{Section}
-use Rattle.scm_types.specs.Keys.{has_key, section_key_of}
+use Rattle.scm_types.specs.Keys.{section_key_of}
 use Rattle.scm_types.specs.Marks.{is_editable_section}
-use Rattle.scm_widgets.specs.Boxes.{is_fold_open}
 use Rattle.scm_document.specs.declared.section_view.SectionView.{SectionView}
 use Rattle.scm_document.specs.Rows as views
 use Rattle.scm_document.specs.Rows.{ShownFile, ShownSection, section_height, shown_section, shown_sections, shown_file, section_rows as section_view_rows, sections_rows as rows_in, file_rows as rows_in_file}
 use Rattle.scm_document.specs.FilesRows.{files_rows}
 use Rattle.scm_document.specs.DocumentParts.{files_to, rows_left_out, with_first}
 use Rattle.scm_document.proofs.SectionsLemmas.{section-size}
+use Rattle.scm_document.proofs.ViewPieceLemmas.{file-height as shown-height}
 use Rattle.scm_rows.specs.Lines.{old_lines}
 use Rattle.scm_view.specs.ViewState.{Totals, ViewState, file_view_of, file_views_of, section_view_of, section_views_of, totals_of}
 use Rattle.scm_layout.specs.declared.file_rows.FileRows.{FileRows}
 use Rattle.scm_layout.specs.declared.section_rows.SectionRows.{SectionRows}
 use Rattle.scm_rows.specs.Heights.{is_section_visible}
-use Rattle.scm_layout.specs.Rows.{each_file_rows, file_height, file_key_of, file_rows, folded_count, is_first_open, is_open, moved_to, sections_height, sections_rows, stacked, visible_height}
-use Rattle.scm_view_state.proofs.ViewRowLemmas.{file-box, open-is, visible-is}
+use Rattle.scm_layout.specs.Rows.{each_file_rows, file_height, file_key_of, file_rows, folded_count, is_first_open, is_open, moved_to, sections_rows, stacked, visible_height}
+use Rattle.scm_layout.proofs.StackLemmas.{length-stacked}
+use Rattle.scm_view_state.proofs.ViewRowLemmas.{file-height, open-is, visible-is}
 use Rattle.scm_view_state.proofs.SectionPartLemmas.{counted, shown_before}
 
 -- ---- sections
@@ -31,11 +31,6 @@ more-rows : (b : Bool) (v : SectionView) (n : ℕ) (ps : List ShownSection)
 unfolding rows_in
 more-rows true v n ps = length-append (section_view_rows v) (rows_in (take n ps)) ∙ ap (λ m. m + length (rows_in (take n ps))) (section-size v)
 more-rows false v n ps = omega arith
-
-all-rows : (b : Bool) (v : SectionView) (ps : List ShownSection) → length (rows_in (shown_section b v ++ ps)) ≡ (if b then section_height v v.section.now else 0) + length (rows_in ps)
-unfolding rows_in
-all-rows true v ps = length-append (section_view_rows v) (rows_in ps) ∙ ap (λ m. m + length (rows_in ps)) (section-size v)
-all-rows false v ps = omega arith
 
 pub no-rows : length (rows_in []) ≡ 0
 unfolding rows_in
@@ -66,24 +61,6 @@ module _ (s : ViewState) (t : Totals) (k : FileKey) where
       ≡ top + length (rows_in (take (counted b (shown_before (views.is_open v) n vs)) (shown_section b v ++ shown_sections (views.is_open v) vs))) = omega (arith, high, more, rest) in
       same
 
-  -- the rows of all of them
-  height-all : (i editable line : ℕ) (before before' : Bool) (xs : List Section) → before ≡ before'
-      → sections_height s.expanded k t.sections i before' xs ≡ length (rows_in (shown_sections before (section_views_of s t k i editable line xs)))
-  unfolding section_views_of sections_height shown_sections
-  height-all i editable line before before' [] e = sym no-rows
-  height-all i editable line before before' (x ∷ xs) e =
-      let v = view i editable line x in
-      let editable' = if is_editable_section x then editable + 1 else editable in
-      let line' = line + old_lines x in
-      let vs = section_views_of s t k (suc i) editable' line' xs in
-      let b = is_section_visible before v.section.now (views.is_first_open vs) in
-      let high = visible-is s t k i editable line before before' x xs editable' line' e in
-      let more = all-rows b v (shown_sections (views.is_open v) vs) in
-      let rest = height-all (suc i) editable' line' (views.is_open v) (is_open s.expanded k i x) xs (open-is s t k i editable line x) in
-      let same : visible_height s.expanded k t.sections i before' x (is_first_open s.expanded k (suc i) xs) + sections_height s.expanded k t.sections (suc i) (is_open s.expanded k i x) xs
-      ≡ length (rows_in (shown_section b v ++ shown_sections (views.is_open v) vs)) = omega (arith, high, more, rest) in
-      same
-
 -- the first row of section n of a file, counted from the row below the header
 pub section-top : (s : ViewState) (k : FileKey) (f : File) (n : ℕ) (d : SectionRows) → n < length f.sections
     → (get_or (file_rows s.expanded k f).sections n d).top
@@ -95,24 +72,15 @@ section-top s k f n d h =
     from-zero : (m : ℕ) → 0 + m ≡ m
     from-zero m = omega arith
 
-if-rows : (b : Bool) (ps : List ShownSection) → (if b then length (rows_in ps) else 0) ≡ length (rows_in (if b then ps else []))
-if-rows true ps = refl
-if-rows false ps = sym no-rows
-
--- the rows of a file
-pub file-tall : (s : ViewState) (k : FileKey) (f : File) → file_height s.expanded k f ≡ 1 + length (rows_in (shown_file (file_view_of s k f)).sections)
-unfolding shown_file
-file-tall s k f =
-    let vs = (file_view_of s k f).section_views in
-    ap (λ n. 1 + (if has_key s.expanded (keys.File k) then n else 0)) (height-all s (totals_of f.sections) k 0 0 0 false false f.sections refl)
-    ∙ ap (λ b. 1 + (if b then length (rows_in (shown_sections false vs)) else 0)) (sym (file-box s k f))
-    ∙ ap (λ n. 1 + n) (if-rows (is_fold_open (file_view_of s k f).expand_box) (shown_sections false vs))
-
 -- ---- files
 
 rows-of-file : (f : ShownFile) → length (rows_in_file f) ≡ 1 + length (rows_in f.sections)
 unfolding rows_in_file
 rows-of-file f = omega arith
+
+-- the rows of a file of the session
+pub file-tall : (s : ViewState) (k : FileKey) (f : File) → file_height s.expanded k f ≡ 1 + length (rows_in (shown_file (file_view_of s k f)).sections)
+file-tall s k f = file-height s k f ∙ sym (shown-height (file_view_of s k f)) ∙ rows-of-file (shown_file (file_view_of s k f))
 
 no-file-rows : length (files_rows []) ≡ 0
 unfolding files_rows
@@ -139,18 +107,13 @@ unfolding stacked
 stacked-top t d [] h = absurd (omega (arith, h))
 stacked-top t d (r ∷ rs) h = refl
 
-stacked-length : (t : ℕ) (rs : List FileRows) → length (stacked t rs) ≡ length rs
-unfolding stacked
-stacked-length t [] = refl
-stacked-length t (r ∷ rs) = ap suc (stacked-length (t + (r.end - r.top)) rs)
-
-each-length : (s : ViewState) (i : ℕ) (fs : List File) → length (each_file_rows s.expanded 0 i fs) ≡ length fs
+pub each-length : (s : ViewState) (i : ℕ) (fs : List File) → length (each_file_rows s.expanded 0 i fs) ≡ length fs
 unfolding each_file_rows
 each-length s i [] = refl
 each-length s i (f ∷ fs) = ap suc (each-length s (suc i) fs)
 
 pub rows-length : (s : ViewState) (top i : ℕ) (fs : List File) → length (stacked top (each_file_rows s.expanded 0 i fs)) ≡ length fs
-rows-length s top i fs = stacked-length top (each_file_rows s.expanded 0 i fs) ∙ each-length s i fs
+rows-length s top i fs = length-stacked top (each_file_rows s.expanded 0 i fs) ∙ each-length s i fs
 
 pub views-length : (s : ViewState) (i : ℕ) (fs : List File) → length (map shown_file (file_views_of s 0 i fs)) ≡ length fs
 unfolding file_views_of

@@ -9,11 +9,9 @@ use Rattle.scm_layout.specs.Rows.{each_file_rows, file_key_of, file_rows, folded
 use Rattle.scm_layout.proofs.SearchLemmas.{files-follow, follow-rise, sections-follow}
 use Rattle.scm_view_state.specs.Stretches.{AreFileRows}
 use Rattle.scm_view_state.proofs.CoverLemmas.{layout-length}
-use Rattle.scm_view_state.proofs.PartRowLemmas.{file-of, rows-length}
+use Rattle.scm_view_state.proofs.PartRowLemmas.{file-of}
 
 module _ (rs : List FileRows) (s : ViewState) (fs : List File) (are : AreFileRows rs s fs) where
-  pub rows-count : length rs ≡ length fs
-  rows-count = ap length are.is_it ∙ rows-length s are.top 0 fs
 
   pub files-rise : IsNonDecreasingBy (λ (r : FileRows). r.top) rs
   files-rise =

@@ -2,7 +2,8 @@
 use Rattle.std.proofs.Common.{◌≡◌, ℕ, zero, suc, ◌+◌, ◌-◌, ◌<◌, ◌≤◌, ◌⊎◌, inl, inr, min, nat_le, nat_lt, Bool, true, false, not, ◌&&◌, ◌||◌, List, [], ◌∷◌, ◌++◌, length, take, drop, get_or, refl, sym, ap, ap₂, ◌∙◌, arith}
 use Rattle.std.specs.Prelude.{◌==◌, if◌then◌else◌}
 use Rattle.std.proofs.lemmas.Bool.Decides.{nat_tests}
-use Rattle.std.proofs.lemmas.List.{append-nil, length-drop, length-take}
+use Rattle.std.proofs.lemmas.List.{append-nil, length-drop, length-take, get_or_default}
+use Rattle.std.proofs.lemmas.Bool.{and_left}
 use Rattle.scm_types.specs.declared.file.File.{File}
 use Rattle.scm_types.specs.declared.keys.FileKey.{FileKey}
 use Rattle.scm_types.specs.declared.section.Section.{Section}
@@ -26,27 +27,21 @@ use Rattle.scm_layout.specs.Searches.{FollowFrom, SectionsFollow, count_to}
 use Rattle.scm_layout.proofs.SearchLemmas.{follow-rise}
 use Rattle.scm_view_state.proofs.CoverLemmas.{count-low, count-most, layout-length, sections-length}
 use Rattle.scm_view_state.proofs.ViewRowLemmas.{first-is, open-is}
-use Rattle.scm_view_state.proofs.SectionPartLemmas.{more-taken, none-taken, with_sections}
+use Rattle.scm_view_state.proofs.SectionPartLemmas.{more-taken, with_sections}
+use Rattle.scm_view.proofs.SessionLemmas.{shown-which}
 
 -- ---- lists
 
 -- each section without a row is not visible
 abbrev Bare : Bool → List SectionRows → List SectionView → Type 0
-Bare before [] vs = Unit {0}
-Bare before (r ∷ rs) [] = Unit {0}
 Bare before (r ∷ rs) (v ∷ vs) =
     (has_row r ≡ false → is_section_visible before v.section.now (views.is_first_open vs) ≡ false) × Bare (views.is_open v) rs vs
+Bare before _ _ = Unit {0}
 
 -- what is known of a section that is not visible
 unseen : (editable before after : Bool) → (editable || (before || after)) ≡ false → (editable ≡ false) × ((before ≡ false) × (after ≡ false))
-unseen true before after e = absurd (cc e)
-unseen false true after e = absurd (cc e)
-unseen false false true e = absurd (cc e)
 unseen false false false e = (refl, (refl, refl))
-
-closed : (editable unfolded : Bool) → editable ≡ false → (editable && unfolded) ≡ false
-closed true unfolded e = absurd (cc e)
-closed false unfolded e = refl
+unseen _ _ _ e = absurd (cc e)
 
 first-kept : (before : Bool) (rs : List SectionRows) (vs : List SectionView) → length rs ≡ length vs → Bare before rs vs
     → views.is_first_open (views_with_rows rs vs) ≡ views.is_first_open vs
@@ -61,7 +56,7 @@ first-kept before (r ∷ rs) (v ∷ vs) e w = go (has_row r) refl (first-kept (v
     go true p more = refl
     go false p more =
         let u = unseen (is_editable_section v.section.now) before (views.is_first_open vs) (w.0 p) in
-        more ∙ u.1.1 ∙ sym (closed (is_editable_section v.section.now) (is_fold_open v.expand_box) u.0)
+        more ∙ u.1.1 ∙ sym (and_left (is_editable_section v.section.now) (is_fold_open v.expand_box) u.0)
 
 -- the others are shown as before
 kept-same : (before : Bool) (rs : List SectionRows) (vs : List SectionView) → length rs ≡ length vs → Bare before rs vs
@@ -80,7 +75,7 @@ kept-same before (r ∷ rs) (v ∷ vs) e w =
         ap₂ (λ b ps. shown_section (is_section_visible before v.section.now b) v ++ ps) (first-kept (views.is_open v) rs vs (omega (arith, e)) w.1) more
     go false p more =
         let u = unseen (is_editable_section v.section.now) before (views.is_first_open vs) (w.0 p) in
-        let same = u.1.0 ∙ sym (closed (is_editable_section v.section.now) (is_fold_open v.expand_box) u.0) in
+        let same = u.1.0 ∙ sym (and_left (is_editable_section v.section.now) (is_fold_open v.expand_box) u.0) in
         ap (λ b. shown_sections b (views_with_rows rs vs)) same ∙ more
         ∙ sym (ap (λ b. shown_section b v ++ shown_sections (views.is_open v) vs) (w.0 p))
 
@@ -117,9 +112,8 @@ bare-take before (suc n) (r ∷ rs) (v ∷ vs) w = (
 )
   where
     first-taken : (n : ℕ) (us : List SectionView) → views.is_first_open us ≡ false → views.is_first_open (take n us) ≡ false
-    first-taken zero us e = refl
-    first-taken (suc n) [] e = refl
     first-taken (suc n) (u ∷ us) e = e
+    first-taken _ _ e = refl
 
 bare-drop : (before : Bool) (n : ℕ) (rs : List SectionRows) (vs : List SectionView) → Bare before rs vs → Bare false (drop n rs) (drop n vs)
 bare-drop before zero rs vs w = bare-first before rs vs w
@@ -152,13 +146,6 @@ height-some total i true (Changed lines) h = omega arith
 height-some total i false (Changed lines) h = omega arith
 height-some total i unfolded (FileMode is_checked mode) h = omega arith
 height-some total i unfolded (Binary is_checked old new) h = omega arith
-
-which : (editable before after first last : Bool) → (editable || (before || after)) ≡ true → (before ≡ true → first ≡ false) → (after ≡ true → last ≡ false)
-    → (editable ≡ true) ⊎ (first ≡ true → last ≡ false)
-which true before after first last h p q = inl refl
-which false true after first last h p q = inr (λ e. absurd (cc (e, p refl)))
-which false false true first last h p q = inr (λ e. q refl)
-which false false false first last h p q = absurd (cc h)
 
 bare-by : (seen : Bool) (top n : ℕ) → (seen ≡ true → 0 < n) → nat_lt top (top + (if seen then n else 0)) ≡ false → seen ≡ false
 bare-by true top n some e = let s = some refl in absurd (grind (arith, nat_tests))
@@ -193,7 +180,7 @@ module _ (s : ViewState) (t : Totals) (k : FileKey) where
 
       tall : seen ≡ true → 0 < height_of (place t.sections i) (is_expanded s.expanded k i) x
       tall e = height-some t.sections i (is_expanded s.expanded k i) x
-          (which (is_editable_section x) before' after (i == 0) (i + 1 == t.sections) e
+          (shown-which before' (is_editable_section x) after (i == 0) (i + 1 == t.sections) e
           (λ p. let low = h p in grind (arith, nat_tests, low))
           (λ p. let more = open-more s k (suc i) xs p in grind (arith, nat_tests, size, more)))
 
@@ -252,7 +239,7 @@ module _ (a : ℕ) (rs : List SectionRows) (vs : List SectionView) (count : leng
   -- no section yet
   pub none-yet : views_to a ≡ []
   unfolding views_with_rows
-  none-yet = ap (λ qs. views_with_rows qs (drop a (take a vs))) (none-taken a rs)
+  none-yet = ap (λ qs. views_with_rows qs (drop a (take a vs))) (no-elements a a rs (omega arith))
 
   -- an end above the beginning
   pub none-between : (e : ℕ) → e ≤ a → views_to e ≡ []
@@ -260,12 +247,6 @@ module _ (a : ℕ) (rs : List SectionRows) (vs : List SectionView) (count : leng
   none-between e h = ap (λ qs. views_with_rows qs (drop a (take e vs))) (no-elements e a rs h)
 
 -- ---- the section that comes next
-
--- an element within a list is the same with any default
-get-any : {A : Type 0} (n : ℕ) (d e : A) (xs : List A) → n < length xs → get_or xs n d ≡ get_or xs n e
-get-any n d e [] h = absurd (omega (arith, h))
-get-any zero d e (x ∷ xs) h = refl
-get-any (suc n) d e (x ∷ xs) h = get-any n d e xs (omega (arith, h))
 
 module _ {A : Type 0} (top end : A → ℕ) where
   follow-at : (t n : ℕ) (d : A) (xs : List A) → FollowFrom top end t xs → suc n < length xs → end (get_or xs n d) ≡ top (get_or xs (suc n) d)
@@ -287,7 +268,7 @@ bare-between rs follow j i e d inside after below =
     let most = count-most top (get_or rs j e).end rs in
     let next = follow-at top end follow.top i d rs follow.follow (omega (arith, below, most)) in
     let own = follow-at top end follow.top j e rs follow.follow (omega (arith, below, most, after)) in
-    let same = get-any (suc j) d e rs (omega (arith, below, most, after)) in
+    let same = get_or_default rs (suc j) d e (omega (arith, below, most, after)) in
     let same_top = ap top same in
     let rise = follow-rise top end follow.top rs follow.follow (suc j) i d (omega (arith, after)) (omega (arith, below, most)) in
     let low = count-low top (get_or rs j e).end (suc i) d rs (omega (arith, below)) in

@@ -1,8 +1,9 @@
 -- Views of some of a file's sections, one below another, show the part of the file that these sections make, if the sections at its
 -- edges show the same without their neighbours.
-use Rattle.std.proofs.Common.{◌≡◌, ℕ, zero, suc, ◌<◌, ◌≤◌, Bool, true, false, ◌&&◌, ◌||◌, List, [], ◌∷◌, ◌++◌, length, take, drop, get_or, refl, sym, ap, ap₂, ◌∙◌, arith}
+use Rattle.std.proofs.Common.{◌≡◌, ℕ, zero, suc, ◌<◌, ◌≤◌, Bool, true, false, ◌||◌, List, [], ◌∷◌, ◌++◌, length, take, drop, get_or, refl, sym, ap, ap₂, ◌∙◌, arith}
 use Rattle.std.specs.Prelude.{if◌then◌else◌}
 use Rattle.std.proofs.lemmas.List.{take_all}
+use Rattle.std.proofs.lemmas.Bool.{and_left}
 use Rattle.scm_types.specs.Marks.{is_editable_section}
 use Rattle.scm_widgets.specs.Boxes.{is_fold_open}
 use Rattle.scm_document.specs.declared.section_view.SectionView.{SectionView}
@@ -21,12 +22,6 @@ more-taken zero (suc i) d (x ∷ xs) low within = ap (λ ys. x ∷ ys) (more-tak
 more-taken (suc a) zero d (x ∷ xs) low within = absurd (omega (arith, low))
 more-taken (suc a) (suc i) d (x ∷ xs) low within = more-taken a i d xs (omega (arith, low)) (omega (arith, within))
 
--- no element yet
-pub none-taken : {A : Type 0} (a : ℕ) (xs : List A) → ◌≡◌ {A = List A} (drop a (take a xs)) []
-none-taken zero xs = refl
-none-taken (suc a) [] = refl
-none-taken (suc a) (x ∷ xs) = none-taken a xs
-
 pub take-none : {A : Type 0} (n : ℕ) → ◌≡◌ {A = List A} (take n []) []
 take-none zero = refl
 take-none (suc n) = refl
@@ -42,13 +37,8 @@ counted b n = if b then suc n else n
 
 -- of the first n sections, as they are shown among all of them
 abbrev pub shown_before : Bool → ℕ → List SectionView → ℕ
-shown_before before zero vs = 0
-shown_before before (suc n) [] = 0
 shown_before before (suc n) (v ∷ vs) = counted (is_section_visible before v.section.now (is_first_open vs)) (shown_before (is_open v) n vs)
-
-pub before-none : (before : Bool) (n : ℕ) → shown_before before n [] ≡ 0
-before-none before zero = refl
-before-none before (suc n) = refl
+shown_before before _ _ = 0
 
 -- more sections have no fewer shown ones
 counted-more : (b : Bool) (m n : ℕ) → m ≤ n → counted b m ≤ counted b n
@@ -56,20 +46,17 @@ counted-more true m n h = omega (arith, h)
 counted-more false m n h = h
 
 pub before-more : (before : Bool) (m n : ℕ) (vs : List SectionView) → m ≤ n → shown_before before m vs ≤ shown_before before n vs
-before-more before zero n vs h = omega arith
 before-more before (suc m) zero vs h = absurd (omega (arith, h))
-before-more before (suc m) (suc n) [] h = omega arith
 before-more before (suc m) (suc n) (v ∷ vs) h = counted-more (is_section_visible before v.section.now (is_first_open vs)) (shown_before (is_open v) m vs) (shown_before (is_open v) n vs) (before-more (is_open v) m n vs (omega (arith, h)))
+before-more before _ _ _ h = omega arith
 
 -- ---- where a part may end
 
 -- the last of the first n sections shows the same without the section after it
 abbrev pub EndsWell : ℕ → List SectionView → Type 0
-EndsWell zero vs = Unit {0}
-EndsWell (suc zero) [] = Unit {0}
 EndsWell (suc zero) (v ∷ vs) = (before : Bool) → is_section_visible before v.section.now false ≡ is_section_visible before v.section.now (is_first_open vs)
-EndsWell (suc (suc n)) [] = Unit {0}
 EndsWell (suc (suc n)) (v ∷ vs) = EndsWell (suc n) vs
+EndsWell _ _ = Unit {0}
 
 ends-next : (n : ℕ) (v : SectionView) (vs : List SectionView) → EndsWell (suc n) (v ∷ vs) → EndsWell n vs
 ends-next zero v vs w = tt
@@ -91,20 +78,18 @@ take-counted false v n ps qs e = e
 
 pub first-shown : (before : Bool) (n : ℕ) (vs : List SectionView) → EndsWell n vs → shown_sections before (take n vs) ≡ take (shown_before before n vs) (shown_sections before vs)
 unfolding shown_sections
-first-shown before zero vs w = refl
-first-shown before (suc n) [] w = refl
 first-shown before (suc n) (v ∷ vs) w =
     ap (λ b. shown_section b v ++ shown_sections (is_open v) (take n vs)) (same-visible before n v vs w)
     ∙ take-counted (is_section_visible before v.section.now (is_first_open vs)) v (shown_before (is_open v) n vs) (shown_sections (is_open v) (take n vs)) (shown_sections (is_open v) vs)
     (first-shown (is_open v) n vs (ends-next n v vs w))
+first-shown before _ _ w = refl
 
 -- so are those before section m of them
 pub before-taken : (before : Bool) (m n : ℕ) (vs : List SectionView) → m ≤ n → EndsWell n vs → shown_before before m (take n vs) ≡ shown_before before m vs
-before-taken before zero n vs h w = refl
 before-taken before (suc m) zero vs h w = absurd (omega (arith, h))
-before-taken before (suc m) (suc n) [] h w = refl
 before-taken before (suc m) (suc n) (v ∷ vs) h w =
     ap₂ counted (same-visible before n v vs w) (before-taken (is_open v) m n vs (omega (arith, h)) (ends-next n v vs w))
+before-taken before _ _ _ h w = refl
 
 -- a part may end with all sections
 pub all-end : (vs : List SectionView) → EndsWell (length vs) vs
@@ -123,29 +108,22 @@ editable_view_at n [] = false
 editable_view_at zero (v ∷ vs) = is_editable_view v
 editable_view_at (suc n) (v ∷ vs) = editable_view_at n vs
 
-not-editable : (b c : Bool) → b ≡ false → (b && c) ≡ false
-not-editable true c e = absurd (cc e)
-not-editable false c e = refl
-
 editable-shown : (b x y : Bool) → b ≡ true → (b || x) ≡ (b || y)
 editable-shown true x y e = refl
 editable-shown false x y e = absurd (cc e)
 
 -- a part may end before a section that cannot be edited
 pub ends-before : (n : ℕ) (vs : List SectionView) → editable_view_at n vs ≡ false → EndsWell n vs
-ends-before zero vs e = tt
-ends-before (suc zero) [] e = tt
 ends-before (suc zero) (v ∷ []) e = λ before. refl
-ends-before (suc zero) (v ∷ (u ∷ vs)) e = λ before. ap (is_section_visible before v.section.now) (sym (not-editable (is_editable_view u) (is_fold_open u.expand_box) e))
-ends-before (suc (suc n)) [] e = tt
+ends-before (suc zero) (v ∷ (u ∷ vs)) e = λ before. ap (is_section_visible before v.section.now) (sym (and_left (is_editable_view u) (is_fold_open u.expand_box) e))
 ends-before (suc (suc n)) (v ∷ vs) e = ends-before (suc n) vs e
+ends-before _ _ e = tt
 
 -- and after one that can
 pub ends-after : (n : ℕ) (vs : List SectionView) → editable_view_at n vs ≡ true → EndsWell (suc n) vs
-ends-after zero [] e = absurd (cc e)
 ends-after zero (v ∷ vs) e = λ before. editable-shown (is_editable_view v) (before || false) (before || is_first_open vs) e
-ends-after (suc n) [] e = absurd (cc e)
 ends-after (suc n) (v ∷ vs) e = ends-after n vs e
+ends-after _ _ e = absurd (cc e)
 
 -- ---- where a part may begin
 
@@ -169,16 +147,15 @@ drop-counted false v n ps qs e = e
 
 last-shown : (before : Bool) (n : ℕ) (vs : List SectionView) → shown_sections (open_before before n vs) (drop n vs) ≡ drop (shown_before before n vs) (shown_sections before vs)
 unfolding shown_sections
-last-shown before zero vs = refl
-last-shown before (suc n) [] = refl
 last-shown before (suc n) (v ∷ vs) =
     drop-counted (is_section_visible before v.section.now (is_first_open vs)) v (shown_before (is_open v) n vs) (shown_sections (open_before (is_open v) n vs) (drop n vs)) (shown_sections (is_open v) vs) (last-shown (is_open v) n vs)
+last-shown before _ _ = refl
 
 -- a part may begin after a section that cannot be edited
 closed-before : (before : Bool) (n end : ℕ) (vs : List SectionView) → editable_view_at n vs ≡ false → open_before before (suc n) (take end vs) ≡ false
 closed-before before n end [] e = ap (open_before before (suc n)) (take-none end)
 closed-before before n zero (v ∷ vs) e = refl
-closed-before before zero (suc end) (v ∷ vs) e = not-editable (is_editable_view v) (is_fold_open v.expand_box) e
+closed-before before zero (suc end) (v ∷ vs) e = and_left (is_editable_view v) (is_fold_open v.expand_box) e
 closed-before before (suc n) (suc end) (v ∷ vs) e = closed-before (is_open v) n end vs e
 
 pub starts-after : (n : ℕ) (vs : List SectionView) → editable_view_at n vs ≡ false → StartsWell (suc n) vs

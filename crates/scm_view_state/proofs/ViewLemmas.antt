@@ -1,14 +1,11 @@
 -- The views of a view state, section by section and file by file.
 use Rattle.std.proofs.Common.{◌≡◌, ℕ, zero, suc, ◌+◌, ◌<◌, ◌≤◌, Bool, true, false, ◌&&◌, List, [], ◌∷◌, ◌++◌, length, drop, get_or, refl, ap, sym, ◌∙◌, add-one, drop-cons, arith}
 use Rattle.std.specs.List.{list_all}
-use Rattle.std.specs.Prelude.{map, sum_by, None, slice_get, unwrap_or, if◌then◌else◌}
+use Rattle.std.specs.Prelude.{map, None, slice_get, unwrap_or, if◌then◌else◌}
 use Rattle.std.proofs.lemmas.List.{drop_all}
-use Rattle.std.proofs.lemmas.List.Sums.{count_by-le-length, sum_by-cons}
 use Rattle.scm_types.specs.declared.file.File.{File}
 use Rattle.scm_types.specs.declared.section.Section.{Section}
-use Rattle.scm_types.specs.declared.section.Section.TheVariants.{Unchanged, Changed, FileMode, Binary}
 use Rattle.scm_types.specs.declared.state.Commit.{Commit}
-use Rattle.scm_types.specs.Limits.{section_size}
 use Rattle.scm_types.specs.Marks.{is_editable_section}
 use Rattle.scm_types.specs.declared.keys.FileKey.{FileKey}
 use Rattle.scm_types.specs.declared.keys.SelectionKey.TheVariants as keys
@@ -18,7 +15,7 @@ use Rattle.scm_types.specs.Keys.{section_key_of, has_key}
 use Rattle.scm_document.specs.declared.section_view.SectionView.{SectionView}
 use Rattle.scm_view_state.specs.Views.{lent_sections}
 use Rattle.scm_view_state.specs.Folds.{has_no_fold, is_full}
-use Rattle.scm_rows.specs.Lines.{is_changed, is_removed, old_lines}
+use Rattle.scm_rows.specs.Lines.{is_changed, old_lines}
 use Rattle.scm_view.specs.ViewState.{ViewState, Totals, are_all_expanded, commit_at, file_view_of, file_views_of, section_view_of, section_views_of}
 
 -- ---- lists
@@ -54,18 +51,6 @@ folds-lent (v ∷ vs) = ap (λ b. has_no_fold v && b) (folds-lent vs)
 pub folds-are : (s : ViewState) (t : Totals) (k : FileKey) (sections : List Section) (vs : List SectionView) → lent_sections vs ≡ section_views_of s t k 0 0 0 sections
     → list_all has_no_fold vs ≡ are_all_expanded s k 0 sections
 folds-are s t k sections vs e = sym (folds-lent vs) ∙ ap (list_all has_no_fold) e ∙ folds-of s t k 0 0 0 sections
-
--- ---- sections
-
-old_lines-le : (section : Section) → old_lines section ≤ section_size section
-old_lines-le (Unchanged lines) = omega arith
-old_lines-le (Changed lines) = count_by-le-length is_removed lines
-old_lines-le (FileMode checked mode) = omega arith
-old_lines-le (Binary checked old new) = omega arith
-
-pub old_lines-fit : (sections : List Section) → sum_by old_lines sections ≤ sum_by section_size sections
-old_lines-fit [] = omega arith
-old_lines-fit (s ∷ ss) = omega (arith, sum_by-cons old_lines s ss, sum_by-cons section_size s ss, old_lines-le s, old_lines-fit ss)
 
 -- ---- files
 

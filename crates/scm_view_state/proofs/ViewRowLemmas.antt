@@ -19,18 +19,14 @@ use Rattle.scm_layout.specs.Counts.{editable_after, file_counts, sections_counts
 use Rattle.scm_rows.specs.Context.{place}
 use Rattle.scm_rows.specs.Heights.{is_section_open, is_section_visible, shape_of, shown_height}
 use Rattle.scm_layout.specs.Rows.{each_file_rows, file_height, file_key_of, folded_count, is_expanded, is_first_open, is_open, rows_at, sections_height, sections_rows, stacked, visible_height}
-use Rattle.scm_view_state.specs.ViewCounts.{CountsAreOfViews, HaveCountsOf, HaveSectionCountsOf}
-use Rattle.scm_view_state.specs.ViewRows.{FoldsAreCounted, HaveRowsOf, RowsAreOfViews, section_views_rows, view_height}
+use Rattle.scm_view_state.specs.ViewCounts.{HaveCountsOf, HaveSectionCountsOf}
+use Rattle.scm_view_state.specs.ViewRows.{HaveRowsOf, RowsAreOfViews, section_views_rows, view_height}
 
 -- ---- folds
 
 -- whether the view of a section is unfolded
 pub section-box : (s : ViewState) (k : FileKey) (i : ℕ) → is_fold_open (expand_box_of s (keys.Section (section_key_of k i)) (section_fold s (section_key_of k i))) ≡ is_expanded s.expanded k i
-section-box s k i = go (is_expanded s.expanded k i)
-  where
-    go : (b : Bool) → is_fold_open (expand_box_of s (keys.Section (section_key_of k i)) (if b then tristate.True else tristate.False)) ≡ b
-    go true = refl
-    go false = refl
+section-box s k i = elim (is_expanded s.expanded k i) as (λ b. is_fold_open (expand_box_of s (keys.Section (section_key_of k i)) (if b then tristate.True else tristate.False)) ≡ b) [ true ↦ refl | false ↦ refl ]
 
 -- whether the view of a file is unfolded
 pub file-box : (s : ViewState) (k : FileKey) (f : File) → is_fold_open (file_view_of s k f).expand_box ≡ has_key s.expanded (keys.File k)
@@ -96,7 +92,7 @@ module _ (s : ViewState) (t : Totals) (k : FileKey) where
 
 -- ---- files
 
-file-height : (s : ViewState) (k : FileKey) (f : File) → file_height s.expanded k f ≡ pieces.file_height (file_view_of s k f)
+pub file-height : (s : ViewState) (k : FileKey) (f : File) → file_height s.expanded k f ≡ pieces.file_height (file_view_of s k f)
 file-height s k f =
     let t = totals_of f.sections in
     ap (λ n. 1 + (if has_key s.expanded (keys.File k) then n else 0)) (sym (heights-are s t k 0 0 0 false false f.sections refl))
@@ -134,7 +130,7 @@ section-counts s t k i editable line (x ∷ xs) = (
   section-counts s t k (suc i) (editable_after editable x) (line + old_lines x) xs,
 )
 
-file-counts : (s : ViewState) (commit i : ℕ) (fs : List File) → HaveCountsOf (map file_counts fs) (file_views_of s commit i fs)
+pub file-counts : (s : ViewState) (commit i : ℕ) (fs : List File) → HaveCountsOf (map file_counts fs) (file_views_of s commit i fs)
 unfolding file_views_of
 file-counts s commit i [] = tt
 file-counts s commit i (f ∷ fs) = (
@@ -142,9 +138,6 @@ file-counts s commit i (f ∷ fs) = (
   section-counts s (totals_of f.sections) (file_key_of commit i) 0 0 0 f.sections,
   file-counts s commit (suc i) fs,
 )
-
-pub counts-of-views : CountsAreOfViews
-counts-of-views s commit = file-counts s commit 0 s.state.files
 
 -- ---- folded sections
 
@@ -158,6 +151,3 @@ unfolding are_all_expanded folded_count
 folds-counted s k i [] = refl
 folds-counted s k i (x ∷ xs) =
     count-step (is_changed x) (is_expanded s.expanded k i) (are_all_expanded s k (suc i) xs) (folded_count s.expanded k (suc i) xs) (folds-counted s k (suc i) xs)
-
-pub folds-are-counted : FoldsAreCounted
-folds-are-counted s k sections = folds-counted s k 0 sections

@@ -22,7 +22,6 @@ use Rattle.scm_view_state.proofs.CoverLemmas.{found, rows_of_files, stretch_part
 use Rattle.scm_view_state.proofs.FewLemmas.{stretch-few}
 use Rattle.scm_view_state.proofs.FilePartLemmas.{from-parts}
 use Rattle.scm_view_state.proofs.LentLemmas.{files-lent}
-use Rattle.scm_view_state.proofs.PartRowLemmas.{rows-length}
 
 visible-some : (s : ViewState) (h scroll : ℕ) (st : Stretch) (df : File) (dr : FileRows) (v : VisibleView) (vs : List FileView) → 2 ≤ h → 0 < length s.state.files
     → IsStretch s (scroll + 1) (scroll + h - 1) (rows_of_files s) s.state.files st
@@ -61,9 +60,6 @@ module _ (s : ViewState) (h scroll : ℕ) (st : Stretch) (rs : List FileRows) (f
   is-here : IsStretch s (scroll + 1) (scroll + h - 1) (rows_of_files s) s.state.files st
   is-here = subst (λ (gs : List File). IsStretch s (scroll + 1) (scroll + h - 1) (rows_of_files s) gs st) same_files
       (subst (λ (qs : List FileRows). IsStretch s (scroll + 1) (scroll + h - 1) qs fs st) same_rows is)
-
-  pub lengths-same : length rs ≡ length fs
-  lengths-same = ap length same_rows ∙ rows-length s _ 0 s.state.files ∙ ap length (sym same_files)
 
   pub last-within : st.last_file < length fs
   last-within = any-file (st.last_file < length fs) s.state.files some-here
@@ -135,8 +131,7 @@ visible-none s h scroll v none with_files =
 
 pub visible-painted : VisibleViewsArePainted
 visible-painted v shown w h s is accepted inline plain low =
-    let e = is.scroll in
-    record { shown = shown; part = is.part; accepted = accepted; inline = inline; shows = is.shows; plain = plain; scroll = omega (arith, e, low) }
+    record { shown = shown; part = is.part; accepted = accepted; inline = inline; shows = is.shows; plain = plain; scroll = omega (arith, is.scroll, low) }
 
 pub visible-windows : VisibleViewsShowWindows
 visible-windows v shown w h s rows is high left =

@@ -16,36 +16,29 @@ text t x y s = text_picture s (x +ℤ pos 19) y (t ∷ [])
 pub overflow_add-x : goal.overflow_add-x
 unfolding beside_button
 overflow_add-x c =
-    let fx : FitsSigned w64 c.args.x = c.ranges.x in
-    simp to_z-of_z (InRange-fits _ (span-place _ _ _ _ (PictureInRange-left _ _ c.requires)).0)
+    simp (to_z-of_z, c.ranges.x) (InRange-fits _ (span-place _ _ _ _ (PictureInRange-left _ _ c.requires)).0)
 
 pub show_span-requires : goal.show_span-requires
 unfolding beside_button
 show_span-requires c =
-    let fx : FitsSigned w64 c.args.x = c.ranges.x in
-    let fy : FitsSigned w64 c.args.y = c.ranges.y in
     let f15 : FitsSigned w64 (c.args.x +ℤ pos 15) = InRange-fits _ (span-place _ _ _ _ (PictureInRange-left _ _ c.requires)).0 in
-    rw c.divider_text.ensures (simp to_z-of_z (PictureInRange-left _ _ c.requires))
+    rw c.divider_text.ensures (simp (to_z-of_z, c.ranges.x, c.ranges.y, f15) (PictureInRange-left _ _ c.requires))
 
 pub overflow_add-x-2 : goal.overflow_add-x-2
 unfolding beside_button
 overflow_add-x-2 c =
-    let fx : FitsSigned w64 c.args.x = c.ranges.x in
-    let fy : FitsSigned w64 c.args.y = c.ranges.y in
     let f15 : FitsSigned w64 (c.args.x +ℤ pos 15) = InRange-fits _ (span-place _ _ _ _ (PictureInRange-left _ _ c.requires)).0 in
-    let drawn = rw c.divider_text.ensures at (simp to_z-of_z at c.in_ok-show_span.ensures.ok) in
-    simp to_z-of_z (InRange-fits _ (text-place _ _ _ _ (rest _ _ _ (text c.args.text.now c.args.x c.args.y) drawn c.requires)).0)
+    let drawn = rw c.divider_text.ensures at (simp (to_z-of_z, c.ranges.x, c.ranges.y, f15) at c.in_ok-show_span.ensures.ok) in
+    simp (to_z-of_z, c.ranges.x, c.ranges.y, f15) (InRange-fits _ (text-place _ _ _ _ (rest _ _ _ (text c.args.text.now c.args.x c.args.y) drawn c.requires)).0)
 
 pub show_text-requires : goal.show_text-requires
 unfolding beside_button
 show_text-requires c =
-    let fx : FitsSigned w64 c.args.x = c.ranges.x in
-    let fy : FitsSigned w64 c.args.y = c.ranges.y in
     let f15 : FitsSigned w64 (c.args.x +ℤ pos 15) = InRange-fits _ (span-place _ _ _ _ (PictureInRange-left _ _ c.requires)).0 in
-    let drawn = rw c.divider_text.ensures at (simp to_z-of_z at c.in_ok-show_span.ensures.ok) in
+    let drawn = rw c.divider_text.ensures at (simp (to_z-of_z, c.ranges.x, c.ranges.y, f15) at c.in_ok-show_span.ensures.ok) in
     let last = rest _ _ _ (text c.args.text.now c.args.x c.args.y) drawn c.requires in
     let f19 : FitsSigned w64 (c.args.x +ℤ pos 19) = InRange-fits _ (text-place _ _ _ _ last).0 in
-    simp to_z-of_z last
+    simp (to_z-of_z, c.ranges.x, c.ranges.y, f15, f19) last
 
 pub returns : goal.returns
 unfolding beside_button

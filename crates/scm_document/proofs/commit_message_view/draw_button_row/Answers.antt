@@ -16,20 +16,15 @@ beside t x y s = beside_button t s x y
 pub show_button-requires : goal.show_button-requires
 unfolding button_row_picture
 show_button-requires c =
-    let fx : FitsSigned w64 c.args.x = c.ranges.x in
-    let fy : FitsSigned w64 c.args.y = c.ranges.y in
-    rw (c.edit_button-button.ensures, c.begin_row.ensures.canvas) (simp to_z-of_z (PictureInRange-left _ _ c.requires))
+    rw (c.edit_button-button.ensures, c.begin_row.ensures.canvas) (simp (to_z-of_z, c.ranges.x, c.ranges.y) (PictureInRange-left _ _ c.requires))
 
 pub draw_beside_button-requires : goal.draw_beside_button-requires
 unfolding button_row_picture
 draw_beside_button-requires c =
-    let fx : FitsSigned w64 c.args.x = c.ranges.x in
-    let fy : FitsSigned w64 c.args.y = c.ranges.y in
-    let same = c.begin_row.ensures.canvas in
-    let button = rw same at (simp to_z-of_z at (rw c.edit_button-button.ensures at c.in_ok-show_button.ensures.ok)) in
+    let button = rw c.begin_row.ensures.canvas at (simp (to_z-of_z, c.ranges.x, c.ranges.y) at (rw c.edit_button-button.ensures at c.in_ok-show_button.ensures.ok)) in
     let text = sym c.message_text-text.ensures in
     let all = rw text at c.requires in
-    simp to_z-of_z (rest _ _ _ (beside c.message_text-text.result.now c.args.x c.args.y) button all)
+    simp (to_z-of_z, c.ranges.x, c.ranges.y) (rest _ _ _ (beside c.message_text-text.result.now c.args.x c.args.y) button all)
 
 pub returns : goal.returns
 unfolding button_row_picture

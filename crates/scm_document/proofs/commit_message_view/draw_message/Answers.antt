@@ -33,30 +33,24 @@ last-row s x y a b r = (blank_in_range {K = ComponentId} s (rest_of_row s x y) (
 pub overflow_add-row : goal.overflow_add-row
 unfolding message_picture
 overflow_add-row c =
-    let fy : FitsSigned w64 c.args.y = c.ranges.y in
-    simp to_z-of_z (one-more _ (first-row _ _ _ _ c.requires))
+    simp (to_z-of_z, c.ranges.y) (one-more _ (first-row _ _ _ _ c.requires))
 
 pub overflow_add-below : goal.overflow_add-below
 unfolding message_picture
 overflow_add-below c =
-    let fy : FitsSigned w64 c.args.y = c.ranges.y in
-    simp to_z-of_z (InRange-fits _ (last-row _ _ _ _ _ c.requires))
+    simp (to_z-of_z, c.ranges.y) (InRange-fits _ (last-row _ _ _ _ _ c.requires))
 
 pub show_blank_rest-requires : goal.show_blank_rest-requires
 unfolding message_picture
 show_blank_rest-requires c =
-    let fx : FitsSigned w64 c.args.x = c.ranges.x in
-    let fy : FitsSigned w64 c.args.y = c.ranges.y in
-    rw c.begin_row.ensures.canvas (simp to_z-of_z (PictureInRange-left _ _ c.requires))
+    rw c.begin_row.ensures.canvas (simp (to_z-of_z, c.ranges.x, c.ranges.y) (PictureInRange-left _ _ c.requires))
 
 pub draw_button_row-requires : goal.draw_button_row-requires
 unfolding message_picture
 draw_button_row-requires c =
-    let fx : FitsSigned w64 c.args.x = c.ranges.x in
-    let fy : FitsSigned w64 c.args.y = c.ranges.y in
     let fr : FitsSigned w64 (c.args.y +ℤ pos 1) = one-more _ (first-row _ _ _ _ c.requires) in
-    let upper = rw c.begin_row.ensures.canvas at (simp to_z-of_z at c.in_ok-show_blank_rest.ensures.ok) in
-    simp to_z-of_z (second _ _ _ (middle c.args.commit_idx c.args.message.now c.args.x c.args.y) (lower c.args.x c.args.y) upper c.requires)
+    let upper = rw c.begin_row.ensures.canvas at (simp (to_z-of_z, c.ranges.x, c.ranges.y, fr) at c.in_ok-show_blank_rest.ensures.ok) in
+    simp (to_z-of_z, c.ranges.x, c.ranges.y, fr) (second _ _ _ (middle c.args.commit_idx c.args.message.now c.args.x c.args.y) (lower c.args.x c.args.y) upper c.requires)
 
 pub show_blank_rest-requires-2 : goal.show_blank_rest-requires-2
 unfolding message_picture

@@ -8,35 +8,27 @@ use Rattle.scm_document.proofs.commit_view.draw_body.Goals as goal
 
 pub draw_no_files-requires : goal.draw_no_files-requires
 draw_no_files-requires c =
-    let fx : FitsSigned w64 c.args.x = c.ranges.x in
-    let fy : FitsSigned w64 c.args.y = c.ranges.y in
     let none : (length (map shown_file c.args.files.now) == 0) ≡ true = ap (λ n. n == 0) (length-shown c.args.files.now) ∙ sym c.is_empty.ensures ∙ c.if-is_empty.true in
-    simp to_z-of_z (rw none at c.requires)
+    simp (to_z-of_z, c.ranges.x, c.ranges.y) (rw none at c.requires)
 
 pub strict_add_unsigned-first-requires : goal.strict_add_unsigned-first-requires
 strict_add_unsigned-first-requires c =
-    let fx : FitsSigned w64 c.args.x = c.ranges.x in
-    let fy : FitsSigned w64 c.args.y = c.ranges.y in
     let some : (length (map shown_file c.args.files.now) == 0) ≡ false = ap (λ n. n == 0) (length-shown c.args.files.now) ∙ sym c.is_empty.ensures ∙ c.if-is_empty.false in
-    simp to_z-of_z (InRange-fits _ (files-top _ _ _ _ some (rw some at c.requires)))
+    simp (to_z-of_z, c.ranges.x, c.ranges.y) (InRange-fits _ (files-top _ _ _ _ some (rw some at c.requires)))
 
 pub draw_files-requires : goal.draw_files-requires
 draw_files-requires c =
-    let fx : FitsSigned w64 c.args.x = c.ranges.x in
-    let fy : FitsSigned w64 c.args.y = c.ranges.y in
     let some : (length (map shown_file c.args.files.now) == 0) ≡ false = ap (λ n. n == 0) (length-shown c.args.files.now) ∙ sym c.is_empty.ensures ∙ c.if-is_empty.false in
     let fits : FitsSigned w64 (c.args.y +ℤ pos c.args.height) = InRange-fits _ (files-top _ _ _ _ some (rw some at c.requires)) in
-    let row = simp to_z-of_z at c.strict_add_unsigned-first.ensures in
-    rw row (simp to_z-of_z (rw some at c.requires))
+    let row = simp (to_z-of_z, c.ranges.x, c.ranges.y, fits) at c.strict_add_unsigned-first.ensures in
+    rw row (simp (to_z-of_z, c.ranges.x, c.ranges.y, fits) (rw some at c.requires))
 
 pub returns-then-is_empty : goal.returns-then-is_empty
 returns-then-is_empty c =
-    let fx : FitsSigned w64 c.args.x = c.ranges.x in
-    let fy : FitsSigned w64 c.args.y = c.ranges.y in
     let none : (length (map shown_file c.args.files.now) == 0) ≡ true = ap (λ n. n == 0) (length-shown c.args.files.now) ∙ sym c.is_empty.ensures ∙ c.if-is_empty.true in
     record {
-      ok = rw none (simp to_z-of_z at c.draw_no_files.ensures.ok);
-      counts = rw none (simp to_z-of_z at c.draw_no_files.ensures.counts);
+      ok = rw none (simp (to_z-of_z, c.ranges.x, c.ranges.y) at c.draw_no_files.ensures.ok);
+      counts = rw none (simp (to_z-of_z, c.ranges.x, c.ranges.y) at c.draw_no_files.ensures.counts);
       rect = search rules;
       err = search rules;
     }

@@ -18,51 +18,42 @@ pinned v x y s = pinned_picture (shown_file v) s x y
 pub row_below-below-requires-clause-y : goal.row_below-below-requires-clause-y
 unfolding one_file_picture
 row_below-below-requires-clause-y c =
-    let fy : FitsSigned w64 c.args.y = c.ranges.y in
-    simp to_z-of_z (file-fits (shown_file c.args.file.now) _ _ _ (PictureInRange-part _ _ (PictureInRange-left _ _ c.requires))).next
+    simp (to_z-of_z, c.ranges.y) (file-fits (shown_file c.args.file.now) _ _ _ (PictureInRange-part _ _ (PictureInRange-left _ _ c.requires))).next
 
 pub row_below-below-requires-clause-end : goal.row_below-below-requires-clause-end
 unfolding one_file_picture
 row_below-below-requires-clause-end c =
-    let fy : FitsSigned w64 c.args.y = c.ranges.y in
-    simp to_z-of_z (file-fits (shown_file c.args.file.now) _ _ _ (PictureInRange-part _ _ (PictureInRange-left _ _ c.requires))).end
+    simp (to_z-of_z, c.ranges.y) (file-fits (shown_file c.args.file.now) _ _ _ (PictureInRange-part _ _ (PictureInRange-left _ _ c.requires))).end
 
 pub file_mask-rows-requires-clause-x : goal.file_mask-rows-requires-clause-x
 unfolding one_file_picture
 file_mask-rows-requires-clause-x c =
-    let fx : FitsSigned w64 c.args.x = c.ranges.x in
-    simp to_z-of_z (file-fits (shown_file c.args.file.now) _ _ _ (PictureInRange-part _ _ (PictureInRange-left _ _ c.requires))).left
+    simp (to_z-of_z, c.ranges.x) (file-fits (shown_file c.args.file.now) _ _ _ (PictureInRange-part _ _ (PictureInRange-left _ _ c.requires))).left
 
 pub file_mask-rows-requires-clause-y : goal.file_mask-rows-requires-clause-y
 unfolding one_file_picture
 file_mask-rows-requires-clause-y c =
-    let fy : FitsSigned w64 c.args.y = c.ranges.y in
-    simp to_z-of_z (file-fits (shown_file c.args.file.now) _ _ _ (PictureInRange-part _ _ (PictureInRange-left _ _ c.requires))).top
+    simp (to_z-of_z, c.ranges.y) (file-fits (shown_file c.args.file.now) _ _ _ (PictureInRange-part _ _ (PictureInRange-left _ _ c.requires))).top
 
 pub draw_under-requires-clause-picture : goal.draw_under-requires-clause-picture
 unfolding one_file_picture file_picture shown_file
 draw_under-requires-clause-picture c =
-    let fx : FitsSigned w64 c.args.x = c.ranges.x in
-    let fy : FitsSigned w64 c.args.y = c.ranges.y in
-    rw c.file_mask-rows.ensures.mask (simp to_z-of_z (PictureInRange-left _ _ c.requires))
+    rw c.file_mask-rows.ensures.mask (simp (to_z-of_z, c.ranges.x, c.ranges.y) (PictureInRange-left _ _ c.requires))
 
 pub draw_pinned-requires-clause-below : goal.draw_pinned-requires-clause-below
 unfolding one_file_picture
 draw_pinned-requires-clause-below c =
-    let fy : FitsSigned w64 c.args.y = c.ranges.y in
     let f = shown_file c.args.file.now in
     let fits = file-fits f _ _ _ (PictureInRange-part _ _ (PictureInRange-left _ _ c.requires)) in
     let fb : FitsSigned w64 (c.args.y +ℤ pos (length (file_rows f))) = InRange-fits _ fits.end in
-    let below = simp to_z-of_z at c.row_below-below.ensures in
-    rw below (simp to_z-of_z refl)
+    let below = simp (to_z-of_z, c.ranges.y, fb) at c.row_below-below.ensures in
+    rw below (simp (to_z-of_z, c.ranges.y, fb) refl)
 
 pub draw_pinned-requires-clause-picture : goal.draw_pinned-requires-clause-picture
 unfolding one_file_picture file_picture shown_file
 draw_pinned-requires-clause-picture c =
-    let fx : FitsSigned w64 c.args.x = c.ranges.x in
-    let fy : FitsSigned w64 c.args.y = c.ranges.y in
-    let drawn = simp to_z-of_z at (rw c.file_mask-rows.ensures.mask at c.in_ok-draw_under.ensures.ok) in
-    simp to_z-of_z (rest _ _ _ (pinned c.args.file.now c.args.x c.args.y) drawn c.requires)
+    let drawn = simp (to_z-of_z, c.ranges.x, c.ranges.y) at (rw c.file_mask-rows.ensures.mask at c.in_ok-draw_under.ensures.ok) in
+    simp (to_z-of_z, c.ranges.x, c.ranges.y) (rest _ _ _ (pinned c.args.file.now c.args.x c.args.y) drawn c.requires)
 
 pub returns-clause-draws : goal.returns-clause-draws
 unfolding one_file_picture file_picture shown_file
@@ -81,9 +72,8 @@ returns-clause-draws c =
 pub returns-clause-below : goal.returns-clause-below
 unfolding one_file_picture
 returns-clause-below c =
-    let fy : FitsSigned w64 c.args.y = c.ranges.y in
     let f = shown_file c.args.file.now in
     let fits = file-fits f _ _ _ (PictureInRange-part _ _ (PictureInRange-left _ _ c.requires)) in
     let fb : FitsSigned w64 (c.args.y +ℤ pos (length (file_rows f))) = InRange-fits _ fits.end in
-    let below = simp to_z-of_z at c.row_below-below.ensures in
-    rw below (simp to_z-of_z refl)
+    let below = simp (to_z-of_z, c.ranges.y, fb) at c.row_below-below.ensures in
+    rw below (simp (to_z-of_z, c.ranges.y, fb) refl)

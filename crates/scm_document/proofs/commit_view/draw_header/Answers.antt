@@ -1,4 +1,4 @@
-use Rattle.std.proofs.Common.{rules, FitsSigned, w64}
+use Rattle.std.proofs.Common.{rules}
 use Rattle.std.proofs.lemmas.Int.{to_z-of_z}
 use Rattle.scm_document.specs.Rows.{shown_file}
 use Rattle.scm_document.specs.Pictures.{row_picture, header_picture}
@@ -7,34 +7,27 @@ use Rattle.scm_document.proofs.commit_view.draw_header.Goals as goal
 
 pub pinned_mask-row-requires-clause-x : goal.pinned_mask-row-requires-clause-x
 pinned_mask-row-requires-clause-x c =
-    let fx : FitsSigned w64 c.args.x = c.ranges.x in
-    simp to_z-of_z (header-fits (shown_file c.args.file.now) _ _ _ c.requires).0
+    simp (to_z-of_z, c.ranges.x) (header-fits (shown_file c.args.file.now) _ _ _ c.requires).0
 
 pub pinned_mask-row-requires-clause-y : goal.pinned_mask-row-requires-clause-y
 pinned_mask-row-requires-clause-y c =
-    let fy : FitsSigned w64 c.args.y = c.ranges.y in
-    simp to_z-of_z (header-fits (shown_file c.args.file.now) _ _ _ c.requires).1
+    simp (to_z-of_z, c.ranges.y) (header-fits (shown_file c.args.file.now) _ _ _ c.requires).1
 
 pub pinned_mask-row-requires-clause-end : goal.pinned_mask-row-requires-clause-end
 pinned_mask-row-requires-clause-end c =
-    let fy : FitsSigned w64 c.args.y = c.ranges.y in
-    simp to_z-of_z (header-fits (shown_file c.args.file.now) _ _ _ c.requires).2
+    simp (to_z-of_z, c.ranges.y) (header-fits (shown_file c.args.file.now) _ _ _ c.requires).2
 
 pub draw_under-requires-clause-picture : goal.draw_under-requires-clause-picture
 unfolding row_picture header_picture shown_file
 draw_under-requires-clause-picture c =
-    let fx : FitsSigned w64 c.args.x = c.ranges.x in
-    let fy : FitsSigned w64 c.args.y = c.ranges.y in
-    rw (c.header-header.ensures.key, c.header-header.ensures.heading, c.pinned_mask-row.ensures.mask) (simp to_z-of_z c.requires)
+    rw (c.header-header.ensures.key, c.header-header.ensures.heading, c.pinned_mask-row.ensures.mask) (simp (to_z-of_z, c.ranges.x, c.ranges.y) c.requires)
 
 pub returns : goal.returns
 unfolding row_picture header_picture shown_file
 returns c =
-    let fx : FitsSigned w64 c.args.x = c.ranges.x in
-    let fy : FitsSigned w64 c.args.y = c.ranges.y in
     record {
-      ok = simp to_z-of_z at (rw (c.header-header.ensures.key, c.header-header.ensures.heading, c.pinned_mask-row.ensures.mask) at c.draw_under.ensures.ok);
-      counts = simp to_z-of_z at c.draw_under.ensures.counts;
+      ok = simp (to_z-of_z, c.ranges.x, c.ranges.y) at (rw (c.header-header.ensures.key, c.header-header.ensures.heading, c.pinned_mask-row.ensures.mask) at c.draw_under.ensures.ok);
+      counts = simp (to_z-of_z, c.ranges.x, c.ranges.y) at c.draw_under.ensures.counts;
       rect = search rules;
       err = search rules;
     }

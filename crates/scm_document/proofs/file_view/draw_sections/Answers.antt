@@ -20,9 +20,7 @@ one v x y s = part (section_id v.section_key) (section_picture v s x y)
 
 pub sections-init : goal.sections-init
 sections-init c =
-    let fx : FitsSigned w64 c.args.x = c.ranges.x in
-    let fy : FitsSigned w64 c.args.y = c.ranges.y in
-    rw (c.new-walk.ensures, sym (shown-visible false c.args.views.now)) (simp to_z-of_z (record { row = c.requires.y; counts = refl; left = left-first _ _ c.requires.picture }))
+    rw (c.new-walk.ensures, sym (shown-visible false c.args.views.now)) (simp (to_z-of_z, c.ranges.x, c.ranges.y) (record { row = c.requires.y; counts = refl; left = left-first _ _ c.requires.picture }))
 
 pub row_below-below-requires-clause-end : goal.row_below-below-requires-clause-end
 row_below-below-requires-clause-end c =

@@ -12,11 +12,10 @@ piece-section-requires c = let more = ap sections_height c.in-Some.ensures.steps
 pub sections-preserved : goal.sections-preserved
 sections-preserved c =
     let items = c.sections.pieces.items in
-    let v = c.in-Some.view.now in
     let more = ap sections_height c.in-Some.ensures.steps in
     rw (c.in_ok-push.ensures.items, c.piece-section.ensures) (record {
       added =
-          append_assoc items (Section (section_piece_of v c.sections.row) ∷ []) _
+          append_assoc items (Section (section_piece_of c.in-Some.view.now c.sections.row) ∷ []) _
           ∙ ap (λ vs. items ++ map Section (section_piece_list c.sections.row vs)) (sym c.in-Some.ensures.steps) ∙ c.sections.invariant.added;
       left = omega (arith, more, c.sections.invariant.left);
     })

@@ -21,17 +21,13 @@ text t x y s = text_picture s (x +ℤ pos 4) y (t ∷ [])
 pub show_blank-requires : goal.show_blank-requires
 unfolding title_picture
 show_blank-requires c =
-    let fx : FitsSigned w64 c.args.x = c.ranges.x in
-    let fy : FitsSigned w64 c.args.y = c.ranges.y in
-    simp to_z-of_z (PictureInRange-left _ _ c.requires)
+    simp (to_z-of_z, c.ranges.x, c.ranges.y) (PictureInRange-left _ _ c.requires)
 
 pub show_box-requires : goal.show_box-requires
 unfolding title_picture
 show_box-requires c =
-    let fx : FitsSigned w64 c.args.x = c.ranges.x in
-    let fy : FitsSigned w64 c.args.y = c.ranges.y in
-    let blank = simp to_z-of_z at c.in_ok-show_blank.ensures.ok in
-    simp to_z-of_z (second _ _ _ (box c.args.toggle_box.now c.args.x c.args.y) (text (title_text c.args.title.now) c.args.x c.args.y) blank c.requires)
+    let blank = simp (to_z-of_z, c.ranges.x, c.ranges.y) at c.in_ok-show_blank.ensures.ok in
+    simp (to_z-of_z, c.ranges.x, c.ranges.y) (second _ _ _ (box c.args.toggle_box.now c.args.x c.args.y) (text (title_text c.args.title.now) c.args.x c.args.y) blank c.requires)
 
 pub overflow_add-x : goal.overflow_add-x
 unfolding title_picture

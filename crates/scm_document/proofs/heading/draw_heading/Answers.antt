@@ -19,20 +19,14 @@ before b t n x y s = title_picture b t n s x y
 pub show_box-requires : goal.show_box-requires
 unfolding heading_picture
 show_box-requires c =
-    let fx : FitsSigned w64 c.args.x = c.ranges.x in
-    let fy : FitsSigned w64 c.args.y = c.ranges.y in
-    let column = c.fold_column-fold_x.ensures.column in
     let fits : FitsSigned w64 (fold_column c.args.viewport.now.canvas.sight) = InRange-fits _ (heading-fold _ _ _ _ c.requires) in
-    rw column (simp to_z-of_z (PictureInRange-left _ _ c.requires))
+    rw c.fold_column-fold_x.ensures.column (simp (to_z-of_z, c.ranges.x, c.ranges.y, fits) (PictureInRange-left _ _ c.requires))
 
 pub swap_mask-outer-requires : goal.swap_mask-outer-requires
 swap_mask-outer-requires c =
-    let fx : FitsSigned w64 c.args.x = c.ranges.x in
-    let fy : FitsSigned w64 c.args.y = c.ranges.y in
-    let column = c.fold_column-fold_x.ensures.column in
     let fits : FitsSigned w64 (fold_column c.args.viewport.now.canvas.sight) = InRange-fits _ (heading-fold _ _ _ _ c.requires) in
-    let width = simp to_z-of_z at (rw column at c.gap-width.ensures) in
-    rw width (simp to_z-of_z (heading-mask _ _ _ _ c.requires))
+    let width = simp (to_z-of_z, c.ranges.x, c.ranges.y, fits) at (rw c.fold_column-fold_x.ensures.column at c.gap-width.ensures) in
+    rw width (simp (to_z-of_z, c.ranges.x, c.ranges.y, fits) (heading-mask _ _ _ _ c.requires))
 
 pub draw_before_fold-requires : goal.draw_before_fold-requires
 unfolding heading_picture

@@ -23,16 +23,13 @@ texts t line x y s = text_picture s (x +ℤ pos 4) y (line_texts (sign_text t) l
 pub cover_row-requires : goal.cover_row-requires
 unfolding changed_picture
 cover_row-requires c =
-    let fy : FitsSigned w64 c.args.y = c.ranges.y in
-    simp to_z-of_z (PictureInRange-left _ _ c.requires)
+    simp (to_z-of_z, c.ranges.y) (PictureInRange-left _ _ c.requires)
 
 pub show_box-requires : goal.show_box-requires
 unfolding changed_picture
 show_box-requires c =
-    let fx : FitsSigned w64 c.args.x = c.ranges.x in
-    let fy : FitsSigned w64 c.args.y = c.ranges.y in
-    let cover = simp to_z-of_z at c.cover_row.ensures.new in
-    simp to_z-of_z (second _ _ _ (box c.args.toggle_box.now c.args.x c.args.y) (texts c.args.change_type c.args.line.now c.args.x c.args.y) cover c.requires)
+    let cover = simp (to_z-of_z, c.ranges.x, c.ranges.y) at c.cover_row.ensures.new in
+    simp (to_z-of_z, c.ranges.x, c.ranges.y) (second _ _ _ (box c.args.toggle_box.now c.args.x c.args.y) (texts c.args.change_type c.args.line.now c.args.x c.args.y) cover c.requires)
 
 pub overflow_add-x : goal.overflow_add-x
 unfolding changed_picture

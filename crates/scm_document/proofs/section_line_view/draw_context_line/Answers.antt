@@ -1,4 +1,4 @@
-use Rattle.std.proofs.Common.{rules, List, ℕ, FitsSigned, w64}
+use Rattle.std.proofs.Common.{rules, List, ℕ}
 use Rattle.std.specs.Prelude.{ℤ}
 use Rattle.std.proofs.lemmas.Int.{to_z-of_z}
 use Rattle.scm_render.specs.Canvas.{Sight}
@@ -17,24 +17,19 @@ texts n line x y s = text_picture s x y (line_texts (number_text n) line)
 pub cover_row-requires : goal.cover_row-requires
 unfolding context_picture
 cover_row-requires c =
-    let fy : FitsSigned w64 c.args.y = c.ranges.y in
-    simp to_z-of_z (PictureInRange-left _ _ c.requires)
+    simp (to_z-of_z, c.ranges.y) (PictureInRange-left _ _ c.requires)
 
 pub draw_numbered_texts-requires : goal.draw_numbered_texts-requires
 unfolding context_picture
 draw_numbered_texts-requires c =
-    let fx : FitsSigned w64 c.args.x = c.ranges.x in
-    let fy : FitsSigned w64 c.args.y = c.ranges.y in
-    let cover = simp to_z-of_z at c.cover_row.ensures.new in
-    simp to_z-of_z (rest _ _ _ (texts c.args.number c.args.line.now c.args.x c.args.y) cover c.requires)
+    let cover = simp (to_z-of_z, c.ranges.x, c.ranges.y) at c.cover_row.ensures.new in
+    simp (to_z-of_z, c.ranges.x, c.ranges.y) (rest _ _ _ (texts c.args.number c.args.line.now c.args.x c.args.y) cover c.requires)
 
 pub returns : goal.returns
 unfolding context_picture
 returns c =
-    let fx : FitsSigned w64 c.args.x = c.ranges.x in
-    let fy : FitsSigned w64 c.args.y = c.ranges.y in
-    let cover = simp to_z-of_z at c.cover_row.ensures.new in
-    let drawn = simp to_z-of_z at c.in_ok-draw_numbered_texts.ensures.ok in
+    let cover = simp (to_z-of_z, c.ranges.x, c.ranges.y) at c.cover_row.ensures.new in
+    let drawn = simp (to_z-of_z, c.ranges.x, c.ranges.y) at c.in_ok-draw_numbered_texts.ensures.ok in
     record {
       ok = step _ _ _ _ (texts c.args.number c.args.line.now c.args.x c.args.y) cover drawn;
       counts = search rules;

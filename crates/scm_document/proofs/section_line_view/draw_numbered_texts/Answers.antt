@@ -1,4 +1,4 @@
-use Rattle.std.proofs.Common.{rules, ◌∙◌, sym, FitsSigned, w64}
+use Rattle.std.proofs.Common.{rules, ◌∙◌, sym}
 use Rattle.std.proofs.lemmas.Int.{to_z-of_z}
 use Rattle.scm_cells.specs.Replaced.{line_pieces}
 use Rattle.scm_document.specs.Rows.{line_texts}
@@ -9,23 +9,17 @@ use Rattle.scm_document.proofs.section_line_view.draw_numbered_texts.Goals as go
 
 pub draw_line_texts-requires : goal.draw_line_texts-requires
 draw_line_texts-requires c =
-    let fx : FitsSigned w64 c.args.x = c.ranges.x in
-    let fy : FitsSigned w64 c.args.y = c.ranges.y in
-    rw (c.as_str.ensures.value, c.in_ok-text.ensures.ok) (simp to_z-of_z c.requires)
+    rw (c.as_str.ensures.value, c.in_ok-text.ensures.ok) (simp (to_z-of_z, c.ranges.x, c.ranges.y) c.requires)
 
 pub cover_line-requires : goal.cover_line-requires
 cover_line-requires c =
-    let fx : FitsSigned w64 c.args.x = c.ranges.x in
-    let fy : FitsSigned w64 c.args.y = c.ranges.y in
     let width = front-width c.number_width.result (number_text c.args.number) (line_pieces c.args.line.now) c.number_width.ensures in
-    simp to_z-of_z (cover-in-range _ _ _ _ (line_texts (number_text c.args.number) c.args.line.now) width c.requires)
+    simp (to_z-of_z, c.ranges.x, c.ranges.y) (cover-in-range _ _ _ _ (line_texts (number_text c.args.number) c.args.line.now) width c.requires)
 
 pub returns-in_ok-draw_line_texts : goal.returns-in_ok-draw_line_texts
 returns-in_ok-draw_line_texts c =
-    let fx : FitsSigned w64 c.args.x = c.ranges.x in
-    let fy : FitsSigned w64 c.args.y = c.ranges.y in
     record {
-      ok = rw (c.as_str.ensures.value, c.in_ok-text.ensures.ok) at (simp to_z-of_z at c.in_ok-draw_line_texts.ensures.ok);
+      ok = rw (c.as_str.ensures.value, c.in_ok-text.ensures.ok) at (simp (to_z-of_z, c.ranges.x, c.ranges.y) at c.in_ok-draw_line_texts.ensures.ok);
       counts = search rules;
       rect = search rules;
       err = search rules;
@@ -33,15 +27,12 @@ returns-in_ok-draw_line_texts c =
 
 pub returns-else-is_on_screen : goal.returns-else-is_on_screen
 returns-else-is_on_screen c =
-    let fx : FitsSigned w64 c.args.x = c.ranges.x in
-    let fy : FitsSigned w64 c.args.y = c.ranges.y in
-    let test = simp to_z-of_z at c.is_on_screen.ensures.test in
-    let rows = c.is_on_screen.ensures.rows in
+    let test = simp (to_z-of_z, c.ranges.x, c.ranges.y) at c.is_on_screen.ensures.test in
     let width = front-width c.number_width.result (number_text c.args.number) (line_pieces c.args.line.now) c.number_width.ensures in
     record {
       ok =
-          simp to_z-of_z at c.cover_line.ensures.new
-          ∙ cover-hidden c.args.viewport.now.canvas c.args.x c.args.y _ (line_texts (number_text c.args.number) c.args.line.now) width rows (sym test ∙ c.if-is_on_screen.false);
+          simp (to_z-of_z, c.ranges.x, c.ranges.y) at c.cover_line.ensures.new
+          ∙ cover-hidden c.args.viewport.now.canvas c.args.x c.args.y _ (line_texts (number_text c.args.number) c.args.line.now) width c.is_on_screen.ensures.rows (sym test ∙ c.if-is_on_screen.false);
       counts = counted-hidden _ _ _ _ _ (sym test ∙ c.if-is_on_screen.false) c.cover_line.ensures.counts;
       rect = search rules;
       err = search rules;

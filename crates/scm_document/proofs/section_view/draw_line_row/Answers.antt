@@ -18,23 +18,18 @@ line w x y s = part (line_id w.line_key) (line_picture w s (x +ℤ pos 2) y)
 
 pub cover_rest-requires : goal.cover_rest-requires
 cover_rest-requires c =
-    let fx : FitsSigned w64 c.args.x = c.ranges.x in
-    let fy : FitsSigned w64 c.args.y = c.ranges.y in
-    simp to_z-of_z (PictureInRange-left _ _ (rw (view_row-picture c.args.view.now c.args.viewport.now.canvas.sight c.args.x c.args.y) at c.requires))
+    simp (to_z-of_z, c.ranges.x, c.ranges.y) (PictureInRange-left _ _ (rw (view_row-picture c.args.view.now c.args.viewport.now.canvas.sight c.args.x c.args.y) at c.requires))
 
 pub overflow_add-x : goal.overflow_add-x
 overflow_add-x c =
-    let fx : FitsSigned w64 c.args.x = c.ranges.x in
-    simp to_z-of_z (InRange-fits _ (view-place c.args.view.now _ _ _ c.requires))
+    simp (to_z-of_z, c.ranges.x) (InRange-fits _ (view-place c.args.view.now _ _ _ c.requires))
 
 pub draw_part-requires : goal.draw_part-requires
 draw_part-requires c =
-    let fx : FitsSigned w64 c.args.x = c.ranges.x in
-    let fy : FitsSigned w64 c.args.y = c.ranges.y in
     let wide : FitsSigned w64 (c.args.x +ℤ pos 2) = InRange-fits _ (view-place c.args.view.now _ _ _ c.requires) in
     let all = rw (view_row-picture c.args.view.now c.args.viewport.now.canvas.sight c.args.x c.args.y) at c.requires in
-    let cover = simp to_z-of_z at c.cover_rest.ensures.new in
-    simp to_z-of_z (rest _ _ _ (line c.args.view.now c.args.x c.args.y) cover all)
+    let cover = simp (to_z-of_z, c.ranges.x, c.ranges.y, wide) at c.cover_rest.ensures.new in
+    simp (to_z-of_z, c.ranges.x, c.ranges.y, wide) (rest _ _ _ (line c.args.view.now c.args.x c.args.y) cover all)
 
 pub returns : goal.returns
 returns c =

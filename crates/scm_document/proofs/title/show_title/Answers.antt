@@ -1,4 +1,4 @@
-use Rattle.std.proofs.Common.{rules, ◌∙◌, [], ◌∷◌, sym, FitsSigned, w64}
+use Rattle.std.proofs.Common.{rules, ◌∙◌, [], ◌∷◌, sym}
 use Rattle.std.proofs.lemmas.Int.{to_z-of_z}
 use Rattle.scm_document.specs.Titles.{title_text}
 use Rattle.scm_widgets.proofs.HiddenLemmas.{counted-hidden}
@@ -7,23 +7,17 @@ use Rattle.scm_document.proofs.title.show_title.Goals as goal
 
 pub show_text-requires : goal.show_text-requires
 show_text-requires c =
-    let fx : FitsSigned w64 c.args.x = c.ranges.x in
-    let fy : FitsSigned w64 c.args.y = c.ranges.y in
-    rw (c.as_str.ensures.value, c.in_ok-text.ensures.ok) (simp to_z-of_z c.requires)
+    rw (c.as_str.ensures.value, c.in_ok-text.ensures.ok) (simp (to_z-of_z, c.ranges.x, c.ranges.y) c.requires)
 
 pub cover_texts-requires : goal.cover_texts-requires
 cover_texts-requires c =
-    let fx : FitsSigned w64 c.args.x = c.ranges.x in
-    let fy : FitsSigned w64 c.args.y = c.ranges.y in
     let width = c.in_ok-width.ensures.ok ∙ sym (texts_width-one (title_text c.args.title.now)) in
-    simp to_z-of_z (cover-in-range _ _ _ _ (title_text c.args.title.now ∷ []) width c.requires)
+    simp (to_z-of_z, c.ranges.x, c.ranges.y) (cover-in-range _ _ _ _ (title_text c.args.title.now ∷ []) width c.requires)
 
 pub returns-in_ok-show_text : goal.returns-in_ok-show_text
 returns-in_ok-show_text c =
-    let fx : FitsSigned w64 c.args.x = c.ranges.x in
-    let fy : FitsSigned w64 c.args.y = c.ranges.y in
     record {
-      ok = rw (c.as_str.ensures.value, c.in_ok-text.ensures.ok) at (simp to_z-of_z at c.in_ok-show_text.ensures.ok);
+      ok = rw (c.as_str.ensures.value, c.in_ok-text.ensures.ok) at (simp (to_z-of_z, c.ranges.x, c.ranges.y) at c.in_ok-show_text.ensures.ok);
       counts = search rules;
       rect = search rules;
       err = search rules;
@@ -31,13 +25,10 @@ returns-in_ok-show_text c =
 
 pub returns-in_ok-width : goal.returns-in_ok-width
 returns-in_ok-width c =
-    let fx : FitsSigned w64 c.args.x = c.ranges.x in
-    let fy : FitsSigned w64 c.args.y = c.ranges.y in
-    let test = simp to_z-of_z at c.is_on_screen.ensures.test in
-    let rows = c.is_on_screen.ensures.rows in
+    let test = simp (to_z-of_z, c.ranges.x, c.ranges.y) at c.is_on_screen.ensures.test in
     let width = c.in_ok-width.ensures.ok ∙ sym (texts_width-one (title_text c.args.title.now)) in
     record {
-      ok = simp to_z-of_z at c.cover_texts.ensures.new ∙ cover-hidden c.args.viewport.now.canvas c.args.x c.args.y _ (title_text c.args.title.now ∷ []) width rows (sym test ∙ c.if-is_on_screen.false);
+      ok = simp (to_z-of_z, c.ranges.x, c.ranges.y) at c.cover_texts.ensures.new ∙ cover-hidden c.args.viewport.now.canvas c.args.x c.args.y _ (title_text c.args.title.now ∷ []) width c.is_on_screen.ensures.rows (sym test ∙ c.if-is_on_screen.false);
       counts = counted-hidden _ _ _ _ _ (sym test ∙ c.if-is_on_screen.false) c.cover_texts.ensures.counts;
       rect = search rules;
       err = search rules;

@@ -1,11 +1,12 @@
 use Rattle.std.proofs.Common.{arith}
-use Rattle.scm_document.proofs.WidthLemmas.{decimal-short, decimal-some, decimal-last, decimal-more}
+use Rattle.std.proofs.lemmas.Fmt.{decimal_nonempty}
+use Rattle.scm_document.proofs.WidthLemmas.{decimal-short, decimal-last, decimal-more}
 use Rattle.scm_document.proofs.widths.decimal_width.Goals as goal
 
 pub overflow_add-count : goal.overflow_add-count
 overflow_add-count c =
     let most = decimal-short c.args.number c.ranges.number.fits in
-    omega (arith, most, c.loop-rest.invariant.count, decimal-some c.loop-rest.rest c.loop-rest.invariant.fits)
+    omega (arith, most, c.loop-rest.invariant.count, decimal_nonempty c.loop-rest.rest c.loop-rest.invariant.fits)
 
 pub loop-rest-preserved : goal.loop-rest-preserved
 loop-rest-preserved c =

@@ -5,10 +5,9 @@ use Rattle.scm_layout.specs.Refolds.{last_end}
 use Rattle.scm_layout.proofs.section_folds.last_end.Goals as goal
 
 last-is : (top n : ℕ) (rs : List SectionRows) (d : SectionRows) → length rs ≡ suc n → (get_or rs n d).end ≡ last_end top rs
-last-is top n [] d h = absurd (omega arith)
 last-is top zero (r ∷ []) d h = refl
-last-is top zero (r ∷ s ∷ rs) d h = absurd (omega arith)
 last-is top (suc n) (r ∷ rs) d h = last-is r.end n rs d (omega arith)
+last-is top _ _ d h = absurd (omega arith)
 
 pub returns-else-count-eq0 : goal.returns-else-count-eq0
 returns-else-count-eq0 c = last-is 0 (length c.args.rows.now - 1) c.args.rows.now (record { top = 0; end = 0; shape = shapes.Context 0 }) (omega arith)

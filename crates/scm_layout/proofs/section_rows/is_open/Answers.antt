@@ -6,5 +6,4 @@ use Rattle.scm_layout.proofs.section_rows.is_open.Goals as goal
 
 pub returns-then-unfolded : goal.returns-then-unfolded
 returns-then-unfolded c =
-    let s = c.args.section.now in
-    c.is_editable.ensures ∙ open-all (is_editable_section s) (is_expanded c.args.unfolded.keys.now c.args.key c.args.index) (c.requires c.if-unfolded.true)
+    c.is_editable.ensures ∙ open-all (is_editable_section c.args.section.now) (is_expanded c.args.unfolded.keys.now c.args.key c.args.index) (c.requires c.if-unfolded.true)

@@ -28,10 +28,9 @@ overflow_add-end c =
     let n = length ss in
     let i = c.loop-index.index in
     let s = c.index-sections-index.result in
-    let h = c.visible_height-height.result in
     let within : i < n = omega arith in
     let this : c.loop-index.this ≡ is_open ks k i s = c.loop-index.invariant.this ∙ ap (λ xs. is_first_open ks k i xs) (cut-at ss i s within c.index-sections-index.is) in
-    let is : h ≡ visible_height ks k n i c.loop-index.before s (is_first_open ks k (i + 1) (drop (i + 1) ss)) =
+    let is : c.visible_height-height.result ≡ visible_height ks k n i c.loop-index.before s (is_first_open ks k (i + 1) (drop (i + 1) ss)) =
     c.visible_height-height.ensures
     ∙ ap (λ b. shown_height (place n i) c.loop-index.this c.loop-index.before s b) c.is_open_at-after.ensures
     ∙ ap (λ b. shown_height (place n i) b c.loop-index.before s (is_first_open ks k (i + 1) (drop (i + 1) ss))) this

@@ -1,4 +1,4 @@
-use Rattle.std.proofs.Common.{rules, ◌≡◌, length, sym, ap, ◌∙◌, arith, FitsSigned, w64}
+use Rattle.std.proofs.Common.{rules, ◌≡◌, length, sym, ap, ◌∙◌, arith}
 use Rattle.std.proofs.lemmas.Int.{to_z-of_z}
 use Rattle.scm_render.specs.Picture.{Picture, part}
 use Rattle.scm_render.specs.Canvas.{Canvas, with_picture}
@@ -19,17 +19,15 @@ counted-as c d m n e p = p ∙ ap (added c) e
 
 pub draw_only-requires-clause-picture : goal.draw_only-requires-clause-picture
 draw_only-requires-clause-picture c =
-    let fx : FitsSigned w64 c.args.x = c.ranges.x in
     let s = c.args.viewport.now.canvas.sight in
     let v = c.view-item.result in
     let one : length c.args.views.now ≡ 1 = omega (arith, c.in-len1.len_at_least, c.in-len1.len_below) in
     let alone : views_picture c.args.views.now c.args.width s c.args.x ≡ part ids.AppFiles (view_picture v s c.args.x c.args.width) =
     rw (sym c.view-item.is) at (views_picture-one c.args.views.now v c.args.width s c.args.x one) in
-    simp to_z-of_z (rw alone at c.requires.picture)
+    simp (to_z-of_z, c.ranges.x) (rw alone at c.requires.picture)
 
 pub returns-in-len1 : goal.returns-in-len1
 returns-in-len1 c =
-    let fx : FitsSigned w64 c.args.x = c.ranges.x in
     let s = c.args.viewport.now.canvas.sight in
     let v = c.view-item.result in
     let one : length c.args.views.now ≡ 1 = omega (arith, c.in-len1.len_at_least, c.in-len1.len_below) in
@@ -38,8 +36,8 @@ returns-in-len1 c =
     let counts : views_counts c.args.views.now c.args.width s c.args.x ≡ view_counts v s c.args.x c.args.width =
     rw (sym c.view-item.is) at (views_counts-one c.args.views.now v c.args.width s c.args.x one) in
     record {
-      ok = on-ok _ (drawn-as _ _ _ _ (sym alone)) (simp to_z-of_z at c.draw_only.ensures.ok);
-      counts = on-ok _ (counted-as _ _ _ _ (sym counts)) (simp to_z-of_z at c.draw_only.ensures.counts);
+      ok = on-ok _ (drawn-as _ _ _ _ (sym alone)) (simp (to_z-of_z, c.ranges.x) at c.draw_only.ensures.ok);
+      counts = on-ok _ (counted-as _ _ _ _ (sym counts)) (simp (to_z-of_z, c.ranges.x) at c.draw_only.ensures.counts);
       rect = search rules;
       err = search rules;
     }

@@ -1,5 +1,5 @@
-use Rattle.scm_view_state.proofs.ViewRowLemmas.{counts-of-views}
+use Rattle.scm_view_state.proofs.ViewRowLemmas.{file-counts}
 use Rattle.scm_view_state.proofs.layout_laws.counts_are_of_views.Goals as goal
 
 pub returns : goal.returns
-returns c = counts-of-views
+returns c = λ s commit. file-counts s commit 0 s.state.files

@@ -4,9 +4,9 @@ use Rattle.scm_types.specs.Keys.{section_key_of}
 use Rattle.scm_types.specs.declared.section.Section.{Section}
 use Rattle.scm_layout.specs.declared.file_counts.FileCounts.{FileCounts}
 use Rattle.scm_layout.specs.declared.section_counts.SectionCounts.{SectionCounts}
+use Rattle.scm_layout.proofs.CountLemmas.{length-sections_counts, old_lines-fit}
 use Rattle.scm_view.specs.ViewState.{section_view_of, totals_of}
-use Rattle.scm_view_state.proofs.CountedLemmas.{counted-here, counts-length}
-use Rattle.scm_view_state.proofs.ViewLemmas.{old_lines-fit}
+use Rattle.scm_view_state.proofs.CountedLemmas.{counted-here}
 use Rattle.scm_view_state.proofs.section_views.view_at.Goals as goal
 
 -- what is past the end
@@ -16,7 +16,7 @@ no-counts = record { items = 0; checked = 0; editable_before = 0; lines_before =
 pub bounds-counted-index : goal.bounds-counted-index
 bounds-counted-index c =
     let same = ap (λ (n : FileCounts). length n.sections) c.requires.counted in
-    let count = counts-length 0 0 c.args.file.now.sections in
+    let count = length-sections_counts 0 0 c.args.file.now.sections in
     let slice = ap length c.as_slice-counted.ensures in
     omega (arith, same, count, slice, c.requires.within)
 
@@ -35,8 +35,7 @@ counted_view-requires-clause-editable c =
     (ap (λ (n : FileCounts). n.sections) c.requires.counted) c.requires.within
     (c.index-sections-index.is ∙ ap (λ (xs : List Section). get_or xs c.args.index c.index-sections-index.result) c.as_slice-sections.ensures)
     (ap (λ (ns : List SectionCounts). get_or ns c.args.index no-counts) c.as_slice-counted.ensures) in
-    let b = at.before in
-    omega (arith, items_room, b, c.requires.within, c.requires.size)
+    omega (arith, items_room, at.before, c.requires.within, c.requires.size)
 
 pub counted_view-requires-clause-lines : goal.counted_view-requires-clause-lines
 counted_view-requires-clause-lines c =
@@ -45,8 +44,7 @@ counted_view-requires-clause-lines c =
     (ap (λ (n : FileCounts). n.sections) c.requires.counted) c.requires.within
     (c.index-sections-index.is ∙ ap (λ (xs : List Section). get_or xs c.args.index c.index-sections-index.result) c.as_slice-sections.ensures)
     (ap (λ (ns : List SectionCounts). get_or ns c.args.index no-counts) c.as_slice-counted.ensures) in
-    let a = at.above in
-    omega (arith, items_room, a, old_lines-fit c.args.file.now.sections, c.requires.size)
+    omega (arith, items_room, at.above, old_lines-fit c.args.file.now.sections, c.requires.size)
 
 pub returns : goal.returns
 returns c d =

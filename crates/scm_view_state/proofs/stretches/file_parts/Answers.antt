@@ -16,20 +16,16 @@ pub file_part-requires-clause-folded : goal.file_part-requires-clause-folded
 file_part-requires-clause-folded c =
     let s = c.args.view_state.now in
     let i = c.loop-file_idx.file_idx in
-    let r = c.index-rows-file_idx.result in
-    let f = c.index-files-file_idx.result in
     ap (λ (x : FileRows). x.folded) c.index-rows-file_idx.is
-    ∙ folded-are c.args.rows.now s c.args.files.now c.requires.rows i r f (omega (arith, c.requires.last, c.loop-file_idx-test.true))
+    ∙ folded-are c.args.rows.now s c.args.files.now c.requires.rows i c.index-rows-file_idx.result c.index-files-file_idx.result (omega (arith, c.requires.last, c.loop-file_idx-test.true))
     ∙ ap (λ (x : File). folded_count s.expanded (file_key_of 0 i) 0 x.sections) (sym c.index-files-file_idx.is)
 
 pub file_part-requires-clause-rows : goal.file_part-requires-clause-rows
 file_part-requires-clause-rows c =
     let s = c.args.view_state.now in
     let i = c.loop-file_idx.file_idx in
-    let r = c.index-rows-file_idx.result in
-    let f = c.index-files-file_idx.result in
     ap (λ (x : FileRows). x.sections) c.index-rows-file_idx.is
-    ∙ sections-are c.args.rows.now s c.args.files.now c.requires.rows i r f (omega (arith, c.requires.last, c.loop-file_idx-test.true))
+    ∙ sections-are c.args.rows.now s c.args.files.now c.requires.rows i c.index-rows-file_idx.result c.index-files-file_idx.result (omega (arith, c.requires.last, c.loop-file_idx-test.true))
     ∙ ap (λ (x : File). (file_rows s.expanded (file_key_of 0 i) x).sections) (sym c.index-files-file_idx.is)
 
 pub loop-file_idx-preserved : goal.loop-file_idx-preserved

@@ -6,9 +6,8 @@ use Rattle.scm_view_state.proofs.stretches.top_at.Goals as goal
 pub returns-in-Some : goal.returns-in-Some
 returns-in-Some c =
     let qs = c.args.sections.now in
-    let section = c.in-Some.section.now in
     let within : c.args.index < length qs = grind (arith, c.in-Some.ensures.lookup.0) in
-    ap (λ (q : SectionRows). q.top) c.in-Some.ensures.lookup.1 ∙ sym (top-there c.args.index section qs within)
+    ap (λ (q : SectionRows). q.top) c.in-Some.ensures.lookup.1 ∙ sym (top-there c.args.index c.in-Some.section.now qs within)
 
 pub returns-in-None : goal.returns-in-None
 returns-in-None c =

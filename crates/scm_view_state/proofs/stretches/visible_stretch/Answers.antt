@@ -1,10 +1,10 @@
 use Rattle.std.proofs.Common.{◌∙◌, ◌==◌, ◌-◌, List, length, sym, ap, ap₂, arith, subst}
 use Rattle.std.specs.List.Sorted.{IsNonDecreasingBy}
+use Rattle.std.proofs.lemmas.List.{get_or_default}
 use Rattle.scm_types.specs.declared.file.File.{File}
 use Rattle.scm_layout.specs.declared.file_rows.FileRows.{FileRows}
 use Rattle.scm_layout.specs.declared.section_rows.SectionRows.{SectionRows}
 use Rattle.scm_view_state.specs.Stretches.{end_section_of, first_section_of, top_at}
-use Rattle.scm_view_state.proofs.CountedLemmas.{get-any}
 use Rattle.scm_view_state.proofs.RiseLemmas.{files-rise, sections-count, sections-rise}
 use Rattle.scm_view_state.proofs.stretches.visible_stretch.Goals as goal
 
@@ -37,10 +37,10 @@ returns c =
     let fs = c.args.files.now in
     let i = c.last_of-first_file.result in
     let j = c.last_of-last_file.result in
-    let row = λ (d : FileRows). c.index-rows-first_file.is ∙ get-any i c.index-rows-first_file.result d rs (omega (arith, c.last_of-first_file.ensures.within, c.requires.lengths)) in
-    let file = λ (d : File). c.index-files-first_file.is ∙ get-any i c.index-files-first_file.result d fs (omega (arith, c.last_of-first_file.ensures.within)) in
-    let end_row = λ (d : FileRows). c.index-rows-last_file.is ∙ get-any j c.index-rows-last_file.result d rs (omega (arith, c.last_of-last_file.ensures.within, c.requires.lengths)) in
-    let end_file = λ (d : File). c.index-files-last_file.is ∙ get-any j c.index-files-last_file.result d fs (omega (arith, c.last_of-last_file.ensures.within)) in
+    let row = λ (d : FileRows). c.index-rows-first_file.is ∙ get_or_default rs i c.index-rows-first_file.result d (omega (arith, c.last_of-first_file.ensures.within, c.requires.lengths)) in
+    let file = λ (d : File). c.index-files-first_file.is ∙ get_or_default fs i c.index-files-first_file.result d (omega (arith, c.last_of-first_file.ensures.within)) in
+    let end_row = λ (d : FileRows). c.index-rows-last_file.is ∙ get_or_default rs j c.index-rows-last_file.result d (omega (arith, c.last_of-last_file.ensures.within, c.requires.lengths)) in
+    let end_file = λ (d : File). c.index-files-last_file.is ∙ get_or_default fs j c.index-files-last_file.result d (omega (arith, c.last_of-last_file.ensures.within)) in
     record {
       has_message = ap (λ n. n == 0) c.files_begun-begun.ensures.count;
       first_file = c.last_of-first_file.ensures.last ∙ ap (λ n. n - 1) c.files_begun-begun.ensures.count;

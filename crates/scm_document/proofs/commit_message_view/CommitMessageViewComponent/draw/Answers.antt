@@ -1,4 +1,4 @@
-use Rattle.std.proofs.Common.{rules, sym, FitsSigned, w64}
+use Rattle.std.proofs.Common.{rules, sym}
 use Rattle.std.proofs.lemmas.Int.{to_z-of_z}
 use Rattle.scm_render.proofs.CanvasLemmas.{with_picture-nothing}
 use Rattle.scm_render.proofs.CountLemmas.{added-none}
@@ -9,9 +9,7 @@ use Rattle.scm_document.proofs.commit_message_view.CommitMessageViewComponent.dr
 pub draw_message-requires : goal.draw_message-requires
 unfolding commit_message_picture
 draw_message-requires c =
-    let fx : FitsSigned w64 c.args.x = c.ranges.x in
-    let fy : FitsSigned w64 c.args.y = c.ranges.y in
-    rw c.as_str.ensures (simp to_z-of_z (rw c.in-Some.is at c.requires))
+    rw c.as_str.ensures (simp (to_z-of_z, c.ranges.x, c.ranges.y) (rw c.in-Some.is at c.requires))
 
 pub returns-in-None : goal.returns-in-None
 unfolding commit_message_picture message_picture message_counts
@@ -26,11 +24,9 @@ returns-in-None c =
 pub returns-in-Some : goal.returns-in-Some
 unfolding commit_message_picture
 returns-in-Some c =
-    let fx : FitsSigned w64 c.args.x = c.ranges.x in
-    let fy : FitsSigned w64 c.args.y = c.ranges.y in
     record {
-      ok = rw c.in-Some.is (rw c.as_str.ensures at (simp to_z-of_z at c.draw_message.ensures.ok));
-      counts = rw c.in-Some.is (rw c.as_str.ensures at (simp to_z-of_z at c.draw_message.ensures.counts));
+      ok = rw c.in-Some.is (rw c.as_str.ensures at (simp (to_z-of_z, c.ranges.x, c.ranges.y) at c.draw_message.ensures.ok));
+      counts = rw c.in-Some.is (rw c.as_str.ensures at (simp (to_z-of_z, c.ranges.x, c.ranges.y) at c.draw_message.ensures.counts));
       rect = search rules;
       err = search rules;
     }

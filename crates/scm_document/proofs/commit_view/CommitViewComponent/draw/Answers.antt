@@ -19,18 +19,14 @@ body fs n x y s = body_picture fs s x y (y +ℤ pos n)
 pub draw_part-requires : goal.draw_part-requires
 unfolding commit_picture document_picture commit_message_picture
 draw_part-requires c =
-    let fx : FitsSigned w64 c.args.x = c.ranges.x in
-    let fy : FitsSigned w64 c.args.y = c.ranges.y in
-    simp to_z-of_z (PictureInRange-left _ _ c.requires)
+    simp (to_z-of_z, c.ranges.x, c.ranges.y) (PictureInRange-left _ _ c.requires)
 
 pub draw_body-requires : goal.draw_body-requires
 unfolding commit_picture document_picture commit_message_picture
 draw_body-requires c =
-    let fx : FitsSigned w64 c.args.x = c.ranges.x in
-    let fy : FitsSigned w64 c.args.y = c.ranges.y in
     let v = c.args.self.now in
-    let message = simp to_z-of_z at c.in_ok-draw_part.ensures.ok in
-    rw (c.as_slice-files.ensures, c.height-height.ensures) (simp to_z-of_z (rest _ _ _ (body (map shown_file v.file_views) (message_height v.commit_message_view.commit.now.message) c.args.x c.args.y) message c.requires))
+    let message = simp (to_z-of_z, c.ranges.x, c.ranges.y) at c.in_ok-draw_part.ensures.ok in
+    rw (c.as_slice-files.ensures, c.height-height.ensures) (simp (to_z-of_z, c.ranges.x, c.ranges.y) (rest _ _ _ (body (map shown_file v.file_views) (message_height v.commit_message_view.commit.now.message) c.args.x c.args.y) message c.requires))
 
 pub returns : goal.returns
 unfolding commit_picture document_picture commit_message_picture document_counts

@@ -14,14 +14,12 @@ height-requires c =
 
 pub strict_add_unsigned-requires : goal.strict_add_unsigned-requires
 strict_add_unsigned-requires c =
-    let fy : FitsSigned w64 c.args.y = c.ranges.y in
     let rows : c.height.result ≡ length (file_rows (shown_file c.args.self.now)) = c.height.ensures ∙ sym (file-height c.args.self.now) in
-    rw rows (simp to_z-of_z (InRange-fits _ c.requires.end))
+    rw rows (simp (to_z-of_z, c.ranges.y) (InRange-fits _ c.requires.end))
 
 pub returns : goal.returns
 returns c =
-    let fy : FitsSigned w64 c.args.y = c.ranges.y in
     let rows : c.height.result ≡ length (file_rows (shown_file c.args.self.now)) = c.height.ensures ∙ sym (file-height c.args.self.now) in
     let fits : FitsSigned w64 (c.args.y +ℤ pos (length (file_rows (shown_file c.args.self.now)))) = InRange-fits _ c.requires.end in
-    let below = simp to_z-of_z at (rw rows at c.strict_add_unsigned.ensures) in
-    rw below (simp to_z-of_z refl)
+    let below = simp (to_z-of_z, c.ranges.y, fits) at (rw rows at c.strict_add_unsigned.ensures) in
+    rw below (simp (to_z-of_z, c.ranges.y, fits) refl)

@@ -7,9 +7,7 @@ use Rattle.scm_document.proofs.file_view_header.FileViewHeaderComponent.draw.Goa
 pub draw_heading-requires : goal.draw_heading-requires
 unfolding header_picture
 draw_heading-requires c =
-    let fx : FitsSigned w64 c.args.x = c.ranges.x in
-    let fy : FitsSigned w64 c.args.y = c.ranges.y in
-    rw c.begin_row.ensures.canvas (simp to_z-of_z c.requires)
+    rw c.begin_row.ensures.canvas (simp (to_z-of_z, c.ranges.x, c.ranges.y) c.requires)
 
 pub returns : goal.returns
 unfolding header_picture

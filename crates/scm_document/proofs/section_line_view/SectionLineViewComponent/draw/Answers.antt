@@ -8,16 +8,12 @@ use Rattle.scm_document.proofs.section_line_view.SectionLineViewComponent.draw.G
 pub draw_context_line-requires : goal.draw_context_line-requires
 unfolding line_picture
 draw_context_line-requires c =
-    let fx : FitsSigned w64 c.args.x = c.ranges.x in
-    let fy : FitsSigned w64 c.args.y = c.ranges.y in
-    rw c.begin_row.ensures.canvas (simp to_z-of_z (rw c.in-Unchanged.is at c.requires))
+    rw c.begin_row.ensures.canvas (simp (to_z-of_z, c.ranges.x, c.ranges.y) (rw c.in-Unchanged.is at c.requires))
 
 pub draw_changed_line-requires : goal.draw_changed_line-requires
 unfolding line_picture
 draw_changed_line-requires c =
-    let fx : FitsSigned w64 c.args.x = c.ranges.x in
-    let fy : FitsSigned w64 c.args.y = c.ranges.y in
-    rw c.begin_row.ensures.canvas (simp to_z-of_z (rw c.in-Changed.is at c.requires))
+    rw c.begin_row.ensures.canvas (simp (to_z-of_z, c.ranges.x, c.ranges.y) (rw c.in-Changed.is at c.requires))
 
 pub returns-in-Unchanged : goal.returns-in-Unchanged
 unfolding line_picture

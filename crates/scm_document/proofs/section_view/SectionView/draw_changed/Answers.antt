@@ -8,24 +8,18 @@ use Rattle.scm_document.proofs.section_view.SectionView.draw_changed.Goals as go
 
 pub draw_header-requires : goal.draw_header-requires
 draw_header-requires c =
-    let fx : FitsSigned w64 c.args.x = c.ranges.x in
-    let fy : FitsSigned w64 c.args.y = c.ranges.y in
-    simp to_z-of_z (row-first _ _ _ _ _ c.requires)
+    simp (to_z-of_z, c.ranges.x, c.ranges.y) (row-first _ _ _ _ _ c.requires)
 
 pub overflow_add-y : goal.overflow_add-y
 overflow_add-y c =
-    let fx : FitsSigned w64 c.args.x = c.ranges.x in
-    let fy : FitsSigned w64 c.args.y = c.ranges.y in
-    simp to_z-of_z (InRange-fits _ (row-end _ _ _ _ (row-first _ _ _ _ _ c.requires)))
+    simp (to_z-of_z, c.ranges.x, c.ranges.y) (InRange-fits _ (row-end _ _ _ _ (row-first _ _ _ _ _ c.requires)))
 
 pub draw_changed_lines-requires : goal.draw_changed_lines-requires
 draw_changed_lines-requires c =
-    let fx : FitsSigned w64 c.args.x = c.ranges.x in
-    let fy : FitsSigned w64 c.args.y = c.ranges.y in
     let next : FitsSigned w64 (c.args.y +ℤ pos 1) = InRange-fits _ (row-end _ _ _ _ (row-first _ _ _ _ _ c.requires)) in
-    let header = simp to_z-of_z at c.in_ok-draw_header.ensures.ok in
+    let header = simp (to_z-of_z, c.ranges.x, c.ranges.y, next) at c.in_ok-draw_header.ensures.ok in
     let shown = sym c.is_open.ensures ∙ c.if-is_open.true in
-    simp to_z-of_z (row-rest _ _ _ _ _ _ header (rw shown at c.requires))
+    simp (to_z-of_z, c.ranges.x, c.ranges.y, next) (row-rest _ _ _ _ _ _ header (rw shown at c.requires))
 
 pub returns-then-is_open : goal.returns-then-is_open
 returns-then-is_open c =
@@ -47,12 +41,10 @@ returns-then-is_open c =
 
 pub returns-else-is_open : goal.returns-else-is_open
 returns-else-is_open c =
-    let fx : FitsSigned w64 c.args.x = c.ranges.x in
-    let fy : FitsSigned w64 c.args.y = c.ranges.y in
     let folded = sym c.is_open.ensures ∙ c.if-is_open.false in
     record {
-      ok = rw folded (row-alone _ _ _ _ _ (simp to_z-of_z at c.in_ok-draw_header.ensures.ok));
-      counts = rw folded (row-counted-alone _ _ _ _ _ (simp to_z-of_z at c.in_ok-draw_header.ensures.counts));
+      ok = rw folded (row-alone _ _ _ _ _ (simp (to_z-of_z, c.ranges.x, c.ranges.y) at c.in_ok-draw_header.ensures.ok));
+      counts = rw folded (row-counted-alone _ _ _ _ _ (simp (to_z-of_z, c.ranges.x, c.ranges.y) at c.in_ok-draw_header.ensures.counts));
       rect = search rules;
       err = search rules;
     }

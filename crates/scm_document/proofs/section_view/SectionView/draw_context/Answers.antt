@@ -10,18 +10,14 @@ use Rattle.scm_document.proofs.section_view.SectionView.draw_context.Goals as go
 pub show_blank_rest-requires : goal.show_blank_rest-requires
 unfolding context_rows row_picture
 show_blank_rest-requires c =
-    let fx : FitsSigned w64 c.args.x = c.ranges.x in
-    let fy : FitsSigned w64 c.args.y = c.ranges.y in
     let none = sym c.is_empty.ensures ∙ c.if-is_empty.true in
-    rw c.begin_row.ensures.canvas (simp to_z-of_z (row-first _ _ _ _ _ (rw none at c.requires)))
+    rw c.begin_row.ensures.canvas (simp (to_z-of_z, c.ranges.x, c.ranges.y) (row-first _ _ _ _ _ (rw none at c.requires)))
 
 pub draw_shown_lines-requires : goal.draw_shown_lines-requires
 unfolding context_rows
 draw_shown_lines-requires c =
-    let fx : FitsSigned w64 c.args.x = c.ranges.x in
-    let fy : FitsSigned w64 c.args.y = c.ranges.y in
     let some = sym c.is_empty.ensures ∙ c.if-is_empty.false in
-    simp to_z-of_z (rw some at c.requires)
+    simp (to_z-of_z, c.ranges.x, c.ranges.y) (rw some at c.requires)
 
 pub returns-in_ok-show_blank_rest : goal.returns-in_ok-show_blank_rest
 unfolding context_rows row_picture
@@ -39,12 +35,10 @@ returns-in_ok-show_blank_rest c =
 pub returns-else-is_empty : goal.returns-else-is_empty
 unfolding context_rows
 returns-else-is_empty c =
-    let fx : FitsSigned w64 c.args.x = c.ranges.x in
-    let fy : FitsSigned w64 c.args.y = c.ranges.y in
     let some = sym c.is_empty.ensures ∙ c.if-is_empty.false in
     record {
-      ok = rw some (simp to_z-of_z at c.draw_shown_lines.ensures.ok);
-      counts = rw some (simp to_z-of_z at c.draw_shown_lines.ensures.counts);
+      ok = rw some (simp (to_z-of_z, c.ranges.x, c.ranges.y) at c.draw_shown_lines.ensures.ok);
+      counts = rw some (simp (to_z-of_z, c.ranges.x, c.ranges.y) at c.draw_shown_lines.ensures.counts);
       rect = search rules;
       err = search rules;
     }

@@ -16,27 +16,21 @@ dots t x y s = span_picture s (x +ℤ pos 6) y t
 pub cover_rest-requires : goal.cover_rest-requires
 unfolding row_picture
 cover_rest-requires c =
-    let fx : FitsSigned w64 c.args.x = c.ranges.x in
-    let fy : FitsSigned w64 c.args.y = c.ranges.y in
-    rw c.begin_row.ensures.canvas (simp to_z-of_z (PictureInRange-left _ _ c.requires))
+    rw c.begin_row.ensures.canvas (simp (to_z-of_z, c.ranges.x, c.ranges.y) (PictureInRange-left _ _ c.requires))
 
 pub overflow_add-x : goal.overflow_add-x
 unfolding row_picture
 overflow_add-x c =
-    let fx : FitsSigned w64 c.args.x = c.ranges.x in
-    let fy : FitsSigned w64 c.args.y = c.ranges.y in
-    let cover = rw c.begin_row.ensures.canvas at (simp to_z-of_z at c.cover_rest.ensures.new) in
-    simp to_z-of_z (InRange-fits _ (span-place _ _ _ _ (rest _ _ _ (dots _ c.args.x c.args.y) cover c.requires)).0)
+    let cover = rw c.begin_row.ensures.canvas at (simp (to_z-of_z, c.ranges.x, c.ranges.y) at c.cover_rest.ensures.new) in
+    simp (to_z-of_z, c.ranges.x, c.ranges.y) (InRange-fits _ (span-place _ _ _ _ (rest _ _ _ (dots _ c.args.x c.args.y) cover c.requires)).0)
 
 pub show_span-requires : goal.show_span-requires
 unfolding row_picture
 show_span-requires c =
-    let fx : FitsSigned w64 c.args.x = c.ranges.x in
-    let fy : FitsSigned w64 c.args.y = c.ranges.y in
-    let cover = rw c.begin_row.ensures.canvas at (simp to_z-of_z at c.cover_rest.ensures.new) in
+    let cover = rw c.begin_row.ensures.canvas at (simp (to_z-of_z, c.ranges.x, c.ranges.y) at c.cover_rest.ensures.new) in
     let last = rest _ _ _ (dots _ c.args.x c.args.y) cover c.requires in
     let fits : FitsSigned w64 (c.args.x +ℤ pos 6) = InRange-fits _ (span-place _ _ _ _ last).0 in
-    rw c.dots_text.ensures (simp to_z-of_z last)
+    rw c.dots_text.ensures (simp (to_z-of_z, c.ranges.x, c.ranges.y, fits) last)
 
 pub returns : goal.returns
 unfolding row_picture

@@ -16,17 +16,13 @@ light b y s = highlight b s y
 pub draw_heading-requires : goal.draw_heading-requires
 unfolding row_picture
 draw_heading-requires c =
-    let fx : FitsSigned w64 c.args.x = c.ranges.x in
-    let fy : FitsSigned w64 c.args.y = c.ranges.y in
-    rw c.begin_row.ensures.canvas (simp to_z-of_z (PictureInRange-left _ _ c.requires))
+    rw c.begin_row.ensures.canvas (simp (to_z-of_z, c.ranges.x, c.ranges.y) (PictureInRange-left _ _ c.requires))
 
 pub highlight-requires : goal.highlight-requires
 unfolding row_picture
 highlight-requires c =
-    let fx : FitsSigned w64 c.args.x = c.ranges.x in
-    let fy : FitsSigned w64 c.args.y = c.ranges.y in
-    let heading = rw c.begin_row.ensures.canvas at (simp to_z-of_z at c.in_ok-draw_heading.ensures.ok) in
-    rw c.is_selected.ensures (simp to_z-of_z (rest _ _ _ (light (is_selected c.args.self.now) c.args.y) heading c.requires))
+    let heading = rw c.begin_row.ensures.canvas at (simp (to_z-of_z, c.ranges.x, c.ranges.y) at c.in_ok-draw_heading.ensures.ok) in
+    rw c.is_selected.ensures (simp (to_z-of_z, c.ranges.x, c.ranges.y) (rest _ _ _ (light (is_selected c.args.self.now) c.args.y) heading c.requires))
 
 pub returns : goal.returns
 unfolding row_picture

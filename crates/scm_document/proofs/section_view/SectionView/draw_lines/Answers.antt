@@ -17,25 +17,21 @@ one w x y s = row_picture (view_row w) s x y
 
 pub loop-index-init : goal.loop-index-init
 loop-index-init c =
-    let fx : FitsSigned w64 c.args.x = c.ranges.x in
-    let fy : FitsSigned w64 c.args.y = c.ranges.y in
-    rw (from-first c.args.self.now c.args.first c.args.lines) (simp to_z-of_z (record { left = left-first _ _ c.requires.picture; counts = refl }))
+    rw (from-first c.args.self.now c.args.first c.args.lines) (simp (to_z-of_z, c.ranges.x, c.ranges.y) (record { left = left-first _ _ c.requires.picture; counts = refl }))
 
 pub draw_line_row-requires : goal.draw_line_row-requires
 draw_line_row-requires c =
     let fx : FitsSigned w64 c.args.x = c.ranges.x in
-    let w = c.line_view-view.result in
     let more = rows_picture-more _ _ _ c.args.viewport.now.canvas.sight c.args.x c.loop-index.row c.line_view-view.ensures in
     let left = simp (to_z-of_z, c.loop-index.row-is) at c.loop-index.invariant.left in
-    simp (to_z-of_z, c.loop-index.row-is) (left-part _ _ (one w c.args.x c.loop-index.row) _ _ _ more left)
+    simp (to_z-of_z, c.loop-index.row-is) (left-part _ _ (one c.line_view-view.result c.args.x c.loop-index.row) _ _ _ more left)
 
 pub overflow_add-row : goal.overflow_add-row
 overflow_add-row c =
     let fx : FitsSigned w64 c.args.x = c.ranges.x in
-    let w = c.line_view-view.result in
     let more = rows_picture-more _ _ _ c.args.viewport.now.canvas.sight c.args.x c.loop-index.row c.line_view-view.ensures in
     let left = simp (to_z-of_z, c.loop-index.row-is) at c.loop-index.invariant.left in
-    let one_in = left-part _ _ (one w c.args.x c.loop-index.row) _ _ _ more left in
+    let one_in = left-part _ _ (one c.line_view-view.result c.args.x c.loop-index.row) _ _ _ more left in
     simp c.loop-index.row-is (InRange-fits _ (row-end _ _ _ _ one_in))
 
 pub loop-index-preserved : goal.loop-index-preserved

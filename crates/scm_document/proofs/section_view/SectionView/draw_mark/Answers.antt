@@ -24,19 +24,15 @@ text t x y s = text_picture s (x +ℤ pos 4) y (t ∷ [])
 pub cover_rest-requires : goal.cover_rest-requires
 unfolding row_picture
 cover_rest-requires c =
-    let fx : FitsSigned w64 c.args.x = c.ranges.x in
-    let fy : FitsSigned w64 c.args.y = c.ranges.y in
-    rw c.begin_row.ensures.canvas (simp to_z-of_z (PictureInRange-left _ _ c.requires))
+    rw c.begin_row.ensures.canvas (simp (to_z-of_z, c.ranges.x, c.ranges.y) (PictureInRange-left _ _ c.requires))
 
 pub show_box-requires : goal.show_box-requires
 unfolding row_picture
 show_box-requires c =
-    let fx : FitsSigned w64 c.args.x = c.ranges.x in
-    let fy : FitsSigned w64 c.args.y = c.ranges.y in
-    let cover = rw c.begin_row.ensures.canvas at (simp to_z-of_z at c.cover_rest.ensures.new) in
+    let cover = rw c.begin_row.ensures.canvas at (simp (to_z-of_z, c.ranges.x, c.ranges.y) at c.cover_rest.ensures.new) in
     let b = section_box c.args.self.now c.args.is_checked in
     let more = second-of-four _ _ _ (box b c.args.x c.args.y) (text c.args.text.now c.args.x c.args.y) (light (is_selected c.args.self.now) c.args.y) cover c.requires in
-    rw c.section_box-toggle_box.ensures (simp to_z-of_z (PictureInRange-left _ _ more))
+    rw c.section_box-toggle_box.ensures (simp (to_z-of_z, c.ranges.x, c.ranges.y) (PictureInRange-left _ _ more))
 
 pub overflow_add-x : goal.overflow_add-x
 unfolding row_picture

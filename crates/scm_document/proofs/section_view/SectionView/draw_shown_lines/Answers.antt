@@ -9,9 +9,7 @@ use Rattle.scm_document.proofs.section_view.SectionView.draw_shown_lines.Goals a
 
 pub draw_lines-requires-clause-picture : goal.draw_lines-requires-clause-picture
 draw_lines-requires-clause-picture c =
-    let fx : FitsSigned w64 c.args.x = c.ranges.x in
-    let fy : FitsSigned w64 c.args.y = c.ranges.y in
-    rw (c.lines_above-above.ensures.lines, c.place-place.ensures) (simp to_z-of_z (rows-first _ _ _ _ _ c.requires))
+    rw (c.lines_above-above.ensures.lines, c.place-place.ensures) (simp (to_z-of_z, c.ranges.x, c.ranges.y) (rows-first _ _ _ _ _ c.requires))
 
 pub strict_add_unsigned-requires : goal.strict_add_unsigned-requires
 strict_add_unsigned-requires c =

@@ -9,10 +9,8 @@ use Rattle.scm_layout.proofs.file_rows.FileRows.refold_sections.Goals as goal
 
 -- no section has such a key
 unlike : (k : FileKey) (m : ℕ) (key : SelectionKey) → (key ≡ keys.None) ⊎ ((x : FileKey) × (key ≡ keys.File x)) ⊎ ((x : LineKey) × (key ≡ keys.Line x)) → is_key (keys.Section (section_key_of k m)) key ≡ false
-unlike k m keys.None h = refl
-unlike k m (keys.File x) h = refl
 unlike k m (keys.Section x) h = elim h [ inl e ↦ absurd cc | inr (inl e) ↦ let f : keys.Section x ≡ keys.File e.0 = e.1 in absurd cc | inr (inr e) ↦ let f : keys.Section x ≡ keys.Line e.0 = e.1 in absurd cc ]
-unlike k m (keys.Line x) h = refl
+unlike k m _ h = refl
 
 pub returns-in-None : goal.returns-in-None
 returns-in-None c =

@@ -1,8 +1,9 @@
+use mathlib.Core.Bool.{not-not}
 use Rattle.std.proofs.Common.{◌∙◌, List, Some, ap, sym}
 use Rattle.scm_types.specs.declared.file.File.{File}
 use Rattle.scm_layout.specs.Counts.{counts_of}
 use Rattle.scm_layout.specs.declared.state_counts.StateCounts.{StateCounts}
-use Rattle.scm_layout.proofs.FilesLemmas.{missing-line, twice}
+use Rattle.scm_layout.proofs.FilesLemmas.{missing-line}
 use Rattle.scm_layout.proofs.state_counts.StateCounts.toggle_line.Goals as goal
 
 pub toggle_line_in-requires : goal.toggle_line_in-requires
@@ -12,14 +13,13 @@ pub count_line-requires : goal.count_line-requires
 count_line-requires c = record {
   before = c.args.files.now;
   is_counted = c.as_mut_slice.ensures.value ∙ ap (λ (d : StateCounts). d.files) c.requires.counted;
-  mark = sym c.line_mark_at-mark.ensures ∙ c.in-Some.is ∙ ap Some (sym (twice c.in-Some.was_checked));
+  mark = sym c.line_mark_at-mark.ensures ∙ c.in-Some.is ∙ ap Some (sym (not-not c.in-Some.was_checked));
   after = c.toggle_line_in.ensures;
   fits = c.requires.fits;
 }
 
 pub returns-in-None-clause-counts : goal.returns-in-None-clause-counts
 returns-in-None-clause-counts c =
-    let files = c.args.files.now in
     let key = c.args.key in
-    let same = c.toggle_line_in.ensures ∙ missing-line files key.file_idx key.section_idx key.line_idx (sym c.line_mark_at-mark.ensures ∙ c.in-None.is) in
+    let same = c.toggle_line_in.ensures ∙ missing-line c.args.files.now key.file_idx key.section_idx key.line_idx (sym c.line_mark_at-mark.ensures ∙ c.in-None.is) in
     c.requires.counted ∙ ap (λ (fs : List File). counts_of fs) (sym same)

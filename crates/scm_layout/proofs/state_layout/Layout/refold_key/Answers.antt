@@ -5,16 +5,14 @@ use Rattle.scm_layout.proofs.LayoutLemmas.{ready-key, top-fits, unchanged}
 use Rattle.scm_layout.proofs.state_layout.Layout.refold_key.Goals as goal
 
 other : (a b : Bool) → not (beq a b) ≡ true → a ≡ not b
-other true true h = absurd cc
 other true false h = refl
 other false true h = refl
-other false false h = absurd cc
+other _ _ h = absurd cc
 
 same : (a b : Bool) → not (beq a b) ≡ false → a ≡ b
-same true true h = refl
 same true false h = absurd cc
 same false true h = absurd cc
-same false false h = refl
+same _ _ h = refl
 
 pub refold_key-requires-clause-top : goal.refold_key-requires-clause-top
 refold_key-requires-clause-top c = rw c.files_top-top.ensures (top-fits _)

@@ -1,26 +1,15 @@
-use Rattle.std.proofs.Common.{◌≡◌, ◌∙◌, ◌++◌, List, take, drop, length, ap, sym}
+use Rattle.std.proofs.Common.{◌∙◌, List, ap, sym}
 use Rattle.scm_types.specs.declared.file.File.{File}
 use Rattle.scm_selection.specs.Toggle.{with_all_set}
-use Rattle.scm_selection.proofs.ToggleLemmas.{lent_whole}
-use Rattle.scm_layout.specs.Counts.{counts_of}
 use Rattle.scm_layout.proofs.BareLemmas.{all_set-hidden}
-use Rattle.scm_layout.proofs.MarkLemmas.{layout-same, size-same}
+use Rattle.scm_layout.proofs.MarkLemmas.{lent-layout, lent-size}
 use Rattle.scm_layout.proofs.state_layout.Layout.set_all.Goals as goal
 
 pub returns-clause-layout : goal.returns-clause-layout
 returns-clause-layout c =
     λ expanded is.
-    let old = c.args.state.now.files in
-    let new = c.set_all.new.files in
-    let whole : take (length old) (new ++ drop (length new) old) ≡ new = lent_whole old new (c.set_all.auto.files ∙ ap (λ (fs : List File). length fs) c.as_mut_slice.ensures.value) in
-    let changed : new ≡ with_all_set old = c.set_all.ensures.files ∙ ap (λ (fs : List File). with_all_set fs) c.as_mut_slice.ensures.value in
-    let counts = c.set_all.ensures.counts ∙ ap (λ (fs : List File). counts_of fs) changed in
-    rw (whole, counts, changed) (layout-same c.args.state.now (with_all_set old) expanded c.args.self.now (sym (all_set-hidden old)) is)
+    lent-layout c.args.state.now _ _ (sym (all_set-hidden c.args.state.now.files)) (c.set_all.ensures.files ∙ ap (λ (fs : List File). with_all_set fs) c.as_mut_slice.ensures.value)
+    expanded c.args.self.now _ c.set_all.ensures.counts is
 
 pub returns-clause-size : goal.returns-clause-size
-returns-clause-size c =
-    let old = c.args.state.now.files in
-    let new = c.set_all.new.files in
-    let whole : take (length old) (new ++ drop (length new) old) ≡ new = lent_whole old new (c.set_all.auto.files ∙ ap (λ (fs : List File). length fs) c.as_mut_slice.ensures.value) in
-    let changed : new ≡ with_all_set old = c.set_all.ensures.files ∙ ap (λ (fs : List File). with_all_set fs) c.as_mut_slice.ensures.value in
-    rw (whole, changed) (size-same c.args.state.now (with_all_set old) (sym (all_set-hidden old)))
+returns-clause-size c = lent-size c.args.state.now _ _ (sym (all_set-hidden c.args.state.now.files)) (c.set_all.ensures.files ∙ ap (λ (fs : List File). with_all_set fs) c.as_mut_slice.ensures.value)

@@ -1,8 +1,7 @@
-use Rattle.std.proofs.Common.{◌≡◌, ◌∙◌, ◌+◌, ◌++◌, ◌∷◌, take, drop, length, append-nil, refl, ap, sym, arith}
+use Rattle.std.proofs.Common.{◌≡◌, ◌∙◌, ◌+◌, ◌++◌, ◌∷◌, take, drop, length, append-nil, refl, ap, sym, arith, append_assoc, []}
 use Rattle.scm_types.proofs.LimitLemmas.{items_room}
 use Rattle.scm_selection.proofs.ToggleLemmas.{lent_whole}
 use Rattle.scm_layout.specs.Rows.{each_file_rows, stacked}
-use Rattle.scm_layout.proofs.CountLemmas.{pushed}
 use Rattle.scm_layout.proofs.StackLemmas.{each-end, each-fit, each-more, file-within, length-stacked}
 use Rattle.scm_layout.proofs.state_rows.StateRows.new.Goals as goal
 
@@ -15,13 +14,12 @@ loop-file_idx-preserved c =
     let ks = c.args.set.now in
     let commit = c.args.commit_idx in
     let i = c.loop-file_idx.file_idx in
-    let f = c.index-files-file_idx.result in
     let made = c.loop-file_idx.rows.items in
     let left = each_file_rows ks commit (i + 1) (drop (i + 1) files) in
     rw c.in_ok-push.ensures.items
-    (pushed made c.in_ok-new.field-0 left
+    (append_assoc made (c.in_ok-new.field-0 ∷ []) left
     ∙ ap (λ r. made ++ (r ∷ left)) c.in_ok-new.ensures
-    ∙ ap (λ rs. made ++ rs) (sym (each-more ks commit i files f c.loop-file_idx-test.true c.index-files-file_idx.is))
+    ∙ ap (λ rs. made ++ rs) (sym (each-more ks commit i files c.index-files-file_idx.result c.loop-file_idx-test.true c.index-files-file_idx.is))
     ∙ c.loop-file_idx.invariant)
 
 pub restack-requires : goal.restack-requires

@@ -40,46 +40,42 @@ draw_documents-requires-clause-end c =
 pub draw_documents-requires-clause-picture : goal.draw_documents-requires-clause-picture
 unfolding app_picture
 draw_documents-requires-clause-picture c =
-    let fx : FitsSigned w64 c.args.x = c.ranges.x in
-    rw (c.shown_views.ensures, c.view_width-width.ensures, c.rect-screen.ensures.value) (simp to_z-of_z (PictureInRange-left _ _ c.requires))
+    rw (c.shown_views.ensures, c.view_width-width.ensures, c.rect-screen.ensures.value) (simp (to_z-of_z, c.ranges.x) (PictureInRange-left _ _ c.requires))
 
 pub draw_part-requires : goal.draw_part-requires
 unfolding app_picture
 draw_part-requires c =
-    let fx : FitsSigned w64 c.args.x = c.ranges.x in
     let s = c.args.viewport.now.canvas.sight in
     let a = c.args.self.now in
     let r : RectInRange s.rect = rw c.rect-screen.ensures.value at c.rect-screen.ensures.in_range in
     let fy : FitsSigned w64 s.rect.y = InRange-fits _ r.y in
-    let views = simp to_z-of_z at (rw (c.shown_views.ensures, c.view_width-width.ensures, c.rect-screen.ensures.value) at c.in_ok-draw_documents.ensures.ok) in
+    let views = simp (to_z-of_z, c.ranges.x, fy) at (rw (c.shown_views.ensures, c.view_width-width.ensures, c.rect-screen.ensures.value) at c.in_ok-draw_documents.ensures.ok) in
     let over = second-of-four _ _ _ (bar a.menu_bar c.args.x s.rect.y) (quit a.quit_dialog) (help a.help_dialog) views c.requires in
-    rw c.rect-screen.ensures.value (simp to_z-of_z (PictureInRange-left _ _ over))
+    rw c.rect-screen.ensures.value (simp (to_z-of_z, c.ranges.x, fy) (PictureInRange-left _ _ over))
 
 pub draw_quit-requires : goal.draw_quit-requires
 unfolding app_picture
 draw_quit-requires c =
-    let fx : FitsSigned w64 c.args.x = c.ranges.x in
     let s = c.args.viewport.now.canvas.sight in
     let a = c.args.self.now in
     let r : RectInRange s.rect = rw c.rect-screen.ensures.value at c.rect-screen.ensures.in_range in
     let fy : FitsSigned w64 s.rect.y = InRange-fits _ r.y in
-    let views = simp to_z-of_z at (rw (c.shown_views.ensures, c.view_width-width.ensures, c.rect-screen.ensures.value) at c.in_ok-draw_documents.ensures.ok) in
+    let views = simp (to_z-of_z, c.ranges.x, fy) at (rw (c.shown_views.ensures, c.view_width-width.ensures, c.rect-screen.ensures.value) at c.in_ok-draw_documents.ensures.ok) in
     let over = second-of-four _ _ _ (bar a.menu_bar c.args.x s.rect.y) (quit a.quit_dialog) (help a.help_dialog) views c.requires in
-    let menus = simp to_z-of_z at (rw c.rect-screen.ensures.value at c.in_ok-draw_part.ensures.ok) in
+    let menus = simp (to_z-of_z, c.ranges.x, fy) at (rw c.rect-screen.ensures.value at c.in_ok-draw_part.ensures.ok) in
     let dialogs = rest _ _ _ (λ t. followed_by (quit a.quit_dialog t) (help a.help_dialog t)) menus over in
     PictureInRange-left _ _ dialogs
 
 pub draw_help-requires : goal.draw_help-requires
 unfolding app_picture
 draw_help-requires c =
-    let fx : FitsSigned w64 c.args.x = c.ranges.x in
     let s = c.args.viewport.now.canvas.sight in
     let a = c.args.self.now in
     let r : RectInRange s.rect = rw c.rect-screen.ensures.value at c.rect-screen.ensures.in_range in
     let fy : FitsSigned w64 s.rect.y = InRange-fits _ r.y in
-    let views = simp to_z-of_z at (rw (c.shown_views.ensures, c.view_width-width.ensures, c.rect-screen.ensures.value) at c.in_ok-draw_documents.ensures.ok) in
+    let views = simp (to_z-of_z, c.ranges.x, fy) at (rw (c.shown_views.ensures, c.view_width-width.ensures, c.rect-screen.ensures.value) at c.in_ok-draw_documents.ensures.ok) in
     let over = second-of-four _ _ _ (bar a.menu_bar c.args.x s.rect.y) (quit a.quit_dialog) (help a.help_dialog) views c.requires in
-    let menus = simp to_z-of_z at (rw c.rect-screen.ensures.value at c.in_ok-draw_part.ensures.ok) in
+    let menus = simp (to_z-of_z, c.ranges.x, fy) at (rw c.rect-screen.ensures.value at c.in_ok-draw_part.ensures.ok) in
     let dialogs = rest _ _ _ (λ t. followed_by (quit a.quit_dialog t) (help a.help_dialog t)) menus over in
     rest _ _ _ (help a.help_dialog) c.in_ok-draw_quit.ensures.ok dialogs
 

@@ -8,15 +8,14 @@ use Rattle.scm_document.specs.DocumentRows.{rows_of_key}
 use Rattle.scm_document.specs.Pieces.{piece_places, files_of, sections_of}
 use Rattle.scm_document.proofs.PieceLemmas.{pieces-files, pieces-sections}
 use Rattle.scm_view.proofs.AppRangeLemmas.{bar-in, screen-in}
-use Rattle.scm_view.proofs.FrameIndexLemmas.{bar-few, index-few, shows-first, answers-owner, index-span, answers-extent, of-parts, some-help}
+use Rattle.scm_view.proofs.FrameIndexLemmas.{bar-few, index-few, shows-first, answers-owner, index-span, answers-extent, some-help}
 use Rattle.scm_view.proofs.frame_index.FrameIndex.new.Goals as goal
 
 pub push_pieces-requires : goal.push_pieces-requires
 push_pieces-requires c =
-    let plain = c.requires.shows.plain in
     let v = c.index-as_slice-0.result in
     let first = c.index-as_slice-0.is ∙ ap (λ (vs : List CommitView). get_or vs 0 v) c.as_slice.ensures in
-    let shows = shows-first c.args.view.now c.requires.shows.shown c.args.width c.args.height v plain first in
+    let shows = shows-first c.args.view.now c.requires.shows.shown c.args.width c.args.height v c.requires.shows.plain first in
     rw (c.height-message.ensures, c.as_slice-views.ensures) (index-few c.requires.shows.shown v c.requires.shows.accepted shows)
 
 pub push_rects-requires-2-clause-screen : goal.push_rects-requires-2-clause-screen
@@ -41,8 +40,7 @@ push_help-requires c =
 
 pub overflow_add-scroll-3 : goal.overflow_add-scroll-3
 overflow_add-scroll-3 c =
-    let plain = c.requires.shows.plain in
-    let few = bar-few c.args.view.now.menu_bar c.requires.shows.shown.open_menu plain.shows.menu_bar in
+    let few = bar-few c.args.view.now.menu_bar c.requires.shows.shown.open_menu c.requires.shows.plain.shows.menu_bar in
     omega (arith, few, c.in_ok-bar.ensures.rows, c.requires.shows.scroll, scroll_room)
 
 pub returns-clause-ok : goal.returns-clause-ok
@@ -65,10 +63,10 @@ returns-clause-ok c = λ shown plain.
     let run = rw (c.joined_with.ensures, c.joined.ensures, c.document_run-document.ensures, c.saturating_sub-rows.ensures, c.from.ensures) at c.joined_with-run.ensures in
     let empty = rw c.as_slice-views.ensures at c.is_empty.ensures in
     let end = rw (c.height-message.ensures, c.as_slice-views.ensures) at c.in_ok-end.ensures.end in
-    let extent = c.saturating_sub-extent.ensures ∙ answers-extent w h s a shown v c.joined_with-run.result (s + c.in_ok-bar.bar) c.height-message.result c.in_ok-end.end c.is_empty.result c.in_ok-quit.quit c.in_ok-help.help plain shows
-    run (ap (λ n. s + n) c.in_ok-bar.ensures.rows) c.height-message.ensures empty end (rw c.screen-screen.ensures at c.in_ok-quit.ensures.rows) (rw (c.screen-screen.ensures, is-open) at c.in_ok-help.ensures.rows) in
-    of-parts w h s shown c.push_help.new.rects.items c.push_pieces.new.pieces.items _ c.in_ok-index.index c.in_ok-index.ensures.ok
-    (λ y x. answers-owner w h s y x a shown v c.push_rects.new.rects.items c.push_pinned.new.rects.items c.push_rects-2.new.rects.items c.push_quit.new.rects.items c.push_help.new.rects.items
-    (files_of c.push_pieces.new.pieces.items) (sections_of c.push_pieces.new.pieces.items) plain shows m0 m1 m2 (rw c.screen-screen.ensures at c.in_ok-quit.ensures.ok) (rw (c.screen-screen.ensures, is-open) at c.in_ok-help.ensures.ok) files sections)
-    (λ k. ap (λ ps. rows_of_key k (flat_map piece_places ps)) made ∙ index-span (s + 1) shown v k shows)
-    extent
+    record {
+      owner = λ y x. answers-owner w h s y x a shown v c.push_rects.new.rects.items c.push_pinned.new.rects.items c.push_rects-2.new.rects.items c.push_quit.new.rects.items c.push_help.new.rects.items
+          (files_of c.push_pieces.new.pieces.items) (sections_of c.push_pieces.new.pieces.items) plain shows m0 m1 m2 (rw c.screen-screen.ensures at c.in_ok-quit.ensures.ok) (rw (c.screen-screen.ensures, is-open) at c.in_ok-help.ensures.ok) files sections;
+      span = λ k. ap (λ ps. rows_of_key k (flat_map piece_places ps)) made ∙ index-span (s + 1) shown v k shows;
+      extent = c.saturating_sub-extent.ensures ∙ answers-extent w h s a shown v c.joined_with-run.result (s + c.in_ok-bar.bar) c.height-message.result c.in_ok-end.end c.is_empty.result c.in_ok-quit.quit c.in_ok-help.help plain shows
+          run (ap (λ n. s + n) c.in_ok-bar.ensures.rows) c.height-message.ensures empty end (rw c.screen-screen.ensures at c.in_ok-quit.ensures.rows) (rw (c.screen-screen.ensures, is-open) at c.in_ok-help.ensures.rows);
+    }

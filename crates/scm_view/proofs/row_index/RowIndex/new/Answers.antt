@@ -3,12 +3,13 @@ use Rattle.std.specs.List.{flat_map}
 use Rattle.scm_document.specs.declared.index_pieces.Piece.{Piece}
 use Rattle.scm_document.specs.declared.commit_view.CommitView.{CommitView}
 use Rattle.scm_rows.specs.Heights.{message_height}
+use Rattle.scm_rows.proofs.HeightLemmas.{message-le}
 use Rattle.scm_document.specs.Rows.{shown_file, document_of}
 use Rattle.scm_document.specs.Places.{files_places}
 use Rattle.scm_document.specs.Pieces.{piece_places, piece_parts, files_pieces}
 use Rattle.scm_document.specs.RowIndex.{Index, message_parts, files_parts, index_of}
 use Rattle.scm_view.proofs.FrameIndexLemmas.{files-rows-height}
-use Rattle.scm_view.proofs.LimitLemmas.{few-rows, message-most}
+use Rattle.scm_view.proofs.LimitLemmas.{few-rows}
 use Rattle.scm_document.proofs.PieceLemmas.{files-places, files-parts}
 use Rattle.scm_view.proofs.row_index.RowIndex.new.Goals as goal
 
@@ -29,7 +30,7 @@ push_pieces-requires c =
     let v = c.args.view.now in
     let few = few-rows c.requires.shown c.requires.commit v c.requires.accepted c.requires.shows in
     let size = files-rows-height v.file_views in
-    rw (c.as_slice.ensures, c.height-message.ensures) (omega (arith, few, size, message-most v.commit_message_view.commit.now.message))
+    rw (c.as_slice.ensures, c.height-message.ensures) (omega (arith, few, size, message-le v.commit_message_view.commit.now.message))
 
 pub returns-clause-ok : goal.returns-clause-ok
 returns-clause-ok c =

@@ -1,0 +1,2 @@
+-- how many rows there are at most
+pub mod HeightLemmas
