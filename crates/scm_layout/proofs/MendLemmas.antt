@@ -10,9 +10,10 @@ use Rattle.scm_layout.specs.declared.section_rows.SectionRows.{SectionRows}
 use Rattle.scm_rows.specs.declared.section_shape.SectionShape.{SectionShape}
 use Rattle.scm_rows.specs.Heights.{shape_of}
 use Rattle.scm_layout.specs.Rows.{is_expanded, is_first_open, is_open, rows_at, sections_height, sections_rows, visible_height}
-use Rattle.scm_layout.specs.Refolds.{AreWithin, height_from, is_open_above, moved_rows, rows_from}
+use Rattle.scm_layout.specs.Refolds.{AreBetween, height_from, is_open_above, moved_rows, rows_from}
+use Rattle.scm_layout.specs.SectionStack.{first_or, moved_row, rows_by, shapes_of, tops_of}
 use Rattle.scm_layout.proofs.ZipLemmas.{cut-at}
-use Rattle.scm_layout.proofs.AgreeLemmas.{above-agree, first-heights, first-rows, rows-agree}
+use Rattle.scm_layout.proofs.AgreeLemmas.{above-agree, first-heights, first-rows, heights-agree, rows-agree}
 
 no-more : (i : ℕ) → i ≡ i + 0
 no-more i = omega arith
@@ -22,6 +23,30 @@ one-more i n = omega arith
 
 from-none : (n : ℕ) → 0 + n ≡ n
 from-none n = omega arith
+
+-- a row by its numbers
+row_with : ℕ → ℕ → SectionShape → SectionRows
+row_with top end shape = record { top = top; end = end; shape = shape }
+
+-- ---- where sections begin, in parts of a list
+
+pub tops-append : (rs qs : List SectionRows) → tops_of (rs ++ qs) ≡ tops_of rs ++ tops_of qs
+tops-append [] qs = refl
+tops-append (r ∷ rs) qs = ap (λ ts. r.top ∷ ts) (tops-append rs qs)
+
+pub tops-take : (n : ℕ) (rs : List SectionRows) → take n (tops_of rs) ≡ tops_of (take n rs)
+tops-take zero rs = refl
+tops-take (suc n) [] = refl
+tops-take (suc n) (r ∷ rs) = ap (λ ts. r.top ∷ ts) (tops-take n rs)
+
+pub tops-drop : (n : ℕ) (rs : List SectionRows) → drop n (tops_of rs) ≡ tops_of (drop n rs)
+tops-drop zero rs = refl
+tops-drop (suc n) [] = refl
+tops-drop (suc n) (r ∷ rs) = tops-drop n rs
+
+tops-moved : (from to : ℕ) (rs : List SectionRows) → map (moved_row from to) (tops_of rs) ≡ tops_of (map (moved_rows from to) rs)
+tops-moved from to [] = refl
+tops-moved from to (r ∷ rs) = ap (λ ts. (to + (r.top - from)) ∷ ts) (tops-moved from to rs)
 
 -- ---- the sections from section n on
 
@@ -55,20 +80,46 @@ module _ (ks : List SelectionKey) (k : FileKey) (total : ℕ) where
   row-top zero i top before (s ∷ ss) d h = refl
   row-top (suc n) i top before (s ∷ ss) d h = row-top n (suc i) (top + visible_height ks k total i before s (is_first_open ks k (suc i) ss)) (is_open ks k i s) ss d (omega arith)
 
-  pub row-end : (n i top : ℕ) (before : Bool) (ss : List Section) (d : SectionRows) → n < length ss
-      → (get_or (sections_rows ks k total i top before ss) n d).end ≡ row_at (suc n) i top before ss
+  pub tops-at : (n i top : ℕ) (before : Bool) (ss : List Section) (d : ℕ) → n < length ss
+      → get_or (tops_of (sections_rows ks k total i top before ss)) n d ≡ row_at n i top before ss
   unfolding sections_rows
-  row-end n i top before [] d h = absurd (omega arith)
-  row-end zero i top before (s ∷ ss) d h = refl
-  row-end (suc n) i top before (s ∷ ss) d h = row-end n (suc i) (top + visible_height ks k total i before s (is_first_open ks k (suc i) ss)) (is_open ks k i s) ss d (omega arith)
+  tops-at n i top before [] d h = absurd (omega arith)
+  tops-at zero i top before (s ∷ ss) d h = refl
+  tops-at (suc n) i top before (s ∷ ss) d h = tops-at n (suc i) (top + visible_height ks k total i before s (is_first_open ks k (suc i) ss)) (is_open ks k i s) ss d (omega arith)
 
-  -- the last of the sections above section `end`
-  pub row-last : (end top : ℕ) (before : Bool) (ss : List Section) (d : SectionRows) → 0 < end → end ≤ length ss
-      → (get_or (sections_rows ks k total 0 top before ss) (end - 1) d).end ≡ row_at end 0 top before ss
-  row-last zero top before ss d some h = absurd (omega arith)
-  row-last (suc n) top before ss d some h =
-      let back : suc n - 1 ≡ n = omega arith in
-      ap (λ m. (get_or (sections_rows ks k total 0 top before ss) m d).end) back ∙ row-end n 0 top before ss d (omega arith)
+  -- the first section from section n on begins there, or they end there
+  pub first-from : (n i top : ℕ) (before : Bool) (ss : List Section)
+      → first_or (drop n (tops_of (sections_rows ks k total i top before ss))) (top + sections_height ks k total i before ss) ≡ row_at n i top before ss
+  unfolding sections_rows sections_height
+  first-from zero i top before [] = omega arith
+  first-from zero i top before (s ∷ ss) = refl
+  first-from (suc n) i top before [] = omega arith
+  first-from (suc n) i top before (s ∷ ss) =
+      let height = visible_height ks k total i before s (is_first_open ks k (suc i) ss) in
+      let tops = tops_of (sections_rows ks k total (suc i) (top + height) (is_open ks k i s) ss) in
+      let whole : top + (height + sections_height ks k total (suc i) (is_open ks k i s) ss) ≡ top + height + sections_height ks k total (suc i) (is_open ks k i s) ss = omega arith in
+      ap (first_or (drop n tops)) whole ∙ first-from n (suc i) (top + height) (is_open ks k i s) ss
+
+  pub shapes-are : (i top : ℕ) (before : Bool) (ss : List Section) → shapes_of (sections_rows ks k total i top before ss) ≡ map shape_of ss
+  unfolding sections_rows
+  shapes-are i top before [] = refl
+  shapes-are i top before (s ∷ ss) =
+      ap (λ xs. shape_of s ∷ xs) (shapes-are (suc i) (top + visible_height ks k total i before s (is_first_open ks k (suc i) ss)) (is_open ks k i s) ss)
+
+  -- rows by where they begin, where the last ones end, and what they are of
+  pub rows-by : (i top : ℕ) (before : Bool) (ss : List Section)
+      → sections_rows ks k total i top before ss ≡ rows_by (tops_of (sections_rows ks k total i top before ss)) (top + sections_height ks k total i before ss) (map shape_of ss)
+  unfolding sections_rows sections_height row_with
+  rows-by i top before [] = refl
+  rows-by i top before (s ∷ ss) =
+      let height = visible_height ks k total i before s (is_first_open ks k (suc i) ss) in
+      let rest = sections_rows ks k total (suc i) (top + height) (is_open ks k i s) ss in
+      let below = sections_height ks k total (suc i) (is_open ks k i s) ss in
+      let whole : top + height + below ≡ top + (height + below) = omega arith in
+      let ends : top + height ≡ first_or (tops_of rest) (top + (height + below)) =
+      sym (first-from zero (suc i) (top + height) (is_open ks k i s) ss) ∙ ap (first_or (tops_of rest)) whole in
+      ap (λ rs. rows_at top height (shape_of s) ∷ rs) (rows-by (suc i) (top + height) (is_open ks k i s) ss ∙ ap (λ n. rows_by (tops_of rest) n (map shape_of ss)) whole)
+      ∙ ap (λ n. row_with top n (shape_of s) ∷ rows_by (tops_of rest) (top + (height + below)) (map shape_of ss)) ends
 
   open-next : (n i : ℕ) (before : Bool) (ss : List Section) → n < length ss → open_at (suc n) i before ss ≡ is_first_open ks k (i + n) (drop n ss)
   open-next n i before [] h = absurd (omega arith)
@@ -115,13 +166,13 @@ module _ (ks : List SelectionKey) (k : FileKey) (total : ℕ) where
       ap (λ r. r ∷ map (moved_rows from to) (sections_rows ks k total (suc i) (top + height) (is_open ks k i s) ss)) (moved-at from to n top new height (shape_of s) e f)
       ∙ ap (λ rs. rows_at new height (shape_of s) ∷ rs) (moved from to (n + height) (suc i) (top + height) (new + height) (is_open ks k i s) ss (omega arith) (omega arith))
 
-  pub within-rows : (from until i top : ℕ) (before : Bool) (ss : List Section) → from ≤ top → top + sections_height ks k total i before ss ≤ until
-      → AreWithin from until (sections_rows ks k total i top before ss)
+  pub between-tops : (from until i top : ℕ) (before : Bool) (ss : List Section) → from ≤ top → top + sections_height ks k total i before ss ≤ until
+      → AreBetween from until (tops_of (sections_rows ks k total i top before ss))
   unfolding sections_rows sections_height
-  within-rows from until i top before [] low high = tt
-  within-rows from until i top before (s ∷ ss) low high =
+  between-tops from until i top before [] low high = tt
+  between-tops from until i top before (s ∷ ss) low high =
       let height = visible_height ks k total i before s (is_first_open ks k (suc i) ss) in
-      (low, omega arith, omega arith, omega arith, within-rows from until (suc i) (top + height) (is_open ks k i s) ss (omega arith) (omega arith))
+      (low, omega arith, between-tops from until (suc i) (top + height) (is_open ks k i s) ss (omega arith) (omega arith))
 
 -- ---- sets that agree on all sections but section j
 
@@ -167,6 +218,16 @@ tail-agree ks ls k total end top j above below (x ∷ xs) h some =
     ap (λ b. sections_rows ls k total end top b (x ∷ xs)) facts.1
     ∙ sym (rows-agree ks ls k total end top above (x ∷ xs) (λ m low high. h m (omega arith)))
 
+tail-height : (ks ls : List SelectionKey) (k : FileKey) (total end j : ℕ) (above below : Bool) (xs : List Section) → ((m : ℕ) → m ≢ j → is_expanded ks k m ≡ is_expanded ls k m)
+    → (0 < length xs → (j < end) × (below ≡ above)) → sections_height ls k total end below xs ≡ sections_height ks k total end above xs
+unfolding sections_height
+tail-height ks ls k total end j above below [] h some = refl
+tail-height ks ls k total end j above below (x ∷ xs) h some =
+    let facts : (j < end) × (below ≡ above) = some (omega arith) in
+    let past : j < end = facts.0 in
+    ap (λ b. sections_height ls k total end b (x ∷ xs)) facts.1
+    ∙ sym (heights-agree ks ls k total end above (x ∷ xs) (λ m low high. h m (omega arith)))
+
 -- ---- the rows after the fold of section j
 
 module _ (ks ls : List SelectionKey) (k : FileKey) (ss : List Section) (j : ℕ) (h : (m : ℕ) → m ≢ j → is_expanded ks k m ≡ is_expanded ls k m) where
@@ -204,10 +265,20 @@ module _ (ks ls : List SelectionKey) (k : FileKey) (ss : List Section) (j : ℕ)
         ∙ ap (λ m. from + sections_height ls k (length ss) m (open_at ls k (length ss) end 0 false ss) (drop end ss)) (sym (from-none end))
         ∙ omega (arith, at, height-at ls k (length ss) end 0 0 false ss)
 
-    pub rest-within : (until : ℕ) → sections_height ls k (length ss) 0 false ss ≤ until → AreWithin from until (drop end (sections_rows ls k (length ss) 0 0 false ss))
-    rest-within until high =
-        subst (λ rs. AreWithin from until rs) (sym rest)
-        (within-rows ls k (length ss) from until end from (is_open_above ls k end ss) (drop end ss) (omega arith) (omega (arith, rest-height)))
+    pub rest-between : (until : ℕ) → sections_height ls k (length ss) 0 false ss ≤ until → AreBetween from until (tops_of (drop end (sections_rows ls k (length ss) 0 0 false ss)))
+    rest-between until high =
+        subst (λ rs. AreBetween from until (tops_of rs)) (sym rest)
+        (between-tops ls k (length ss) from until end from (is_open_above ls k end ss) (drop end ss) (omega arith) (omega (arith, rest-height)))
+
+    -- they have as many rows as before
+    pub rest-tall : (end < length ss → j + 2 ≤ end) → from + height_from ks k end ss ≡ sections_height ls k (length ss) 0 false ss
+    rest-tall past =
+        ap (λ n. from + n)
+        (sym (tail-height ks ls k (length ss) end j (is_open_above ks k end ss) (is_open_above ls k end ss) (drop end ss) h
+        (λ some. let more : end < length ss = omega (arith, length-drop end ss) in
+        let beyond : j + 2 ≤ end = past more in
+        (omega arith, sym (above-agree ks ls k end ss (λ _. h (end - 1) (omega arith)))))))
+        ∙ rest-height
 
     pub rest-moved : (to : ℕ) → (end < length ss → j + 2 ≤ end) → map (moved_rows from to) (drop end (sections_rows ls k (length ss) 0 0 false ss)) ≡ rows_from ks k end to ss
     rest-moved to past =
@@ -218,18 +289,21 @@ module _ (ks ls : List SelectionKey) (k : FileKey) (ss : List Section) (j : ℕ)
         let beyond : j + 2 ≤ end = past more in
         (omega arith, sym (above-agree ks ls k end ss (λ _. h (end - 1) (omega arith)))))
 
-  -- the rows after the sections around section j were found anew, and those below them moved
-  pub mended : (rows mid new : List SectionRows) (first end top from to : ℕ) → rows ≡ sections_rows ls k (length ss) 0 0 false ss
+  -- where sections begin after those around section j were found anew, and those below them moved
+  pub mended : (tops mid new : List ℕ) (first end top from to : ℕ) → tops ≡ tops_of (sections_rows ls k (length ss) 0 0 false ss)
       → first ≤ j - 1 → first ≤ length ss → end ≤ length ss → (end < length ss → j + 2 ≤ end)
       → top ≡ row_at ls k (length ss) first 0 0 false ss → from ≡ row_at ls k (length ss) end 0 0 false ss
-      → take end mid ++ rows_from ks k end to ss ≡ take first rows ++ rows_from ks k first top ss → drop end mid ≡ drop end rows
-      → new ≡ take end mid ++ map (moved_rows from to) (drop end mid)
-      → new ≡ sections_rows ks k (length ss) 0 0 false ss
-  mended rows mid new first end top from to is low within inside past tops ends anew others moves =
-      let last : drop end mid ≡ drop end (sections_rows ls k (length ss) 0 0 false ss) = others ∙ ap (λ rs. drop end rs) is in
+      → take end mid ++ tops_of (rows_from ks k end to ss) ≡ take first tops ++ tops_of (rows_from ks k first top ss) → drop end mid ≡ drop end tops
+      → new ≡ take end mid ++ map (moved_row from to) (drop end mid)
+      → new ≡ tops_of (sections_rows ks k (length ss) 0 0 false ss)
+  mended tops mid new first end top from to is low within inside past at ends anew others moves =
+      let rows = sections_rows ls k (length ss) 0 0 false ss in
+      let last : drop end mid ≡ tops_of (drop end rows) = others ∙ ap (λ ts. drop end ts) is ∙ tops-drop end rows in
       moves
-      ∙ ap (λ rs. take end mid ++ map (moved_rows from to) rs) last
-      ∙ ap (λ rs. take end mid ++ rs) (rest-moved end from inside ends to past)
+      ∙ ap (λ ts. take end mid ++ map (moved_row from to) ts) last
+      ∙ ap (λ ts. take end mid ++ ts) (tops-moved from to (drop end rows) ∙ ap (λ rs. tops_of rs) (rest-moved end from inside ends to past))
       ∙ anew
-      ∙ ap (λ rs. take first rs ++ rows_from ks k first top ss) is
-      ∙ front-rows first top low within tops
+      ∙ ap (λ ts. take first ts ++ tops_of (rows_from ks k first top ss)) is
+      ∙ ap (λ ts. ts ++ tops_of (rows_from ks k first top ss)) (tops-take first rows)
+      ∙ sym (tops-append (take first rows) (rows_from ks k first top ss))
+      ∙ ap (λ rs. tops_of rs) (front-rows first top low within at)

@@ -1,5 +1,5 @@
 -- The keys of lines come after all other keys of a set. So a set has the other keys, and the lines behind them.
-use Rattle.std.proofs.Common.{◌≡◌, ℕ, suc, ◌+◌, ◌<◌, length, length-append, arith, nat_lt, drop, take, zero, cond, Bool, true, false, not, ◌&&◌, ◌||◌, List, [], ◌∷◌, ◌++◌, refl, sym, ap, ap₂, ◌∙◌, Some, None}
+use Rattle.std.proofs.Common.{◌≡◌, ℕ, suc, ◌+◌, ◌<◌, length, length-append, arith, nat_lt, drop, zero, cond, Bool, true, false, not, ◌&&◌, ◌||◌, List, [], ◌∷◌, ◌++◌, refl, sym, ap, ap₂, ◌∙◌, Some, None}
 use Rattle.std.specs.Prelude.{filter, find, fold, is_some, position, slice_get, if◌then◌else◌}
 use Rattle.std.specs.List.{list_any, position_or_len}
 use Rattle.std.specs.Option.{unwrap_or}
@@ -7,16 +7,12 @@ use Rattle.std.specs.declared.cmp.Ordering.{Ordering}
 use Rattle.std.specs.declared.cmp.Ordering.TheVariants.{Less, Equal, Greater}
 use Rattle.std.specs.Ordering.{match_ordering}
 use Rattle.std.proofs.lemmas.Bool.Decides.{nat_tests}
-use Rattle.std.proofs.lemmas.List.Elements.{filter-append}
 use Rattle.std.proofs.lemmas.List.Folds.{list_any-append}
-use Rattle.std.proofs.lemmas.List.Sums.{fold-append}
 use Rattle.scm_types.specs.declared.keys.SelectionKey.{SelectionKey}
 use Rattle.scm_types.specs.declared.keys.SelectionKey.TheVariants as keys
 use Rattle.scm_types.specs.declared.file.File.{File}
 use Rattle.scm_types.specs.declared.keys.FileKey.{FileKey}
-use Rattle.scm_types.specs.declared.line.SectionChangedLine.{SectionChangedLine}
 use Rattle.scm_types.specs.declared.section.Section.{Section}
-use Rattle.scm_types.specs.declared.section.Section.TheVariants.{Unchanged, Changed, FileMode, Binary}
 use Rattle.scm_types.specs.declared.state.RecordState.{RecordState}
 use Rattle.scm_types.specs.Keys.{file_of_line, file_of_section, section_key_of, section_of_line}
 use Rattle.scm_types.specs.Marks.{is_editable_section}
@@ -26,13 +22,11 @@ use Rattle.scm_rows.specs.Context.{place}
 use Rattle.scm_rows.specs.Heights.{shape_of, shown_height}
 use Rattle.scm_rows.specs.Lines.{is_changed}
 use Rattle.scm_layout.specs.Rows.{HasAllFiles, each_file_rows, file_key_of, file_rows, folded_count, is_expanded, is_first_open, is_open, rows_at, sections_height, sections_rows, stacked, visible_height}
-use Rattle.scm_selection.specs.KeyLists.{all_keys, file_key, files_keys, is_line, is_visible, line_keys, section_key, section_keys, sections_keys, visible_keys}
+use Rattle.scm_selection.specs.KeyLists.{all_keys, file_key, files_keys, is_line, is_visible, section_key, visible_keys}
 use Rattle.scm_selection.specs.KeySet.{key_cmp, is_key, has_key, with_key, without_key, with_key_flipped, key_set, is_same_set}
 use Rattle.scm_selection.specs.KeysAround.{is_editable_in, is_key_of, sections_in}
 use Rattle.scm_selection.specs.Moves.{inner_key, is_inside, keys_behind}
-use Rattle.scm_selection.proofs.FindLemmas.{files-take, sections-take}
-use Rattle.scm_selection.proofs.RelationLemmas.{key-same}
-use Rattle.scm_view_state.proofs.KeyOrderLemmas.{Ascends, added-early, added-turned, key-self, set-has}
+use Rattle.scm_selection.proofs.KeyOrderLemmas.{key-self, same-list, same-self, set-has}
 use Rattle.scm_selection.proofs.WalkLemmas.{among-kept}
 use Rattle.scm_view_state.specs.LineKeys.{line_set, set_without_lines, with_lines}
 
@@ -223,10 +217,6 @@ lines-are ks = filter-lines ks [] tt
 
 -- ---- two sets with lines behind them
 
-same-self : (ls : List SelectionKey) → is_same_set ls ls ≡ true
-same-self [] = refl
-same-self (l ∷ ls) = ap₂ (λ (a b : Bool). a && b) (key-self l) (same-self ls)
-
 and-false : (b : Bool) → (b && false) ≡ false
 and-false true = refl
 and-false false = refl
@@ -249,21 +239,6 @@ same-both (x ∷ xs) [] ls = longer (x ∷ xs ++ ls) ls (omega (arith, length-ap
 same-both (x ∷ xs) (c ∷ cs) ls = ap (λ b. is_key x c && b) (same-both xs cs ls)
 
 -- a set that lacks a key is not one that has it
-and-left : (x y : Bool) → (x && y) ≡ true → x ≡ true
-and-left true y e = refl
-and-left false y e = absurd (cc e)
-
-and-right : (x y : Bool) → (x && y) ≡ true → y ≡ true
-and-right true y e = e
-and-right false y e = absurd (cc e)
-
-same-list : (xs ys : List SelectionKey) → is_same_set xs ys ≡ true → xs ≡ ys
-same-list [] [] e = refl
-same-list [] (y ∷ ys) e = absurd (cc e)
-same-list (x ∷ xs) [] e = absurd (cc e)
-same-list (x ∷ xs) (y ∷ ys) e =
-    ap₂ (λ (k : SelectionKey) (ks : List SelectionKey). k ∷ ks) (key-same x y (and-left (is_key x y) (is_same_set xs ys) e)) (same-list xs ys (and-right (is_key x y) (is_same_set xs ys) e))
-
 pub lacks-key : (xs ks : List SelectionKey) (l : SelectionKey) → has_key ks l ≡ true → has_key xs l ≡ false → is_same_set xs (key_set ks) ≡ false
 lacks-key xs ks l there e = go (is_same_set xs (key_set ks)) refl
   where
@@ -492,52 +467,6 @@ line-there ks first other = inner-keeps P ks (inner_key ks first) (inner-keeps P
 
     each : (k : SelectionKey) → has_key ks k ≡ true → P k
     each k there = λ line. there
-
--- ---- the set without lines, key by key
-
-lines-alone : (file section first : ℕ) (lines : List SectionChangedLine) → filter (λ key. not (is_line key)) (line_keys file section first lines) ≡ []
-lines-alone file section first [] = refl
-lines-alone file section first (l ∷ ls) = lines-alone file section (first + 1) ls
-
-section-inserted : (set : List SelectionKey) (file section : ℕ) (s : Section)
-    → fold with_key set (filter (λ key. not (is_line key)) (section_keys file section s)) ≡ (if is_editable_section s then with_key set (section_key file section) else set)
-section-inserted set file section (Unchanged lines) = refl
-section-inserted set file section (Changed lines) = ap (fold with_key (with_key set (section_key file section))) (lines-alone file section 0 lines)
-section-inserted set file section (FileMode is_checked mode) = refl
-section-inserted set file section (Binary is_checked old new) = refl
-
--- one more section, from the last on
-pub sections-step : (set : List SelectionKey) (file i : ℕ) (ss : List Section) (s : Section) → Ascends set → slice_get ss i ≡ Some s
-    → fold with_key (if is_editable_section s then with_key set (section_key file i) else set) (filter (λ key. not (is_line key)) (sections_keys file 0 (take i ss)))
-    ≡ fold with_key set (filter (λ key. not (is_line key)) (sections_keys file 0 (take (i + 1) ss)))
-sections-step set file i ss s h at =
-    let own = section_keys file i s in
-    let before = sections_keys file 0 (take i ss) in
-    let others = filter (λ key. not (is_line key)) in
-    sym (ap (λ ks. fold with_key set (others ks)) (sections-take file 0 i i ss s (omega arith) at)
-    ∙ ap (fold with_key set) (filter-append (λ key. not (is_line key)) before own)
-    ∙ fold-append with_key set (others before) (others own)
-    ∙ section-inserted (fold with_key set (others before)) file i s
-    ∙ either (is_editable_section s))
-  where
-    either : (b : Bool)
-        → (if b then with_key (fold with_key set (filter (λ key. not (is_line key)) (sections_keys file 0 (take i ss)))) (section_key file i) else fold with_key set (filter (λ key. not (is_line key)) (sections_keys file 0 (take i ss))))
-        ≡ fold with_key (if b then with_key set (section_key file i) else set) (filter (λ key. not (is_line key)) (sections_keys file 0 (take i ss)))
-    either true = sym (added-early (filter (λ key. not (is_line key)) (sections_keys file 0 (take i ss))) set (section_key file i) h)
-    either false = refl
-
--- one more file, from the last on
-pub files-step : (set : List SelectionKey) (i : ℕ) (fs : List File) (f : File) → Ascends set → slice_get fs i ≡ Some f
-    → fold with_key (with_key (fold with_key set (filter (λ key. not (is_line key)) (sections_keys i 0 f.sections))) (file_key i)) (filter (λ key. not (is_line key)) (files_keys 0 (take i fs)))
-    ≡ fold with_key set (filter (λ key. not (is_line key)) (files_keys 0 (take (i + 1) fs)))
-files-step set i fs f h at =
-    let own = sections_keys i 0 f.sections in
-    let before = files_keys 0 (take i fs) in
-    let others = filter (λ key. not (is_line key)) in
-    added-turned (others before) (others own) set (file_key i) h
-    ∙ sym (ap (λ ks. fold with_key set (others ks)) (files-take 0 i i fs f (omega arith) at)
-    ∙ ap (fold with_key set) (filter-append (λ key. not (is_line key)) before (file_key i ∷ own))
-    ∙ fold-append with_key set (others before) (file_key i ∷ others own))
 
 -- ---- everything unfolded
 
