@@ -16,6 +16,7 @@ pub mod StackLemmas
 pub mod AgreeLemmas
 -- a fold of one section
 pub mod MendLemmas
+pub mod SectionStackLemmas
 -- a fold of one file
 pub mod FoldLemmas
 -- toggles change no row

@@ -10,10 +10,10 @@ use Rattle.scm_layout.specs.declared.section_rows.SectionRows.{SectionRows}
 use Rattle.scm_rows.specs.declared.section_shape.SectionShape.{SectionShape}
 use Rattle.scm_rows.specs.Heights.{shape_of}
 use Rattle.scm_layout.specs.Rows.{is_expanded, is_first_open, is_open, rows_at, sections_height, sections_rows, visible_height}
-use Rattle.scm_layout.specs.Refolds.{AreRowsButSection, AreWithin, height_from, is_open_above, moved_rows, rows_from}
+use Rattle.scm_layout.specs.Refolds.{AreBetween, height_from, is_open_above, moved_rows, rows_from}
+use Rattle.scm_layout.specs.SectionStack.{first_or, moved_row, rows_by, shapes_of, tops_of}
 use Rattle.scm_layout.proofs.ZipLemmas.{cut-at}
-use Rattle.scm_layout.proofs.AgreeLemmas.{above-agree, first-heights, first-rows, rows-agree}
-use Rattle.scm_layout.proofs.RowLemmas.{length-sections_rows}
+use Rattle.scm_layout.proofs.AgreeLemmas.{above-agree, first-heights, first-rows, heights-agree, rows-agree}
 
 no-more : (i : ℕ) → i ≡ i + 0
 no-more i = omega arith
@@ -24,20 +24,46 @@ one-more i n = omega arith
 from-none : (n : ℕ) → 0 + n ≡ n
 from-none n = omega arith
 
+-- a row by its numbers
+row_with : ℕ → ℕ → SectionShape → SectionRows
+row_with top end shape = record { top = top; end = end; shape = shape }
+
+-- ---- where sections begin, in parts of a list
+
+pub tops-append : (rs qs : List SectionRows) → tops_of (rs ++ qs) ≡ tops_of rs ++ tops_of qs
+tops-append [] qs = refl
+tops-append (r ∷ rs) qs = ap (λ ts. r.top ∷ ts) (tops-append rs qs)
+
+pub tops-take : (n : ℕ) (rs : List SectionRows) → take n (tops_of rs) ≡ tops_of (take n rs)
+tops-take zero rs = refl
+tops-take (suc n) [] = refl
+tops-take (suc n) (r ∷ rs) = ap (λ ts. r.top ∷ ts) (tops-take n rs)
+
+pub tops-drop : (n : ℕ) (rs : List SectionRows) → drop n (tops_of rs) ≡ tops_of (drop n rs)
+tops-drop zero rs = refl
+tops-drop (suc n) [] = refl
+tops-drop (suc n) (r ∷ rs) = tops-drop n rs
+
+tops-moved : (from to : ℕ) (rs : List SectionRows) → map (moved_row from to) (tops_of rs) ≡ tops_of (map (moved_rows from to) rs)
+tops-moved from to [] = refl
+tops-moved from to (r ∷ rs) = ap (λ ts. (to + (r.top - from)) ∷ ts) (tops-moved from to rs)
+
 -- ---- the sections from section n on
 
 module _ (ks : List SelectionKey) (k : FileKey) (total : ℕ) where
   -- the row on which section n begins, counted from section i on, or on which they end
-  abbrev row_at : ℕ → ℕ → ℕ → Bool → List Section → ℕ
+  abbrev pub row_at : ℕ → ℕ → ℕ → Bool → List Section → ℕ
+  row_at zero i top before ss = top
+  row_at (suc n) i top before [] = top
   row_at (suc n) i top before (s ∷ ss) = row_at n (suc i) (top + visible_height ks k total i before s (is_first_open ks k (suc i) ss)) (is_open ks k i s) ss
-  row_at _ i top before _ = top
 
   -- whether the section above it is open
-  abbrev open_at : ℕ → ℕ → Bool → List Section → Bool
+  abbrev pub open_at : ℕ → ℕ → Bool → List Section → Bool
+  open_at zero i before ss = before
+  open_at (suc n) i before [] = before
   open_at (suc n) i before (s ∷ ss) = open_at n (suc i) (is_open ks k i s) ss
-  open_at _ i before _ = before
 
-  drop-rows : (n i top : ℕ) (before : Bool) (ss : List Section)
+  pub drop-rows : (n i top : ℕ) (before : Bool) (ss : List Section)
       → drop n (sections_rows ks k total i top before ss) ≡ sections_rows ks k total (i + n) (row_at n i top before ss) (open_at n i before ss) (drop n ss)
   unfolding sections_rows
   drop-rows zero i top before ss = ap (λ j. sections_rows ks k total j top before ss) (no-more i)
@@ -47,34 +73,60 @@ module _ (ks : List SelectionKey) (k : FileKey) (total : ℕ) where
       drop-rows n (suc i) (top + height) (is_open ks k i s) ss
       ∙ ap (λ j. sections_rows ks k total j (row_at n (suc i) (top + height) (is_open ks k i s) ss) (open_at n (suc i) (is_open ks k i s) ss) (drop n ss)) (one-more i n)
 
-  row-top : (n i top : ℕ) (before : Bool) (ss : List Section) (d : SectionRows) → n < length ss
+  pub row-top : (n i top : ℕ) (before : Bool) (ss : List Section) (d : SectionRows) → n < length ss
       → (get_or (sections_rows ks k total i top before ss) n d).top ≡ row_at n i top before ss
   unfolding sections_rows
   row-top n i top before [] d h = absurd (omega arith)
   row-top zero i top before (s ∷ ss) d h = refl
   row-top (suc n) i top before (s ∷ ss) d h = row-top n (suc i) (top + visible_height ks k total i before s (is_first_open ks k (suc i) ss)) (is_open ks k i s) ss d (omega arith)
 
-  row-end : (n i top : ℕ) (before : Bool) (ss : List Section) (d : SectionRows) → n < length ss
-      → (get_or (sections_rows ks k total i top before ss) n d).end ≡ row_at (suc n) i top before ss
+  pub tops-at : (n i top : ℕ) (before : Bool) (ss : List Section) (d : ℕ) → n < length ss
+      → get_or (tops_of (sections_rows ks k total i top before ss)) n d ≡ row_at n i top before ss
   unfolding sections_rows
-  row-end n i top before [] d h = absurd (omega arith)
-  row-end zero i top before (s ∷ ss) d h = refl
-  row-end (suc n) i top before (s ∷ ss) d h = row-end n (suc i) (top + visible_height ks k total i before s (is_first_open ks k (suc i) ss)) (is_open ks k i s) ss d (omega arith)
+  tops-at n i top before [] d h = absurd (omega arith)
+  tops-at zero i top before (s ∷ ss) d h = refl
+  tops-at (suc n) i top before (s ∷ ss) d h = tops-at n (suc i) (top + visible_height ks k total i before s (is_first_open ks k (suc i) ss)) (is_open ks k i s) ss d (omega arith)
 
-  -- the last of the sections above section `end`
-  row-last : (end top : ℕ) (before : Bool) (ss : List Section) (d : SectionRows) → 0 < end → end ≤ length ss
-      → (get_or (sections_rows ks k total 0 top before ss) (end - 1) d).end ≡ row_at end 0 top before ss
-  row-last zero top before ss d some h = absurd (omega arith)
-  row-last (suc n) top before ss d some h =
-      let back : suc n - 1 ≡ n = omega arith in
-      ap (λ m. (get_or (sections_rows ks k total 0 top before ss) m d).end) back ∙ row-end n 0 top before ss d (omega arith)
+  -- the first section from section n on begins there, or they end there
+  pub first-from : (n i top : ℕ) (before : Bool) (ss : List Section)
+      → first_or (drop n (tops_of (sections_rows ks k total i top before ss))) (top + sections_height ks k total i before ss) ≡ row_at n i top before ss
+  unfolding sections_rows sections_height
+  first-from zero i top before [] = omega arith
+  first-from zero i top before (s ∷ ss) = refl
+  first-from (suc n) i top before [] = omega arith
+  first-from (suc n) i top before (s ∷ ss) =
+      let height = visible_height ks k total i before s (is_first_open ks k (suc i) ss) in
+      let tops = tops_of (sections_rows ks k total (suc i) (top + height) (is_open ks k i s) ss) in
+      let whole : top + (height + sections_height ks k total (suc i) (is_open ks k i s) ss) ≡ top + height + sections_height ks k total (suc i) (is_open ks k i s) ss = omega arith in
+      ap (first_or (drop n tops)) whole ∙ first-from n (suc i) (top + height) (is_open ks k i s) ss
+
+  pub shapes-are : (i top : ℕ) (before : Bool) (ss : List Section) → shapes_of (sections_rows ks k total i top before ss) ≡ map shape_of ss
+  unfolding sections_rows
+  shapes-are i top before [] = refl
+  shapes-are i top before (s ∷ ss) =
+      ap (λ xs. shape_of s ∷ xs) (shapes-are (suc i) (top + visible_height ks k total i before s (is_first_open ks k (suc i) ss)) (is_open ks k i s) ss)
+
+  -- rows by where they begin, where the last ones end, and what they are of
+  pub rows-by : (i top : ℕ) (before : Bool) (ss : List Section)
+      → sections_rows ks k total i top before ss ≡ rows_by (tops_of (sections_rows ks k total i top before ss)) (top + sections_height ks k total i before ss) (map shape_of ss)
+  unfolding sections_rows sections_height row_with
+  rows-by i top before [] = refl
+  rows-by i top before (s ∷ ss) =
+      let height = visible_height ks k total i before s (is_first_open ks k (suc i) ss) in
+      let rest = sections_rows ks k total (suc i) (top + height) (is_open ks k i s) ss in
+      let below = sections_height ks k total (suc i) (is_open ks k i s) ss in
+      let whole : top + height + below ≡ top + (height + below) = omega arith in
+      let ends : top + height ≡ first_or (tops_of rest) (top + (height + below)) =
+      sym (first-from zero (suc i) (top + height) (is_open ks k i s) ss) ∙ ap (first_or (tops_of rest)) whole in
+      ap (λ rs. rows_at top height (shape_of s) ∷ rs) (rows-by (suc i) (top + height) (is_open ks k i s) ss ∙ ap (λ n. rows_by (tops_of rest) n (map shape_of ss)) whole)
+      ∙ ap (λ n. row_with top n (shape_of s) ∷ rows_by (tops_of rest) (top + (height + below)) (map shape_of ss)) ends
 
   open-next : (n i : ℕ) (before : Bool) (ss : List Section) → n < length ss → open_at (suc n) i before ss ≡ is_first_open ks k (i + n) (drop n ss)
   open-next n i before [] h = absurd (omega arith)
   open-next zero i before (s ∷ ss) h = ap (λ j. is_open ks k j s) (no-more i)
   open-next (suc n) i before (s ∷ ss) h = open-next n (suc i) (is_open ks k i s) ss (omega arith) ∙ ap (λ j. is_first_open ks k j (drop n ss)) (one-more i n)
 
-  above-is : (n : ℕ) (ss : List Section) → n ≤ length ss → open_at n 0 false ss ≡ is_open_above ks k n ss
+  pub above-is : (n : ℕ) (ss : List Section) → n ≤ length ss → open_at n 0 false ss ≡ is_open_above ks k n ss
   above-is zero ss h = refl
   above-is (suc n) ss h =
       let same : 0 + n ≡ suc n - 1 = omega arith in
@@ -105,7 +157,7 @@ module _ (ks : List SelectionKey) (k : FileKey) (total : ℕ) where
       let ends : to + (top + h - from) ≡ new + h = omega arith in
       ap (λ m. rows_with m (to + (top + h - from)) shape) tops ∙ ap (λ m. rows_with new m shape) ends
 
-  moved : (from to n i top new : ℕ) (before : Bool) (ss : List Section) → top ≡ from + n → new ≡ to + n
+  pub moved : (from to n i top new : ℕ) (before : Bool) (ss : List Section) → top ≡ from + n → new ≡ to + n
       → map (moved_rows from to) (sections_rows ks k total i top before ss) ≡ sections_rows ks k total i new before ss
   unfolding sections_rows
   moved from to n i top new before [] e f = refl
@@ -114,13 +166,13 @@ module _ (ks : List SelectionKey) (k : FileKey) (total : ℕ) where
       ap (λ r. r ∷ map (moved_rows from to) (sections_rows ks k total (suc i) (top + height) (is_open ks k i s) ss)) (moved-at from to n top new height (shape_of s) e f)
       ∙ ap (λ rs. rows_at new height (shape_of s) ∷ rs) (moved from to (n + height) (suc i) (top + height) (new + height) (is_open ks k i s) ss (omega arith) (omega arith))
 
-  within-rows : (from until i top : ℕ) (before : Bool) (ss : List Section) → from ≤ top → top + sections_height ks k total i before ss ≤ until
-      → AreWithin from until (sections_rows ks k total i top before ss)
+  pub between-tops : (from until i top : ℕ) (before : Bool) (ss : List Section) → from ≤ top → top + sections_height ks k total i before ss ≤ until
+      → AreBetween from until (tops_of (sections_rows ks k total i top before ss))
   unfolding sections_rows sections_height
-  within-rows from until i top before [] low high = tt
-  within-rows from until i top before (s ∷ ss) low high =
+  between-tops from until i top before [] low high = tt
+  between-tops from until i top before (s ∷ ss) low high =
       let height = visible_height ks k total i before s (is_first_open ks k (suc i) ss) in
-      (low, omega arith, omega arith, omega arith, within-rows from until (suc i) (top + height) (is_open ks k i s) ss (omega arith) (omega arith))
+      (low, omega arith, between-tops from until (suc i) (top + height) (is_open ks k i s) ss (omega arith) (omega arith))
 
 -- ---- sets that agree on all sections but section j
 
@@ -152,7 +204,7 @@ module _ (ks ls : List SelectionKey) (k : FileKey) (total j : ℕ) (h : (m : ℕ
       ∙ omega (arith, height-but n (suc i) (top + height) is_above ss (omega arith), first)
 
 -- where the sections from section n on begin, and how many rows they have
-height-at : (ks : List SelectionKey) (k : FileKey) (total n i top : ℕ) (before : Bool) (ss : List Section)
+pub height-at : (ks : List SelectionKey) (k : FileKey) (total n i top : ℕ) (before : Bool) (ss : List Section)
     → row_at ks k total n i top before ss + sections_height ks k total (i + n) (open_at ks k total n i before ss) (drop n ss) ≡ top + sections_height ks k total i before ss
 height-at ks k total n i top before ss = height-but ks ks k total (i + n + 1) (λ m other. refl) n i top before ss (omega arith)
 
@@ -166,85 +218,92 @@ tail-agree ks ls k total end top j above below (x ∷ xs) h some =
     ap (λ b. sections_rows ls k total end top b (x ∷ xs)) facts.1
     ∙ sym (rows-agree ks ls k total end top above (x ∷ xs) (λ m low high. h m (omega arith)))
 
+tail-height : (ks ls : List SelectionKey) (k : FileKey) (total end j : ℕ) (above below : Bool) (xs : List Section) → ((m : ℕ) → m ≢ j → is_expanded ks k m ≡ is_expanded ls k m)
+    → (0 < length xs → (j < end) × (below ≡ above)) → sections_height ls k total end below xs ≡ sections_height ks k total end above xs
+unfolding sections_height
+tail-height ks ls k total end j above below [] h some = refl
+tail-height ks ls k total end j above below (x ∷ xs) h some =
+    let facts : (j < end) × (below ≡ above) = some (omega arith) in
+    let past : j < end = facts.0 in
+    ap (λ b. sections_height ls k total end b (x ∷ xs)) facts.1
+    ∙ sym (heights-agree ks ls k total end above (x ∷ xs) (λ m low high. h m (omega arith)))
+
 -- ---- the rows after the fold of section j
 
-module _ (rows : List SectionRows) (ks : List SelectionKey) (k : FileKey) (ss : List Section) (j : ℕ) (h : AreRowsButSection rows ks k ss j) (d : SectionRows) where
-  abbrev ls : List SelectionKey
-  ls = h.before
-
-  pub rows-length : length rows ≡ length ss
-  rows-length = ap (λ rs. length rs) h.is_it ∙ length-sections_rows ls k (length ss) 0 0 false ss
-
+module _ (ks ls : List SelectionKey) (k : FileKey) (ss : List Section) (j : ℕ) (h : (m : ℕ) → m ≢ j → is_expanded ks k m ≡ is_expanded ls k m) where
   -- what stays, and what follows it
-  module _ (first : ℕ) (low : first ≤ j - 1) (inside : first < length ss) where
-    abbrev top : ℕ
-    top = (get_or rows first d).top
-
-    at-top : top ≡ row_at ls k (length ss) first 0 0 false ss
-    at-top = ap (λ rs. (get_or rs first d).top) h.is_it ∙ row-top ls k (length ss) first 0 0 false ss d inside
-
+  module _ (first top : ℕ) (low : first ≤ j - 1) (within : first ≤ length ss) (at : top ≡ row_at ls k (length ss) first 0 0 false ss) where
     above : open_at ls k (length ss) first 0 false ss ≡ is_open_above ks k first ss
-    above = above-is ls k (length ss) first ss (omega arith) ∙ sym (above-agree ks ls k first ss (λ some. h.agree (first - 1) (omega arith)))
+    above = above-is ls k (length ss) first ss within ∙ sym (above-agree ks ls k first ss (λ some. h (first - 1) (omega arith)))
 
-    front-rows : take first (sections_rows ls k (length ss) 0 0 false ss) ++ rows_from ks k first top ss ≡ sections_rows ks k (length ss) 0 0 false ss
+    pub front-rows : take first (sections_rows ls k (length ss) 0 0 false ss) ++ rows_from ks k first top ss ≡ sections_rows ks k (length ss) 0 0 false ss
     front-rows =
         let kept = take first (sections_rows ls k (length ss) 0 0 false ss) in
-        ap (λ m. kept ++ sections_rows ks k (length ss) first m (is_open_above ks k first ss) (drop first ss)) at-top
+        ap (λ m. kept ++ sections_rows ks k (length ss) first m (is_open_above ks k first ss) (drop first ss)) at
         ∙ ap (λ b. kept ++ sections_rows ks k (length ss) first (row_at ls k (length ss) first 0 0 false ss) b (drop first ss)) (sym above)
         ∙ ap (λ m. kept ++ sections_rows ks k (length ss) m (row_at ls k (length ss) first 0 0 false ss) (open_at ls k (length ss) first 0 false ss) (drop first ss)) (sym (from-none first))
-        ∙ rows-but ks ls k (length ss) j h.agree first 0 0 false ss (omega arith)
+        ∙ rows-but ks ls k (length ss) j h first 0 0 false ss (omega arith)
 
     pub front-height : top + height_from ks k first ss ≡ sections_height ks k (length ss) 0 false ss
     front-height =
         ap (λ b. top + sections_height ks k (length ss) first b (drop first ss)) (sym above)
         ∙ ap (λ m. top + sections_height ks k (length ss) m (open_at ls k (length ss) first 0 false ss) (drop first ss)) (sym (from-none first))
-        ∙ omega (arith, at-top, height-but ks ls k (length ss) j h.agree first 0 0 false ss (omega arith))
+        ∙ omega (arith, at, height-but ks ls k (length ss) j h first 0 0 false ss (omega arith))
 
   -- what moves
-  module _ (end : ℕ) (some : 0 < end) (within : end ≤ length ss) where
-    abbrev from : ℕ
-    from = (get_or rows (end - 1) d).end
-
-    at-end : from ≡ row_at ls k (length ss) end 0 0 false ss
-    at-end = ap (λ rs. (get_or rs (end - 1) d).end) h.is_it ∙ row-last ls k (length ss) end 0 false ss d some within
-
-    rest : drop end rows ≡ sections_rows ls k (length ss) end from (is_open_above ls k end ss) (drop end ss)
+  module _ (end from : ℕ) (within : end ≤ length ss) (at : from ≡ row_at ls k (length ss) end 0 0 false ss) where
+    rest : drop end (sections_rows ls k (length ss) 0 0 false ss) ≡ sections_rows ls k (length ss) end from (is_open_above ls k end ss) (drop end ss)
     rest =
-        ap (λ rs. drop end rs) h.is_it
-        ∙ drop-rows ls k (length ss) end 0 0 false ss
+        drop-rows ls k (length ss) end 0 0 false ss
         ∙ ap (λ m. sections_rows ls k (length ss) m (row_at ls k (length ss) end 0 0 false ss) (open_at ls k (length ss) end 0 false ss) (drop end ss)) (from-none end)
-        ∙ ap (λ m. sections_rows ls k (length ss) end m (open_at ls k (length ss) end 0 false ss) (drop end ss)) (sym at-end)
+        ∙ ap (λ m. sections_rows ls k (length ss) end m (open_at ls k (length ss) end 0 false ss) (drop end ss)) (sym at)
         ∙ ap (λ b. sections_rows ls k (length ss) end from b (drop end ss)) (above-is ls k (length ss) end ss within)
 
     rest-height : from + sections_height ls k (length ss) end (is_open_above ls k end ss) (drop end ss) ≡ sections_height ls k (length ss) 0 false ss
     rest-height =
         ap (λ b. from + sections_height ls k (length ss) end b (drop end ss)) (sym (above-is ls k (length ss) end ss within))
         ∙ ap (λ m. from + sections_height ls k (length ss) m (open_at ls k (length ss) end 0 false ss) (drop end ss)) (sym (from-none end))
-        ∙ omega (arith, at-end, height-at ls k (length ss) end 0 0 false ss)
+        ∙ omega (arith, at, height-at ls k (length ss) end 0 0 false ss)
 
-    pub rest-within : (until : ℕ) → sections_height ls k (length ss) 0 false ss ≤ until → AreWithin from until (drop end rows)
-    rest-within until high =
-        subst (λ rs. AreWithin from until rs) (sym rest)
-        (within-rows ls k (length ss) from until end from (is_open_above ls k end ss) (drop end ss) (omega arith) (omega (arith, rest-height)))
+    pub rest-between : (until : ℕ) → sections_height ls k (length ss) 0 false ss ≤ until → AreBetween from until (tops_of (drop end (sections_rows ls k (length ss) 0 0 false ss)))
+    rest-between until high =
+        subst (λ rs. AreBetween from until (tops_of rs)) (sym rest)
+        (between-tops ls k (length ss) from until end from (is_open_above ls k end ss) (drop end ss) (omega arith) (omega (arith, rest-height)))
 
-    rest-moved : (to : ℕ) → (end < length ss → j + 2 ≤ end) → map (moved_rows from to) (drop end rows) ≡ rows_from ks k end to ss
+    -- they have as many rows as before
+    pub rest-tall : (end < length ss → j + 2 ≤ end) → from + height_from ks k end ss ≡ sections_height ls k (length ss) 0 false ss
+    rest-tall past =
+        ap (λ n. from + n)
+        (sym (tail-height ks ls k (length ss) end j (is_open_above ks k end ss) (is_open_above ls k end ss) (drop end ss) h
+        (λ some. let more : end < length ss = omega (arith, length-drop end ss) in
+        let beyond : j + 2 ≤ end = past more in
+        (omega arith, sym (above-agree ks ls k end ss (λ _. h (end - 1) (omega arith)))))))
+        ∙ rest-height
+
+    pub rest-moved : (to : ℕ) → (end < length ss → j + 2 ≤ end) → map (moved_rows from to) (drop end (sections_rows ls k (length ss) 0 0 false ss)) ≡ rows_from ks k end to ss
     rest-moved to past =
         ap (λ rs. map (moved_rows from to) rs) rest
         ∙ moved ls k (length ss) from to 0 end from to (is_open_above ls k end ss) (drop end ss) (omega arith) (omega arith)
-        ∙ tail-agree ks ls k (length ss) end to j (is_open_above ks k end ss) (is_open_above ls k end ss) (drop end ss) h.agree
+        ∙ tail-agree ks ls k (length ss) end to j (is_open_above ks k end ss) (is_open_above ls k end ss) (drop end ss) h
         (λ some. let more : end < length ss = omega (arith, length-drop end ss) in
         let beyond : j + 2 ≤ end = past more in
-        (omega arith, sym (above-agree ks ls k end ss (λ _. h.agree (end - 1) (omega arith)))))
+        (omega arith, sym (above-agree ks ls k end ss (λ _. h (end - 1) (omega arith)))))
 
-  -- the rows after the sections around section j were found anew, and those below them moved
-  pub mended : (mid new : List SectionRows) (first end to : ℕ) → first ≤ j - 1 → first < length ss → 0 < end → end ≤ length ss → (end < length ss → j + 2 ≤ end)
-      → take end mid ++ rows_from ks k end to ss ≡ take first rows ++ rows_from ks k first (get_or rows first d).top ss → drop end mid ≡ drop end rows
-      → new ≡ take end mid ++ map (moved_rows (get_or rows (end - 1) d).end to) (drop end mid)
-      → new ≡ sections_rows ks k (length ss) 0 0 false ss
-  mended mid new first end to low inside some within past anew others moves =
+  -- where sections begin after those around section j were found anew, and those below them moved
+  pub mended : (tops mid new : List ℕ) (first end top from to : ℕ) → tops ≡ tops_of (sections_rows ls k (length ss) 0 0 false ss)
+      → first ≤ j - 1 → first ≤ length ss → end ≤ length ss → (end < length ss → j + 2 ≤ end)
+      → top ≡ row_at ls k (length ss) first 0 0 false ss → from ≡ row_at ls k (length ss) end 0 0 false ss
+      → take end mid ++ tops_of (rows_from ks k end to ss) ≡ take first tops ++ tops_of (rows_from ks k first top ss) → drop end mid ≡ drop end tops
+      → new ≡ take end mid ++ map (moved_row from to) (drop end mid)
+      → new ≡ tops_of (sections_rows ks k (length ss) 0 0 false ss)
+  mended tops mid new first end top from to is low within inside past at ends anew others moves =
+      let rows = sections_rows ls k (length ss) 0 0 false ss in
+      let last : drop end mid ≡ tops_of (drop end rows) = others ∙ ap (λ ts. drop end ts) is ∙ tops-drop end rows in
       moves
-      ∙ ap (λ rs. take end mid ++ map (moved_rows (get_or rows (end - 1) d).end to) rs) others
-      ∙ ap (λ rs. take end mid ++ rs) (rest-moved end some within to past)
+      ∙ ap (λ ts. take end mid ++ map (moved_row from to) ts) last
+      ∙ ap (λ ts. take end mid ++ ts) (tops-moved from to (drop end rows) ∙ ap (λ rs. tops_of rs) (rest-moved end from inside ends to past))
       ∙ anew
-      ∙ ap (λ rs. take first rs ++ rows_from ks k first (get_or rows first d).top ss) h.is_it
-      ∙ front-rows first low inside
+      ∙ ap (λ ts. take first ts ++ tops_of (rows_from ks k first top ss)) is
+      ∙ ap (λ ts. ts ++ tops_of (rows_from ks k first top ss)) (tops-take first rows)
+      ∙ sym (tops-append (take first rows) (rows_from ks k first top ss))
+      ∙ ap (λ rs. tops_of rs) (front-rows first top low within at)

@@ -8,5 +8,7 @@ pub mod Rows
 pub mod Refolds
 -- the layout of a state
 pub mod Layouts
+-- sections one below the other
+pub mod SectionStack
 -- searches for a row
 pub mod Searches

@@ -10,6 +10,7 @@ use Rattle.scm_types.specs.Limits.{file_size, max_items}
 use Rattle.scm_rows.specs.Lines.{is_changed}
 use Rattle.scm_layout.specs.declared.section_rows.SectionRows.{SectionRows}
 use Rattle.scm_layout.specs.declared.file_rows.FileRows.{FileRows}
+use Rattle.scm_layout.specs.SectionStack.{tops_of}
 use Rattle.scm_layout.specs.Rows.{each_file_rows, folded_count, is_expanded, is_first_open, sections_height, sections_rows, stacked}
 
 -- ---- the rows of some sections of a file
@@ -36,10 +37,10 @@ last_end top (r ∷ rs) = last_end r.end rs
 abbrev pub moved_rows : ℕ → ℕ → SectionRows → SectionRows
 moved_rows from to r = record r { top = to + (r.top - from); end = to + (r.end - from) }
 
--- all rows are among the rows from..until
-abbrev pub AreWithin : ℕ → ℕ → List SectionRows → Type 0
-AreWithin from until [] = Unit {0}
-AreWithin from until (r ∷ rs) = (from ≤ r.top) × (r.top ≤ until) × (from ≤ r.end) × (r.end ≤ until) × AreWithin from until rs
+-- all rows are from `from` to `until`
+abbrev pub AreBetween : ℕ → ℕ → List ℕ → Type 0
+AreBetween from until [] = Unit {0}
+AreBetween from until (row ∷ rows) = (from ≤ row) × (row ≤ until) × AreBetween from until rows
 
 -- ---- a section that is folded or unfolded
 
@@ -47,6 +48,13 @@ AreWithin from until (r ∷ rs) = (from ≤ r.top) × (r.top ≤ until) × (from
 pub record AreRowsButSection (rows : List SectionRows) (set : List SelectionKey) (k : FileKey) (sections : List Section) (i : ℕ) : Type 0 where
   pub before : List SelectionKey
   pub is_it : rows ≡ sections_rows before k (length sections) 0 0 false sections
+  pub agree : (m : ℕ) → m ≢ i → is_expanded set k m ≡ is_expanded before k m
+
+-- sections of file k began on the rows `tops`, and the last one ended at `last`, before section i was folded or unfolded, and with it the keys became `set`
+pub record AreTopsButSection (tops : List ℕ) (last : ℕ) (set : List SelectionKey) (k : FileKey) (sections : List Section) (i : ℕ) : Type 0 where
+  pub before : List SelectionKey
+  pub at : tops ≡ tops_of (sections_rows before k (length sections) 0 0 false sections)
+  pub tall : last ≡ sections_height before k (length sections) 0 false sections
   pub agree : (m : ℕ) → m ≢ i → is_expanded set k m ≡ is_expanded before k m
 
 -- how many sections of changed lines are folded after `section` was unfolded, or folded, if `folded` were before

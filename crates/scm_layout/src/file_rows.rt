@@ -6,12 +6,12 @@ ghost use Rattle.scm_types.specs.Limits.{file_size, max_items};
 ghost use Rattle.scm_layout.specs.Refolds.{AreRowsButKey};
 ghost use Rattle.scm_layout.specs.Rows.{HasFile, file_rows, folded_count, sections_rows};
 
-use crate::section_folds::{folded_after, last_end, refold_section};
-use crate::section_rows::{SectionRows, Unfolded, folded_count, is_expanded, refold_sections};
-use scm_rows::SectionShape;
+use crate::section_folds::folded_after;
+use crate::section_rows::{Unfolded, folded_count, is_expanded};
+use crate::section_stack::SectionStack;
 use scm_selection::key_set::KeySet;
 use scm_types::keys::FileKey;
-use scm_types::{File, Items, SelectionKey};
+use scm_types::{File, SelectionKey};
 use std::alloc::{AllocError, Global};
 
 /// The rows of a file.
@@ -24,7 +24,7 @@ pub struct FileRows {
     /// How many sections of changed lines are folded.
     pub folded: usize,
     /// The rows of each section, shown or not, counted from the row below the header.
-    pub sections: Items<SectionRows>,
+    pub sections: SectionStack,
 }
 
 /// Returns how many rows a file has whose sections have `height` rows.
@@ -57,17 +57,12 @@ impl FileRows {
         requires { file_size file.now ≤ max_items }
         ensures { IfOk result (λ rows. rows ≡ file_rows set.now key file.now) }
     {
-        let blank = SectionRows {
-            top: 0,
-            end: 0,
-            shape: SectionShape::Mark,
-        };
-        let sections = vec![in alloc; blank; file.sections.len()]?;
+        let sections = SectionStack::blank(alloc, file.sections.len())?;
         let mut rows = FileRows {
             top: 0,
             end: 0,
             folded: 0,
-            sections: Items::from(sections),
+            sections,
         };
         let unfolded = Unfolded {
             keys: set,
@@ -85,7 +80,7 @@ impl FileRows {
         ensures { self.new ≡ file_rows unfolded.entry.keys.now key file.now }
     {
         let sections = file.sections.as_slice();
-        let height = refold_sections(self.sections.as_mut_slice(), unfolded, key, sections);
+        let height = self.sections.refold(unfolded, key, sections);
         self.top = 0;
         self.end = height_with(is_file_unfolded(unfolded, key, file), height);
         self.folded = folded_count(unfolded, key, sections);
@@ -102,7 +97,7 @@ impl FileRows {
     {
         let sections = file.sections.as_slice();
         if index < sections.len() {
-            refold_section(self.sections.as_mut_slice(), set, key, sections, index);
+            self.sections.refold_section(set, key, sections, index);
             let is_unfolded = is_expanded(set, key, index);
             self.folded = folded_after(self.folded, &sections[index], is_unfolded);
         }
@@ -141,7 +136,7 @@ impl FileRows {
         ensures { self.new ≡ file_rows set.now file_key file.now }
     {
         self.refold_sections(set, file_key, file, key);
-        let height = last_end(self.sections.as_slice());
+        let height = self.sections.last_end();
         self.top = 0;
         self.end = height_with(set.contains(SelectionKey::File(file_key)), height);
     }

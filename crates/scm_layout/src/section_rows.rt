@@ -1,14 +1,15 @@
 //! The rows of the sections of a file.
-ghost use Rattle.std.specs.Prelude.{◌≡◌, ◌+◌, ◌*◌, ◌≤◌, ◌++◌, take, drop, false, true, length, sum_by, IsTrue};
+ghost use Rattle.std.specs.Prelude.{◌≡◌, ◌+◌, ◌*◌, ◌≤◌, ◌<◌, ◌^◌, ◌++◌, take, drop, false, true, length, sum_by, IsTrue};
 ghost use Rattle.scm_types.specs.Limits.{max_items, section_size};
 ghost use Rattle.scm_types.specs.Marks.{is_editable_section};
 ghost use Rattle.scm_rows.specs.Context.{place};
 ghost use Rattle.scm_rows.specs.Heights.{shown_height};
 ghost use Rattle.scm_layout.specs.Rows.{HasAllSections, fold_count, folded_count, is_expanded, is_first_open, is_open, sections_height, sections_rows};
 ghost use Rattle.scm_layout.specs.Refolds.{height_from, is_open_above, rows_from};
+ghost use Rattle.scm_layout.specs.SectionStack.{tops_of};
 
 use scm_rows::section_heights::shown_height;
-use scm_rows::section_shape::{is_changed, shape_of};
+use scm_rows::section_shape::is_changed;
 use scm_rows::{SectionPlace, SectionShape};
 use scm_selection::key_set::KeySet;
 use scm_types::keys::FileKey;
@@ -103,11 +104,19 @@ fn is_open_above(
     }
 }
 
-/// Finds the rows of sections `first..end` (exclusive) of `sections`, all sections of file `key`,
-/// anew. The first of them begins on row `top`. Returns the end of their rows, exclusive.
+/// Returns `row` in the width in which rows are kept.
+pub(crate) fn narrow(row: usize) -> u32
+    requires { row < 2 ^ 32 }
+    ensures { result ≡ row }
+{
+    row as u32
+}
+
+/// Finds where sections `first..end` (exclusive) of `sections`, all sections of file `key`, begin. The
+/// first of them begins on row `top`. Returns the end of their rows, exclusive.
 #[tactic(auto, using(scm_types::proofs::LimitLemmas::items_room))]
 pub(crate) fn refold_range(
-    rows: &mut [SectionRows],
+    tops: &mut [u32],
     unfolded: Unfolded<'_>,
     key: FileKey,
     sections: &[Section<'_>],
@@ -115,14 +124,16 @@ pub(crate) fn refold_range(
     end: usize,
     top: usize,
 ) -> usize
-    requires lengths { length rows.old ≡ length sections.now }
+    requires lengths { length tops.old ≡ length sections.now }
     requires range { (first ≤ end) × (end ≤ length sections.now) }
     requires fits { length sections.now + sum_by section_size sections.now ≤ max_items }
     requires room { top + height_from unfolded.keys.now key first sections.now ≤ 2 * max_items }
     requires all { IsTrue unfolded.are_all → HasAllSections unfolded.keys.now key sections.now }
-    ensures rows { take end rows.new ++ rows_from unfolded.entry.keys.now key end result sections.now
-        ≡ take first rows.old ++ rows_from unfolded.entry.keys.now key first top sections.now }
-    ensures others { drop end rows.new ≡ drop end rows.old }
+    ensures rows { take end tops.new
+        ++ tops_of (rows_from unfolded.entry.keys.now key end result sections.now)
+        ≡ take first tops.old
+        ++ tops_of (rows_from unfolded.entry.keys.now key first top sections.now) }
+    ensures others { drop end tops.new ≡ drop end tops.old }
     ensures height { result + height_from unfolded.entry.keys.now key end sections.now
         ≡ top + height_from unfolded.entry.keys.now key first sections.now }
 {
@@ -134,33 +145,30 @@ pub(crate) fn refold_range(
         let section = &sections[index];
         let after = is_open_at(unfolded, key, index + 1, sections);
         let height = visible_height(total, index, before, this, section, after);
-        let top = next;
-        let end = top + height;
-        let shape = shape_of(section);
-        rows[index] = SectionRows { top, end, shape };
-        next = end;
+        tops[index] = narrow(next);
+        next += height;
         before = this;
         this = after;
     }
     next
 }
 
-/// Finds the rows of `sections`, all sections of file `key`, anew. Returns how many rows they have.
-pub(crate) fn refold_sections(
-    rows: &mut [SectionRows],
+/// Finds where all `sections` of file `key` begin. Returns how many rows they have.
+pub(crate) fn refold_tops(
+    tops: &mut [u32],
     unfolded: Unfolded<'_>,
     key: FileKey,
     sections: &[Section<'_>],
 ) -> usize
-    requires lengths { length rows.old ≡ length sections.now }
+    requires lengths { length tops.old ≡ length sections.now }
     requires fits { length sections.now + sum_by section_size sections.now ≤ max_items }
     requires all { IsTrue unfolded.are_all → HasAllSections unfolded.keys.now key sections.now }
-    ensures rows { rows.new
-        ≡ sections_rows unfolded.entry.keys.now key (length sections.now) 0 0 false sections.now }
+    ensures tops { tops.new ≡ tops_of (sections_rows unfolded.entry.keys.now key
+        (length sections.now) 0 0 false sections.now) }
     ensures height { result
         ≡ sections_height unfolded.entry.keys.now key (length sections.now) 0 false sections.now }
 {
-    refold_range(rows, unfolded, key, sections, 0, sections.len(), 0)
+    refold_range(tops, unfolded, key, sections, 0, sections.len(), 0)
 }
 
 /// Returns 1 if `section`, which has index `index` in file `key`, has changed lines and is folded, else 0.
@@ -181,6 +189,9 @@ pub(crate) fn folded_count(unfolded: Unfolded<'_>, key: FileKey, sections: &[Sec
     requires { IsTrue unfolded.are_all → HasAllSections unfolded.keys.now key sections.now }
     ensures { result ≡ folded_count unfolded.entry.keys.now key 0 sections.now }
 {
+    if unfolded.are_all {
+        return 0;
+    }
     let mut folded = 0;
     for (index, section) in sections.iter().enumerate() {
         folded += fold_count(unfolded, key, index, section);

@@ -12,6 +12,8 @@ pub mod FileLemmas
 pub mod SpanLemmas
 -- what the searches ask of the rows of a session
 pub mod FitLemmas
+-- what folds change of a copy of the rows
+pub mod FrameRowLemmas
 -- what the index answers
 pub mod AnswerLemmas
 -- what lies over a row

@@ -2,6 +2,8 @@
 pub mod RowPieces
 -- rows of a layout that several owners share
 pub mod SharedRows
+-- a copy of such rows, and what changed since
+pub mod FrameRows
 -- the changed line that a row shows
 pub mod ShownLines
 -- runs of columns that have the same owner

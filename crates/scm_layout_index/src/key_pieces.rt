@@ -29,9 +29,8 @@ fn section_at(rows: &FileRows, key: SectionKey) -> Option<Piece>
     if below <= 1 {
         return None;
     }
-    let sections = rows.sections.as_slice();
-    let own = *sections.get(key.section_idx)?;
-    shown_piece(sections.len(), key, rows.top + 1, own)
+    let own = rows.sections.get(key.section_idx)?;
+    shown_piece(rows.sections.count(), key, rows.top + 1, own)
 }
 
 /// Returns the piece of section `key`, if its file is unfolded. The files have the rows `rows`.

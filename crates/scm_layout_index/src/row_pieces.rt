@@ -9,7 +9,7 @@ ghost use Rattle.scm_layout_index.specs.RowPieces.{end_of_files, file_of_rows, f
 use crate::shown_lines::{line_among, owner_on_line};
 use scm_document::index_pieces::{FilePiece, Piece, SectionPiece, push_pinned, rows_owner};
 use scm_document::section_pieces::{file_piece, section_piece};
-use scm_layout::row_search::{file_on, section_on};
+use scm_layout::row_search::file_on;
 use scm_layout::{FileRows, SectionRows};
 use scm_types::keys::is_key;
 use scm_types::{FileKey, Items, SectionKey, SelectionKey};
@@ -74,10 +74,9 @@ fn piece_at(
     requires { SectionsFit rows.now }
     ensures { result ≡ piece_at selection index rows.now section_idx }
 {
-    let sections = rows.sections.as_slice();
-    let own = *sections.get(section_idx)?;
+    let own = rows.sections.get(section_idx)?;
     let key = file_key(index).section(section_idx);
-    let total = sections.len();
+    let total = rows.sections.count();
     Some(section_of_rows(selection, total, key, rows.top + 1, own))
 }
 
@@ -96,7 +95,7 @@ fn section_in(
         return None;
     }
     let first = rows.top + 1;
-    let found = section_on(rows.sections.as_slice(), row - first)?;
+    let found = rows.sections.on(row - first)?;
     piece_at(selection, index, rows, found)
 }
 

@@ -1,12 +1,14 @@
 //! Rows of a layout that a session and its frames share.
-ghost use Rattle.std.specs.Prelude.{◌≡◌, IfOk};
+ghost use Rattle.std.specs.Prelude.{◌≡◌, false, IfOk};
+ghost use Rattle.scm_layout.specs.SectionStack.{shapes_of};
+ghost use Rattle.scm_layout_index.specs.FrameRows.{AreSectionsBut, is_named};
 ghost use Rattle.scm_layout_index.specs.RowPieces.{piece_of_key, pieces_on};
 ghost use Rattle.scm_layout_index.specs.SharedRows.{AreRowsOfState};
 
 use crate::key_pieces::piece_of_key;
 use crate::row_pieces::{RowPieces, pieces_on};
 use scm_document::index_pieces::Piece;
-use scm_layout::{FileRows, SectionRows, StateRows};
+use scm_layout::{FileRows, StateRows};
 use scm_types::{Items, SelectionKey};
 use std::alloc::{AllocError, Global};
 use std::marker::Model;
@@ -32,18 +34,10 @@ impl Model for SharedRows {
 }
 
 /// Returns a copy of `rows`.
-fn copy_sections(alloc: Global, rows: &[SectionRows]) -> Result<Items<SectionRows>, AllocError>
-    ensures { IfOk result (λ copy. copy ≡ rows.now) }
-{
-    let copy = Vec::from_slice(alloc, rows)?;
-    Ok(Items::from(copy))
-}
-
-/// Returns a copy of `rows`.
 fn copy_file(alloc: Global, rows: &FileRows) -> Result<FileRows, AllocError>
     ensures { IfOk result (λ copy. copy ≡ rows.now) }
 {
-    let sections = copy_sections(alloc, rows.sections.as_slice())?;
+    let sections = rows.sections.copy(alloc)?;
     Ok(FileRows {
         top: rows.top,
         end: rows.end,
@@ -63,6 +57,42 @@ fn copy_files(alloc: Global, rows: &[FileRows]) -> Result<Items<FileRows>, Alloc
     Ok(Items::from(copy))
 }
 
+/// Returns whether `index` is the file `named`, if one is named.
+fn is_named(named: Option<usize>, index: usize) -> bool
+    ensures { result ≡ is_named named index }
+{
+    match named {
+        None => false,
+        Some(file) => file == index,
+    }
+}
+
+/// Makes `own` equal to `rows`. They have the same sections, and on the same rows unless `is_changed`.
+fn renew_file(own: &mut FileRows, rows: &FileRows, is_changed: bool)
+    requires same { is_changed ≡ false → own.old.sections ≡ rows.now.sections }
+    requires shapes { shapes_of own.old.sections ≡ shapes_of rows.now.sections }
+    ensures { own.new ≡ rows.now }
+{
+    own.top = rows.top;
+    own.end = rows.end;
+    own.folded = rows.folded;
+    if is_changed {
+        own.sections.move_as(&rows.sections);
+    }
+}
+
+/// Makes `own` equal to `rows`. They have the same sections, and on the same rows except those of file
+/// `changed`.
+fn renew_files(own: &mut [FileRows], rows: &[FileRows], changed: Option<usize>)
+    requires { AreSectionsBut own.old rows.now changed }
+    ensures { own.new ≡ rows.now }
+{
+    for index in 0..rows.len() {
+        let is_changed = is_named(changed, index);
+        renew_file(&mut own[index], &rows[index], is_changed);
+    }
+}
+
 impl SharedRows {
     /// Returns a copy of `rows`, which are those of a session's layout.
     ///
@@ -75,6 +105,33 @@ impl SharedRows {
         let files = copy_files(alloc, rows.files.as_slice())?;
         let rows = Rc::new(alloc, StateRows { files })?;
         Ok(SharedRows { rows })
+    }
+
+    /// Returns a copy of `rows`, which are those of a session's layout. They have the same sections as
+    /// this copy, and on the same rows except those of file `changed`. If this copy has no other owner,
+    /// only the rows of that file are copied.
+    ///
+    /// # Errors
+    /// `AllocError`: an allocation failed.
+    pub(crate) fn renewed(
+        self,
+        alloc: Global,
+        rows: &StateRows,
+        changed: Option<usize>,
+    ) -> Result<SharedRows, AllocError>
+        requires rows { AreRowsOfState rows.now }
+        requires same { AreSectionsBut self.files rows.now.files changed }
+        ensures { IfOk result (λ copy. copy ≡ rows.now) }
+    {
+        match Rc::try_unwrap(self.rows) {
+            Ok(own) => {
+                let mut own = own;
+                renew_files(own.files.as_mut_slice(), rows.files.as_slice(), changed);
+                let rows = Rc::new(alloc, own)?;
+                Ok(SharedRows { rows })
+            }
+            Err(_) => SharedRows::new(alloc, rows),
+        }
     }
 
     /// Returns the same rows for another owner, without a copy.

@@ -4,8 +4,8 @@ ghost use Rattle.scm_layout.specs.Layouts.{layout_of};
 
 use crate::checks::check_equal;
 use crate::samples::{SMALL, state_of};
-use scm_layout::row_search::{file_on, section_on};
-use scm_layout::{FileCounts, FileRows, Layout, SectionCounts, SectionRows, SectionShape};
+use scm_layout::row_search::file_on;
+use scm_layout::{FileCounts, FileRows, Layout, SectionCounts};
 use scm_selection::key_lists::{all_keys, file_key, line_key, section_key};
 use scm_selection::key_set::{KeySet, key_set_of};
 use scm_types::{Items, RecordError, RecordState};
@@ -89,13 +89,12 @@ fn check_rows(
     ends: [usize; 4],
 ) {
     check_equal(rt, (rows.top, rows.end, rows.folded), (top, end, folded));
-    let sections = rows.sections.as_slice();
-    check_equal(rt, sections.len(), 4);
+    check_equal(rt, rows.sections.count(), 4);
     let mut next = 0;
-    for (index, section) in sections.iter().enumerate() {
-        check_equal(rt, section.top, next);
-        check_equal(rt, section.end, ends[index % 4]);
-        next = section.end;
+    for (index, end) in ends.iter().enumerate() {
+        let section = rows.sections.get(index);
+        check_equal(rt, section.map(|rows| (rows.top, rows.end)), Some((next, *end)));
+        next = *end;
     }
 }
 
@@ -156,33 +155,6 @@ fn rows_are_found(rt: HostRuntime) -> Result<(), RecordError> {
     let layout = Layout::new(alloc, &state, &expanded)?;
     for (row, found) in [(3, None), (4, Some(0)), (11, Some(0)), (12, None)] {
         check_equal(&rt, file_at(&layout, &state, &expanded, row), found);
-    }
-    // a section without rows lies between two others
-    let sections = [
-        SectionRows {
-            top: 0,
-            end: 2,
-            shape: SectionShape::Mark,
-        },
-        SectionRows {
-            top: 2,
-            end: 2,
-            shape: SectionShape::Mark,
-        },
-        SectionRows {
-            top: 2,
-            end: 5,
-            shape: SectionShape::Mark,
-        },
-    ];
-    for (row, found) in [
-        (0, Some(0)),
-        (1, Some(0)),
-        (2, Some(2)),
-        (4, Some(2)),
-        (5, None),
-    ] {
-        check_equal(&rt, section_on(&sections, row), found);
     }
     Ok(())
 }

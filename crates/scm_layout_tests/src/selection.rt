@@ -92,6 +92,31 @@ fn sets_of_keys(rt: HostRuntime) -> Result<(), RecordError> {
     Ok(())
 }
 
+#[test]
+fn sets_of_all_files_and_sections(rt: HostRuntime) -> Result<(), RecordError> {
+    let alloc = rt.alloc();
+    let files = several_files(alloc)?;
+    let files = files.as_slice();
+    let sections = section_keys(alloc, files)?;
+    let mut set = KeySet::of_sections(alloc, files)?;
+    assert!(rt; set.is_same(&key_set_of(alloc, sections.as_slice())?));
+    for file in 0..files.len() {
+        assert!(rt; !set.has_exactly_files(alloc, files)?);
+        set.insert(file_key(file))?;
+    }
+    assert!(rt; set.is_same(&KeySet::of_files(alloc, files)?));
+    assert!(rt; set.has_exactly_files(alloc, files)?);
+    set.insert(section_key(1, 0))?;
+    assert!(rt; set.contains(section_key(1, 0)) && !set.has_exactly_files(alloc, files)?);
+    set.remove(section_key(1, 0));
+    set.remove(section_key(0, 1));
+    assert!(rt; !set.contains(section_key(0, 1)) && !set.has_exactly_files(alloc, files)?);
+    set.insert(section_key(0, 1))?;
+    set.insert(line_key(0, 1, 0))?;
+    assert!(rt; !set.has_exactly_files(alloc, files)?);
+    Ok(())
+}
+
 /// Returns four files: that of `samples`, one of context and an empty section, one of context
 /// without a line, and one of context and a section of one line.
 fn several_files(alloc: Global) -> Result<Items<File<'static>>, RecordError> {

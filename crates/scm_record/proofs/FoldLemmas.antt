@@ -32,7 +32,7 @@ use Rattle.scm_record.specs.Messages.{edit_if, after_edit_request}
 use Rattle.scm_record.specs.Pages.{after_scroll, page_key, towards}
 use Rattle.scm_record.specs.Step.{change}
 use Rattle.scm_record.specs.Run.{World, with_session, with_edits, with_text, Goes, Breaks, no_such_place, too_long, after_answer, after_edit, outcome_by, Point, Before, Drawn, Within, Accepted, Failed, resume, next_read, batch, after, Reaches, here, on, world_at}
-use Rattle.scm_view_state.proofs.KeyOrderLemmas.{Ascends, with-ascends, without-ascends, flipped-ascends, set-ascends}
+use Rattle.scm_selection.proofs.KeyOrderLemmas.{Ascends, with-ascends, without-ascends, flipped-ascends, set-ascends}
 
 abbrev pub IsFine : Session → Type 0
 IsFine s = Ascends s.shown.expanded

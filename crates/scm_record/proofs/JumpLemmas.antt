@@ -30,7 +30,7 @@ use Rattle.scm_record.specs.declared.live.Turn.TheVariants.{Waiting, Editing, Ac
 use Rattle.scm_record.proofs.CurrentLemmas.{same-frame}
 use Rattle.scm_record.proofs.FoldLemmas.{edited-fine, reaches-fine, start-fine}
 use Rattle.scm_record.proofs.RunLemmas.{reaches-trans}
-use Rattle.scm_view_state.proofs.KeyOrderLemmas.{Ascends}
+use Rattle.scm_selection.proofs.KeyOrderLemmas.{Ascends}
 use Rattle.scm_record.proofs.InsideLemmas.{some-file}
 use Rattle.scm_record.proofs.MoveToLemmas.{Steps, stay, step, ensures, moved, Arrives, jump}
 

@@ -77,7 +77,7 @@ module _ (all : Bool) (e : List SelectionKey) where
 -- the layout after marks changed
 pub marked-layout : (old new : Inside) → HasLayout old → new.view_state.expanded ≡ old.view_state.expanded
     → ((e : List SelectionKey) → old.layout ≡ layout_of old.view_state.state e → new.layout ≡ layout_of new.view_state.state e)
-    → new.layout.rows ≡ old.layout.rows → state_size new.view_state.state ≡ state_size old.view_state.state → new.shared_rows ≡ old.shared_rows → HasLayout new
+    → new.layout.rows ≡ old.layout.rows → state_size new.view_state.state ≡ state_size old.view_state.state → new.frame_rows ≡ old.frame_rows → HasLayout new
 marked-layout old new has same follows rows size shared = record {
   layout = follows old.view_state.expanded has.layout ∙ ap (layout_of new.view_state.state) (sym same);
   shared = rw (shared, rows) has.shared;

@@ -13,7 +13,7 @@ use Rattle.scm_selection.specs.KeysAround.{is_key_of, keys_before, keys_after}
 use Rattle.scm_selection.proofs.PartLemmas.{parted_on, parted, parted-append}
 use Rattle.scm_selection.proofs.RelationLemmas.{next_part, behind, next-is, behind-is, kept-parts, key-same}
 use Rattle.scm_selection.proofs.WalkLemmas.{Once, once-turned, step-stays, step-goes}
-use Rattle.scm_view.proofs.PlaceLemmas.{key-self}
+use Rattle.scm_selection.proofs.KeyOrderLemmas.{key-self}
 
 -- a step to the next key of the list
 module _ (ks : List SelectionKey) (once : Once ks) (a b : SelectionKey) (rest : List SelectionKey) (is : keys_behind ks a ≡ b ∷ rest) where

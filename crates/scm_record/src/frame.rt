@@ -164,6 +164,14 @@ impl DrawnFrame {
         })
     }
 
+    /// Gives up the rows that the frame shares with the session, before another frame is drawn. The
+    /// frame keeps its size.
+    pub(crate) fn release_rows(&mut self, alloc: Global)
+        ensures size { (kind : TerminalKind) → HasSize kind self.old → HasSize kind self.new }
+    {
+        self.places = Places::Free(FreePlaces::empty(alloc));
+    }
+
     /// Draws the part of `view_state` that the screen shows inline, and indexes the document by
     /// `rows`, those of `layout`.
     fn draw_plain(

@@ -266,6 +266,7 @@ pub(crate) fn draw_anew(
         return Ok(());
     }
     let alloc = session.allocator();
+    frame.release_rows(alloc);
     let rows = session.share_rows()?;
     let layout = session.layout();
     frame.draw(alloc, session.view_state(), layout, rows, session.scroll())?;

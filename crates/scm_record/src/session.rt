@@ -1,11 +1,11 @@
 //! A session in which a user selects changes, and how each event changes it.
-ghost use Rattle.std.specs.Prelude.{◌≡◌, ◌≤◌, filter, IfErr, IfOk, IfSome, OnOk};
+ghost use Rattle.std.specs.Prelude.{◌≡◌, ◌≤◌, false, true, IfErr, IfOk, OnOk};
 ghost use Rattle.scm_errors.specs.declared.error.RecordError.TheVariants.{OutOfMemory};
 ghost use Rattle.scm_types.specs.Limits.{max_items, state_size};
 ghost use Rattle.scm_layout.specs.Layouts.{layout_of};
-ghost use Rattle.scm_layout_index.specs.SharedRows.{AreRowsOfState};
-ghost use Rattle.scm_selection.specs.KeyLists.{all_keys, is_section};
-ghost use Rattle.scm_selection.specs.KeySet.{key_set, with_key};
+ghost use Rattle.scm_layout_index.specs.FrameRows.{FitRows, noted};
+ghost use Rattle.scm_types.specs.Keys.{has_key};
+ghost use Rattle.scm_selection.specs.KeySet.{with_key};
 ghost use Rattle.scm_record.specs.Session.{padded_commits, with_keys_above};
 
 mod clicks;
@@ -20,11 +20,11 @@ mod view_mode;
 use crate::frame::DrawnFrame;
 use crate::pages::Way;
 use scm_input::Event;
-use scm_layout::{Layout, StateRows};
-use scm_layout_index::SharedRows;
-use scm_selection::key_lists::{first_key, section_keys};
-use scm_selection::key_set::{KeySet, key_set_of};
-use scm_types::{Commit, File, Items, RecordError, RecordState};
+use scm_layout::Layout;
+use scm_layout_index::{FrameRows, SharedRows};
+use scm_selection::key_lists::first_key;
+use scm_selection::key_set::KeySet;
+use scm_types::{Commit, Items, RecordError, RecordState};
 use scm_view::SelectionKey;
 use scm_view_state::ViewState;
 use std::alloc::{AllocError, Global};
@@ -54,9 +54,8 @@ pub(crate) struct ActiveSession<'state> {
     view_state: ViewState<'state>,
     /// The layout of the state, with the expanded keys unfolded.
     layout: Layout,
-    /// A copy of the layout's rows that frames share, unless a fold or a message changed the rows
-    /// since it was made.
-    shared_rows: Option<SharedRows>,
+    /// A copy of the layout's rows that frames share, and what folds changed since it was made.
+    frame_rows: FrameRows,
     /// The row of the document that the screen's first row shows, counted from 0.
     scroll: usize,
     /// Whether the screen was cleared since the last frame.
@@ -110,7 +109,7 @@ impl<'state> ActiveSession<'state> {
             files,
         } = state;
         let commits = pad(commits.into_inner())?;
-        let expanded = unfolded_at_first(alloc, files.as_slice())?;
+        let expanded = KeySet::of_sections(alloc, files.as_slice())?;
         let selection = first_key(files.as_slice());
         let state = RecordState {
             is_read_only,
@@ -121,7 +120,7 @@ impl<'state> ActiveSession<'state> {
         Ok(ActiveSession {
             view_state: ViewState::new(state, selection, expanded),
             layout,
-            shared_rows: None,
+            frame_rows: FrameRows::new(),
             scroll: 0,
             cleared: false,
             pending: Vec::new(alloc),
@@ -142,14 +141,14 @@ impl<'state> ActiveSession<'state> {
         &self.layout
     }
 
-    /// Returns the rows of the layout, for a frame to keep. Copies them if they changed since the last
+    /// Returns the rows of the layout, for a frame to keep. Copies those that changed since the last
     /// copy.
     pub(crate) fn share_rows(&mut self) -> Result<SharedRows, AllocError>
         ensures rows { IfOk result (λ rows. AreRowsOf rows self.old.shown) }
         ensures unchanged { self.new ≡ self.old }
     {
         let alloc = *self.pending.allocator();
-        share(alloc, &mut self.shared_rows, &self.layout.rows)
+        self.frame_rows.share(alloc, &self.layout.rows)
     }
 
     /// Returns the row of the document that the screen's first row shows, counted from 0.
@@ -210,7 +209,7 @@ impl<'state> ActiveSession<'state> {
         let shown = &mut self.view_state;
         expand_above(
             &mut self.layout,
-            &mut self.shared_rows,
+            &mut self.frame_rows,
             &shown.state,
             &mut shown.expanded,
             key,
@@ -327,39 +326,6 @@ impl<'state> ActiveSession<'state> {
     }
 }
 
-/// Returns the rows of `copy` for another owner. If there is no copy, makes one of `rows`, the rows of
-/// a layout.
-fn share(
-    alloc: Global,
-    copy: &mut Option<SharedRows>,
-    rows: &StateRows,
-) -> Result<SharedRows, AllocError>
-    requires rows { AreRowsOfState rows.now }
-    requires copy { IfSome copy.old (λ shared. shared ≡ rows.now) }
-    ensures ok { IfOk result (λ shared. shared ≡ rows.now) }
-    ensures copy { IfSome copy.new (λ shared. shared ≡ rows.now) }
-{
-    match copy {
-        Some(shared) => shared.share(),
-        None => {
-            let shared = SharedRows::new(alloc, rows)?;
-            let other = shared.share()?;
-            *copy = Some(shared);
-            Ok(other)
-        }
-    }
-}
-
-/// Returns the set of the sections of `files` that are more than context, which a session begins with
-/// unfolded. The list of their keys is dropped here, before the session takes more memory.
-fn unfolded_at_first(alloc: Global, files: &[File<'_>]) -> Result<KeySet, RecordError>
-    ensures ok { IfOk result (λ set. set ≡ key_set (filter is_section (all_keys files.now))) }
-    ensures err { IfErr result (λ e. e ≡ OutOfMemory) }
-{
-    let sections = section_keys(alloc, files)?;
-    key_set_of(alloc, &sections)
-}
-
 /// Adds commits without a message to `commits`, up to two.
 fn pad(commits: Vec<Commit>) -> Result<Vec<Commit>, AllocError>
     ensures { IfOk result (λ all. all.items ≡ padded_commits commits.items) }
@@ -371,44 +337,53 @@ fn pad(commits: Vec<Commit>) -> Result<Vec<Commit>, AllocError>
     Ok(commits)
 }
 
-/// Adds `key` to `expanded`, and keeps the layout of `state`. Drops `copy`, that of its rows, if they
+/// Notes in `copy` that `key` is unfolded, unless `expanded` has it already.
+fn note_unfold(copy: &mut FrameRows, expanded: &KeySet, key: SelectionKey)
+    ensures added { has_key expanded.now key ≡ false
+        → copy.new ≡ noted key copy.old.copy copy.old.change }
+    ensures kept { has_key expanded.now key ≡ true → copy.new ≡ copy.old }
+{
+    if !expanded.contains(key) {
+        copy.note(key);
+    }
+}
+
+/// Adds `key` to `expanded`, and keeps the layout of `state`. Notes in `copy`, that of its rows, if they
 /// change.
 fn unfold(
     layout: &mut Layout,
-    copy: &mut Option<SharedRows>,
+    copy: &mut FrameRows,
     state: &RecordState<'_>,
     expanded: &mut KeySet,
     key: SelectionKey,
 ) -> Result<(), RecordError>
     requires layout { layout.old ≡ layout_of state.now expanded.old }
     requires size { state_size state.now ≤ max_items }
-    requires copy { IfSome copy.old (λ shared. shared ≡ layout.old.rows) }
+    requires copy { FitRows copy.old layout.old.rows }
     ensures ok { OnOk result (expanded.new ≡ with_key expanded.old key) }
     ensures layout { layout.new ≡ layout_of state.now expanded.new }
-    ensures copy { IfSome copy.new (λ shared. shared ≡ layout.new.rows) }
+    ensures copy { FitRows copy.new layout.new.rows }
     ensures err { IfErr result (λ e. e ≡ OutOfMemory) }
 {
-    if !expanded.contains(key) {
-        *copy = None;
-    }
+    note_unfold(copy, expanded, key);
     layout.unfold(state, expanded, key)
 }
 
-/// Expands the file and the section that contain `key`, and keeps the layout of `state`. Drops
+/// Expands the file and the section that contain `key`, and keeps the layout of `state`. Notes in
 /// `copy`, that of its rows, if they change.
 fn expand_above(
     layout: &mut Layout,
-    copy: &mut Option<SharedRows>,
+    copy: &mut FrameRows,
     state: &RecordState<'_>,
     expanded: &mut KeySet,
     key: SelectionKey,
 ) -> Result<(), RecordError>
     requires layout { layout.old ≡ layout_of state.now expanded.old }
     requires size { state_size state.now ≤ max_items }
-    requires copy { IfSome copy.old (λ shared. shared ≡ layout.old.rows) }
+    requires copy { FitRows copy.old layout.old.rows }
     ensures ok { OnOk result (expanded.new ≡ with_keys_above expanded.old key) }
     ensures layout { layout.new ≡ layout_of state.now expanded.new }
-    ensures copy { IfSome copy.new (λ shared. shared ≡ layout.new.rows) }
+    ensures copy { FitRows copy.new layout.new.rows }
     ensures err { IfErr result (λ e. e ≡ OutOfMemory) }
 {
     match key {

@@ -1,5 +1,5 @@
 -- The keys' own order and equality are those of their numbers, so a sorted set of keys is one by those numbers.
-use Rattle.std.proofs.Common.{◌≡◌, ℕ, ◌&&◌, List, [], ◌∷◌, refl, ap, ◌∙◌, arith, nat_eq}
+use Rattle.std.proofs.Common.{◌≡◌, ℕ, ◌&&◌, Bool, false, cond, List, [], ◌∷◌, refl, ap, ap₂, sym, ◌∙◌, arith, nat_eq}
 use Rattle.std.proofs.lemmas.Bool.Decides.{nat_tests}
 use Rattle.std.specs.declared.cmp.Ordering.{Ordering}
 use Rattle.std.specs.Ordering.{nat_cmp, is_eq, ordering_then}
@@ -37,3 +37,12 @@ module _ (key : SelectionKey) (compare : SelectionKey → Ordering) (by_numbers 
   pub without_key-is : (set : List SelectionKey) → remove_key (is_at compare) set ≡ without_key set key
   without_key-is [] = refl
   without_key-is (k ∷ ks) = rw (is_at-is k, without_key-is ks) refl
+
+-- what a set has after a key was removed
+pub removed-has : (cmp : SelectionKey → SelectionKey → Ordering) (compare : SelectionKey → Ordering) (key : SelectionKey) (old new : List SelectionKey)
+    → ((k : SelectionKey) → list_any (is_at (cmp k)) new ≡ cond (is_at compare k) false (list_any (is_at (cmp k)) old))
+    → ((a b : SelectionKey) → cmp a b ≡ key_cmp a b) → ((k : SelectionKey) → compare k ≡ key_cmp key k) → (k : SelectionKey) → has_key new k ≡ cond (is_key key k) false (has_key old k)
+removed-has cmp compare key old new updates order query k =
+    sym (has_key-is k (cmp k) (order k) new)
+    ∙ updates k
+    ∙ ap₂ (λ (a b : Bool). cond a false b) (is_at-is key compare query k) (has_key-is k (cmp k) (order k) old)

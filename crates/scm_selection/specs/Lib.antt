@@ -2,6 +2,8 @@
 pub mod KeyLists
 -- sets of keys, as that of the unfolded ones
 pub mod KeySet
+-- sets that have a flag for each file and section
+pub mod KeyFlags
 -- where the selection moves to
 pub mod Moves
 -- the keys before and after a key, and the keys at which a move stops

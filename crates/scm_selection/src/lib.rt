@@ -4,6 +4,7 @@
 #![tactic(auto)]
 
 pub mod counts;
+mod key_flags;
 pub mod key_kinds;
 pub mod key_lists;
 pub mod key_set;

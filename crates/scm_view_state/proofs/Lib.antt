@@ -24,7 +24,5 @@ pub mod CountedLemmas
 pub mod RiseLemmas
 -- which sections of a small file are kept
 pub mod StretchExamples
--- sets of keys are in ascending order
-pub mod KeyOrderLemmas
 -- sets of expanded keys, with the keys of all lines behind them
 pub mod LineSetLemmas

@@ -1,6 +1,5 @@
 -- The keys of lines come after all other keys of a set. So a set has the other keys, and the lines behind them.
-use mathlib.Core.Bool.{and-false}
-use Rattle.std.proofs.Common.{◌≡◌, ℕ, suc, ◌+◌, ◌<◌, length, length-append, arith, nat_lt, drop, take, zero, cond, Bool, true, false, not, ◌&&◌, ◌||◌, List, [], ◌∷◌, ◌++◌, refl, sym, ap, ap₂, ◌∙◌, Some, None}
+use Rattle.std.proofs.Common.{◌≡◌, ℕ, suc, ◌+◌, ◌<◌, length, length-append, arith, nat_lt, drop, zero, cond, Bool, true, false, not, ◌&&◌, ◌||◌, List, [], ◌∷◌, ◌++◌, refl, sym, ap, ap₂, ◌∙◌, Some, None}
 use Rattle.std.specs.Prelude.{filter, find, fold, is_some, position, slice_get, if◌then◌else◌}
 use Rattle.std.specs.List.{list_any, position_or_len}
 use Rattle.std.specs.Option.{unwrap_or}
@@ -8,17 +7,12 @@ use Rattle.std.specs.declared.cmp.Ordering.{Ordering}
 use Rattle.std.specs.declared.cmp.Ordering.TheVariants.{Less, Equal, Greater}
 use Rattle.std.specs.Ordering.{match_ordering}
 use Rattle.std.proofs.lemmas.Bool.Decides.{nat_tests}
-use Rattle.std.proofs.lemmas.List.Elements.{filter-append}
 use Rattle.std.proofs.lemmas.List.Folds.{list_any-append}
-use Rattle.std.proofs.lemmas.List.Sums.{fold-append}
-use Rattle.std.proofs.lemmas.Bool.{or_right, and_parts}
 use Rattle.scm_types.specs.declared.keys.SelectionKey.{SelectionKey}
 use Rattle.scm_types.specs.declared.keys.SelectionKey.TheVariants as keys
 use Rattle.scm_types.specs.declared.file.File.{File}
 use Rattle.scm_types.specs.declared.keys.FileKey.{FileKey}
-use Rattle.scm_types.specs.declared.line.SectionChangedLine.{SectionChangedLine}
 use Rattle.scm_types.specs.declared.section.Section.{Section}
-use Rattle.scm_types.specs.declared.section.Section.TheVariants.{Changed}
 use Rattle.scm_types.specs.declared.state.RecordState.{RecordState}
 use Rattle.scm_types.specs.Keys.{file_of_line, file_of_section, section_key_of, section_of_line}
 use Rattle.scm_types.specs.Marks.{is_editable_section}
@@ -28,16 +22,13 @@ use Rattle.scm_rows.specs.Context.{place}
 use Rattle.scm_rows.specs.Heights.{shape_of, shown_height}
 use Rattle.scm_rows.specs.Lines.{is_changed}
 use Rattle.scm_layout.specs.Rows.{HasAllFiles, each_file_rows, file_key_of, file_rows, folded_count, is_expanded, is_first_open, is_open, rows_at, sections_height, sections_rows, stacked, visible_height}
-use Rattle.scm_selection.specs.KeyLists.{all_keys, file_key, files_keys, is_line, is_visible, line_keys, section_key, section_keys, sections_keys, visible_keys}
+use Rattle.scm_selection.specs.KeyLists.{all_keys, file_key, files_keys, is_line, is_visible, section_key, visible_keys}
 use Rattle.scm_selection.specs.KeySet.{key_cmp, is_key, has_key, with_key, without_key, with_key_flipped, key_set, is_same_set}
 use Rattle.scm_selection.specs.KeysAround.{is_editable_in, is_key_of, sections_in}
 use Rattle.scm_selection.specs.Moves.{inner_key, is_inside, keys_behind}
-use Rattle.scm_selection.proofs.FindLemmas.{files-take, sections-take}
-use Rattle.scm_selection.proofs.RelationLemmas.{key-same}
-use Rattle.scm_view_state.proofs.KeyOrderLemmas.{Ascends, added-early, added-turned, set-has}
+use Rattle.scm_selection.proofs.KeyOrderLemmas.{key-self, same-list, same-self, set-has}
 use Rattle.scm_selection.proofs.WalkLemmas.{among-kept}
 use Rattle.scm_view_state.specs.LineKeys.{line_set, set_without_lines, with_lines}
-use Rattle.scm_view.proofs.PlaceLemmas.{key-self}
 
 -- ---- lines come last
 
@@ -50,19 +41,64 @@ HaveNoLine [] = Unit {0}
 HaveNoLine (k ∷ ks) = (is_line k ≡ false) × HaveNoLine ks
 
 before-line : (k l : SelectionKey) → is_line k ≡ false → is_line l ≡ true → key_cmp k l ≡ Less
+before-line keys.None (keys.Line m) e f = refl
+before-line (keys.File n) (keys.Line m) e f = refl
+before-line (keys.Section n) (keys.Line m) e f = refl
 before-line (keys.Line n) l e f = absurd (cc e)
-before-line _ (keys.Line m) e f = refl
-before-line _ _ e f = absurd (cc f)
+before-line keys.None keys.None e f = absurd (cc f)
+before-line keys.None (keys.File m) e f = absurd (cc f)
+before-line keys.None (keys.Section m) e f = absurd (cc f)
+before-line (keys.File n) keys.None e f = absurd (cc f)
+before-line (keys.File n) (keys.File m) e f = absurd (cc f)
+before-line (keys.File n) (keys.Section m) e f = absurd (cc f)
+before-line (keys.Section n) keys.None e f = absurd (cc f)
+before-line (keys.Section n) (keys.File m) e f = absurd (cc f)
+before-line (keys.Section n) (keys.Section m) e f = absurd (cc f)
 
 after-other : (k l : SelectionKey) → is_line k ≡ false → is_line l ≡ true → key_cmp l k ≡ Greater
+after-other keys.None (keys.Line m) e f = refl
+after-other (keys.File n) (keys.Line m) e f = refl
+after-other (keys.Section n) (keys.Line m) e f = refl
 after-other (keys.Line n) l e f = absurd (cc e)
-after-other _ (keys.Line m) e f = refl
-after-other _ _ e f = absurd (cc f)
+after-other keys.None keys.None e f = absurd (cc f)
+after-other keys.None (keys.File m) e f = absurd (cc f)
+after-other keys.None (keys.Section m) e f = absurd (cc f)
+after-other (keys.File n) keys.None e f = absurd (cc f)
+after-other (keys.File n) (keys.File m) e f = absurd (cc f)
+after-other (keys.File n) (keys.Section m) e f = absurd (cc f)
+after-other (keys.Section n) keys.None e f = absurd (cc f)
+after-other (keys.Section n) (keys.File m) e f = absurd (cc f)
+after-other (keys.Section n) (keys.Section m) e f = absurd (cc f)
 
 other-key : (k l : SelectionKey) → is_line k ≡ false → is_line l ≡ true → is_key k l ≡ false
+other-key keys.None (keys.Line m) e f = refl
+other-key (keys.File n) (keys.Line m) e f = refl
+other-key (keys.Section n) (keys.Line m) e f = refl
 other-key (keys.Line n) l e f = absurd (cc e)
-other-key _ (keys.Line m) e f = refl
-other-key _ _ e f = absurd (cc f)
+other-key keys.None keys.None e f = absurd (cc f)
+other-key keys.None (keys.File m) e f = absurd (cc f)
+other-key keys.None (keys.Section m) e f = absurd (cc f)
+other-key (keys.File n) keys.None e f = absurd (cc f)
+other-key (keys.File n) (keys.File m) e f = absurd (cc f)
+other-key (keys.File n) (keys.Section m) e f = absurd (cc f)
+other-key (keys.Section n) keys.None e f = absurd (cc f)
+other-key (keys.Section n) (keys.File m) e f = absurd (cc f)
+other-key (keys.Section n) (keys.Section m) e f = absurd (cc f)
+
+other-line : (k l : SelectionKey) → is_line k ≡ false → is_line l ≡ true → is_key l k ≡ false
+other-line keys.None (keys.Line m) e f = refl
+other-line (keys.File n) (keys.Line m) e f = refl
+other-line (keys.Section n) (keys.Line m) e f = refl
+other-line (keys.Line n) l e f = absurd (cc e)
+other-line keys.None keys.None e f = absurd (cc f)
+other-line keys.None (keys.File m) e f = absurd (cc f)
+other-line keys.None (keys.Section m) e f = absurd (cc f)
+other-line (keys.File n) keys.None e f = absurd (cc f)
+other-line (keys.File n) (keys.File m) e f = absurd (cc f)
+other-line (keys.File n) (keys.Section m) e f = absurd (cc f)
+other-line (keys.Section n) keys.None e f = absurd (cc f)
+other-line (keys.Section n) (keys.File m) e f = absurd (cc f)
+other-line (keys.Section n) (keys.Section m) e f = absurd (cc f)
 
 -- ---- a set of other keys, and lines behind it
 
@@ -82,8 +118,9 @@ with-behind k (x ∷ xs) ls e h = go (key_cmp k x) (with-behind k xs ls e h)
   where
     go : (o : Ordering) → with_key (xs ++ ls) k ≡ with_key xs k ++ ls
         → match_ordering o (k ∷ x ∷ xs ++ ls) (x ∷ xs ++ ls) (x ∷ with_key (xs ++ ls) k) ≡ match_ordering o (k ∷ x ∷ xs) (x ∷ xs) (x ∷ with_key xs k) ++ ls
+    go Less more = refl
+    go Equal more = refl
     go Greater more = ap (λ ys. x ∷ ys) more
-    go _ more = refl
 
 -- a line is added behind
 with-line : (l : SelectionKey) (ks ls : List SelectionKey) → is_line l ≡ true → HaveNoLine ks → with_key (ks ++ ls) l ≡ ks ++ with_key ls l
@@ -154,6 +191,17 @@ pub set-behind : (ks : List SelectionKey) → key_set ks ≡ key_set (filter (λ
 set-behind ks = set-from ks [] [] tt tt
 
 -- the parts of the set
+filter-others : (ks ys0 : List SelectionKey) → HaveNoLine ys0 → HaveNoLine (fold with_key ys0 (filter (λ k. not (is_line k)) ks))
+filter-others [] ys0 h = h
+filter-others (k ∷ ks) ys0 h = go (is_line k) refl (λ bs i. filter-others ks bs i)
+  where
+    go : (b : Bool) → is_line k ≡ b → ((bs : List SelectionKey) → HaveNoLine bs → HaveNoLine (fold with_key bs (filter (λ x. not (is_line x)) ks)))
+        → HaveNoLine (fold with_key ys0 (if not b then k ∷ filter (λ x. not (is_line x)) ks else filter (λ x. not (is_line x)) ks))
+    go true e more = more ys0 h
+    go false e more = more (with_key ys0 k) (none-line k ys0 e h)
+
+pub others-have-none : (ks : List SelectionKey) → HaveNoLine (key_set (filter (λ k. not (is_line k)) ks))
+others-have-none ks = filter-others ks [] tt
 
 filter-lines : (ks ls : List SelectionKey) → AreLines ls → AreLines (fold with_key ls (filter is_line ks))
 filter-lines [] ls h = h
@@ -169,9 +217,9 @@ lines-are ks = filter-lines ks [] tt
 
 -- ---- two sets with lines behind them
 
-same-self : (ls : List SelectionKey) → is_same_set ls ls ≡ true
-same-self [] = refl
-same-self (l ∷ ls) = ap₂ (λ (a b : Bool). a && b) (key-self l) (same-self ls)
+and-false : (b : Bool) → (b && false) ≡ false
+and-false true = refl
+and-false false = refl
 
 shorter : (xs ys : List SelectionKey) → length xs < length ys → is_same_set xs ys ≡ false
 shorter xs [] h = absurd (omega (arith, h))
@@ -190,15 +238,13 @@ same-both [] (c ∷ cs) ls = shorter ls (c ∷ cs ++ ls) (omega (arith, length-a
 same-both (x ∷ xs) [] ls = longer (x ∷ xs ++ ls) ls (omega (arith, length-append xs ls))
 same-both (x ∷ xs) (c ∷ cs) ls = ap (λ b. is_key x c && b) (same-both xs cs ls)
 
-same-list : (xs ys : List SelectionKey) → is_same_set xs ys ≡ true → xs ≡ ys
-same-list [] [] e = refl
-same-list (x ∷ xs) (y ∷ ys) e =
-    ap₂ (λ (k : SelectionKey) (ks : List SelectionKey). k ∷ ks) (key-same x y (and_parts (is_key x y) (is_same_set xs ys) e).0) (same-list xs ys (and_parts (is_key x y) (is_same_set xs ys) e).1)
-same-list _ _ e = absurd (cc e)
-
 -- a set that lacks a key is not one that has it
 pub lacks-key : (xs ks : List SelectionKey) (l : SelectionKey) → has_key ks l ≡ true → has_key xs l ≡ false → is_same_set xs (key_set ks) ≡ false
-lacks-key xs ks l there e = (elim (is_same_set xs (key_set ks)) as (λ b. is_same_set xs (key_set ks) ≡ b → b ≡ false) [ true ↦ (λ p. absurd (cc (e, ap (λ set. has_key set l) (same-list xs (key_set ks) p), set-has ks l, there))) | false ↦ (λ p. refl) ]) refl
+lacks-key xs ks l there e = go (is_same_set xs (key_set ks)) refl
+  where
+    go : (b : Bool) → is_same_set xs (key_set ks) ≡ b → b ≡ false
+    go false p = refl
+    go true p = absurd (cc (e, ap (λ set. has_key set l) (same-list xs (key_set ks) p), set-has ks l, there))
 
 -- ---- the layout and the visible keys ask for files and sections alone
 
@@ -258,9 +304,10 @@ module _ (e ls : List SelectionKey) (lines : AreLines ls) where
   layout-behind state = ap (λ rs. record { counts = counts_of state.files; rows = record { files = stacked (files_top state.commits) rs } }) (files-behind 0 0 state.files)
 
   seen-behind : (k : SelectionKey) → is_visible (has_key (e ++ ls)) k ≡ is_visible (has_key e) k
+  seen-behind keys.None = refl
+  seen-behind (keys.File k) = refl
   seen-behind (keys.Section k) = has-behind (keys.File (file_of_section k)) e ls refl lines
   seen-behind (keys.Line k) = ap₂ (λ (a b : Bool). a && b) (has-behind (keys.File (file_of_line k)) e ls refl lines) (has-behind (keys.Section (section_of_line k)) e ls refl lines)
-  seen-behind _ = refl
 
   filter-behind : (ks : List SelectionKey) → filter (is_visible (has_key (e ++ ls))) ks ≡ filter (is_visible (has_key e)) ks
   filter-behind [] = refl
@@ -302,7 +349,11 @@ module _ (fs : List File) (e : List SelectionKey) where
   -- a key is in the set itself, or among the lines
   pub has-any : (all : Bool) (k : SelectionKey) → has_key (with_lines all fs e) k ≡ (has_key e k || (all && has_key (line_set fs) k))
   has-any true k = list_any-append (is_key k) e (line_set fs)
-  has-any false k = elim (has_key e k) as (λ b. b ≡ (b || false)) [ true ↦ refl | false ↦ refl ]
+  has-any false k = or-false (has_key e k)
+    where
+      or-false : (b : Bool) → b ≡ (b || false)
+      or-false true = refl
+      or-false false = refl
 
   -- all lines behind a set are the lines behind all others if the set has all others
   pub same-with : is_same_set e (set_without_lines fs) ≡ is_same_set (e ++ line_set fs) (key_set (all_keys fs))
@@ -362,6 +413,9 @@ slice-in (y ∷ ys) (suc i) x e = later i (length ys) (slice-in ys i x e)
     later : (m n : ℕ) → nat_lt m n ≡ true → nat_lt (suc m) (suc n) ≡ true
     later m n h = grind (arith, nat_tests)
 
+file-there : (fs : List File) (i : ℕ) (f : File) → slice_get fs i ≡ Some f → is_key_of fs (file_key i) ≡ true
+file-there fs i f at = slice-in fs i f at
+
 section-there : (fs : List File) (i m : ℕ) (f : File) (s : Section) → slice_get fs i ≡ Some f → slice_get f.sections m ≡ Some s → is_editable_section s ≡ true → is_key_of fs (section_key i m) ≡ true
 section-there fs i m f s at within editable =
     ap (λ r. is_editable_in (slice_get (sections_in r) m)) at
@@ -382,15 +436,20 @@ line-is-one k fs line =
 
 -- ---- the first line
 
+or-right : (a b : Bool) → b ≡ true → (a || b) ≡ true
+or-right true b e = refl
+or-right false b e = e
+
 dropped-has : (n : ℕ) (ks : List SelectionKey) (k : SelectionKey) → has_key (drop n ks) k ≡ true → has_key ks k ≡ true
-dropped-has (suc n) (x ∷ xs) k e = or_right (is_key k x) (has_key xs k) (dropped-has n xs k e)
-dropped-has _ _ k e = e
+dropped-has zero ks k e = e
+dropped-has (suc n) [] k e = e
+dropped-has (suc n) (x ∷ xs) k e = or-right (is_key k x) (has_key xs k) (dropped-has n xs k e)
 
 -- what is true of a key and of all keys of a list is true of the first of these that passes a test, or of that key
 module _ (P : SelectionKey → Type 0) where
   found-keeps : (test : SelectionKey → Bool) (ks : List SelectionKey) (key : SelectionKey) → P key → ((k : SelectionKey) → has_key ks k ≡ true → P k) → P (unwrap_or (find test ks) key)
   found-keeps test [] key p each = p
-  found-keeps test (k ∷ ks) key p each = go (test k) (found-keeps test ks key p (λ x there. each x (or_right (is_key x k) (has_key ks x) there)))
+  found-keeps test (k ∷ ks) key p each = go (test k) (found-keeps test ks key p (λ x there. each x (or-right (is_key x k) (has_key ks x) there)))
     where
       go : (b : Bool) → P (unwrap_or (find test ks) key) → P (unwrap_or (cond b (Some k) (find test ks)) key)
       go true more = each k (ap (λ b. b || has_key ks k) (key-self k))
@@ -409,50 +468,6 @@ line-there ks first other = inner-keeps P ks (inner_key ks first) (inner-keeps P
     each : (k : SelectionKey) → has_key ks k ≡ true → P k
     each k there = λ line. there
 
--- ---- the set without lines, key by key
-
-lines-alone : (file section first : ℕ) (lines : List SectionChangedLine) → filter (λ key. not (is_line key)) (line_keys file section first lines) ≡ []
-lines-alone file section first [] = refl
-lines-alone file section first (l ∷ ls) = lines-alone file section (first + 1) ls
-
-section-inserted : (set : List SelectionKey) (file section : ℕ) (s : Section)
-    → fold with_key set (filter (λ key. not (is_line key)) (section_keys file section s)) ≡ (if is_editable_section s then with_key set (section_key file section) else set)
-section-inserted set file section (Changed lines) = ap (fold with_key (with_key set (section_key file section))) (lines-alone file section 0 lines)
-section-inserted set file section _ = refl
-
--- one more section, from the last on
-pub sections-step : (set : List SelectionKey) (file i : ℕ) (ss : List Section) (s : Section) → Ascends set → slice_get ss i ≡ Some s
-    → fold with_key (if is_editable_section s then with_key set (section_key file i) else set) (filter (λ key. not (is_line key)) (sections_keys file 0 (take i ss)))
-    ≡ fold with_key set (filter (λ key. not (is_line key)) (sections_keys file 0 (take (i + 1) ss)))
-sections-step set file i ss s h at =
-    let own = section_keys file i s in
-    let before = sections_keys file 0 (take i ss) in
-    let others = filter (λ key. not (is_line key)) in
-    sym (ap (λ ks. fold with_key set (others ks)) (sections-take file 0 i i ss s (omega arith) at)
-    ∙ ap (fold with_key set) (filter-append (λ key. not (is_line key)) before own)
-    ∙ fold-append with_key set (others before) (others own)
-    ∙ section-inserted (fold with_key set (others before)) file i s
-    ∙ either (is_editable_section s))
-  where
-    either : (b : Bool)
-        → (if b then with_key (fold with_key set (filter (λ key. not (is_line key)) (sections_keys file 0 (take i ss)))) (section_key file i) else fold with_key set (filter (λ key. not (is_line key)) (sections_keys file 0 (take i ss))))
-        ≡ fold with_key (if b then with_key set (section_key file i) else set) (filter (λ key. not (is_line key)) (sections_keys file 0 (take i ss)))
-    either true = sym (added-early (filter (λ key. not (is_line key)) (sections_keys file 0 (take i ss))) set (section_key file i) h)
-    either false = refl
-
--- one more file, from the last on
-pub files-step : (set : List SelectionKey) (i : ℕ) (fs : List File) (f : File) → Ascends set → slice_get fs i ≡ Some f
-    → fold with_key (with_key (fold with_key set (filter (λ key. not (is_line key)) (sections_keys i 0 f.sections))) (file_key i)) (filter (λ key. not (is_line key)) (files_keys 0 (take i fs)))
-    ≡ fold with_key set (filter (λ key. not (is_line key)) (files_keys 0 (take (i + 1) fs)))
-files-step set i fs f h at =
-    let own = sections_keys i 0 f.sections in
-    let before = files_keys 0 (take i fs) in
-    let others = filter (λ key. not (is_line key)) in
-    added-turned (others before) (others own) set (file_key i) h
-    ∙ sym (ap (λ ks. fold with_key set (others ks)) (files-take 0 i i fs f (omega arith) at)
-    ∙ ap (fold with_key set) (filter-append (λ key. not (is_line key)) before (file_key i ∷ own))
-    ∙ fold-append with_key set (others before) (file_key i ∷ others own))
-
 -- ---- everything unfolded
 
 -- where the set and the lines of a state are all keys, the set has all files, and all sections that are not context
@@ -466,4 +481,4 @@ module _ (fs : List File) (e : List SelectionKey) (all : Bool) (is : with_lines 
       ∙ there
 
   pub all-unfolded : HasAllFiles e 0 fs
-  all-unfolded i f at = (has-of (file_key i) refl (slice-in fs i f at), λ m s within editable. has-of (section_key i m) refl (section-there fs i m f s at within editable))
+  all-unfolded i f at = (has-of (file_key i) refl (file-there fs i f at), λ m s within editable. has-of (section_key i m) refl (section-there fs i m f s at within editable))

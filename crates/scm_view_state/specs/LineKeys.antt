@@ -1,10 +1,9 @@
 -- The keys of the changed lines. They enter and leave the set of expanded keys only all at once, so the code keeps a flag for them.
-use Rattle.std.specs.Prelude.{◌≡◌, Bool, true, false, not, List, [], ◌∷◌, ◌++◌, filter}
-use Rattle.std.specs.declared.cmp.Ordering.TheVariants.{Less}
+use Rattle.std.specs.Prelude.{Bool, true, false, not, List, ◌++◌, filter}
 use Rattle.scm_types.specs.declared.file.File.{File}
 use Rattle.scm_types.specs.declared.keys.SelectionKey.{SelectionKey}
 use Rattle.scm_selection.specs.KeyLists.{all_keys, is_line}
-use Rattle.scm_selection.specs.KeySet.{key_cmp, key_set}
+use Rattle.scm_selection.specs.KeySet.{key_set}
 
 -- the set of the keys of all changed lines
 abbrev pub line_set : List File → List SelectionKey
@@ -18,13 +17,3 @@ set_without_lines files = key_set (filter (λ key. not (is_line key)) (all_keys 
 abbrev pub with_lines : Bool → List File → List SelectionKey → List SelectionKey
 with_lines true files set = set ++ line_set files
 with_lines false files set = set
-
--- the key comes before each key of the list
-abbrev pub IsBefore : SelectionKey → List SelectionKey → Type 0
-IsBefore key [] = Unit {0}
-IsBefore key (k ∷ ks) = (key_cmp key k ≡ Less) × IsBefore key ks
-
--- the keys ascend
-abbrev pub Ascends : List SelectionKey → Type 0
-Ascends [] = Unit {0}
-Ascends (k ∷ ks) = IsBefore k ks × Ascends ks

@@ -6,7 +6,7 @@ ghost use Rattle.scm_types.specs.Keys.{has_key};
 ghost use Rattle.scm_selection.specs.KeyLists.{all_keys};
 ghost use Rattle.scm_selection.specs.KeySet.{is_same_set, key_set};
 
-use crate::line_keys::{has_exactly_all, is_line_of, set_without_lines};
+use crate::line_keys::{has_exactly_all, is_line_of};
 use crate::view_state::ViewState;
 use scm_selection::key_set::KeySet;
 use scm_types::RecordError;
@@ -35,8 +35,7 @@ impl<'state> ViewState<'state> {
     {
         let files = self.state.files.as_slice();
         if self.has_all_lines {
-            let others = set_without_lines(alloc, files)?;
-            Ok(self.expanded.is_same(&others))
+            self.expanded.has_exactly_files(alloc, files)
         } else {
             has_exactly_all(alloc, &self.expanded, files)
         }
@@ -52,7 +51,7 @@ impl<'state> ViewState<'state> {
         ensures unchanged { OnErr result (self.new ≡ self.old) }
         ensures err { IfErr result (λ e. e ≡ OutOfMemory) }
     {
-        let others = set_without_lines(alloc, self.state.files.as_slice())?;
+        let others = KeySet::of_files(alloc, self.state.files.as_slice())?;
         self.expanded = others;
         self.has_all_lines = true;
         Ok(())

@@ -87,7 +87,7 @@ pub(crate) fn file_part<'a>(
     ensures { IfOk result
         (λ view. lent_file view ≡ file_part_of view_state.now key range file.now) }
 {
-    let sections = rows.sections.as_slice();
+    let sections = &rows.sections;
     let section_views = shown_views(view_state, alloc, key, counts, sections, range, file)?;
     let mark = tristate_by(counts.checked, counts.items);
     let fold = view_state.counted_fold(key, rows.folded);

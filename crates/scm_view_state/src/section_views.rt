@@ -12,8 +12,7 @@ ghost use Rattle.scm_view_state.specs.Stretches.{elements_in, has_row, views_wit
 ghost use Rattle.scm_view_state.specs.Views.{lent_section, lent_sections, totals_in};
 
 use crate::view_state::ViewState;
-use scm_layout::row_search::sections_begun;
-use scm_layout::{FileCounts, SectionCounts, SectionRows};
+use scm_layout::{FileCounts, SectionCounts, SectionRows, SectionStack};
 use scm_types::keys::is_key;
 use scm_types::{File, Items, Section, Tristate};
 use scm_view::{FileKey, SectionKey, SectionSelection, SectionView, SelectionKey};
@@ -191,14 +190,15 @@ fn has_row(rows: &SectionRows) -> bool
 
 /// Returns an index after `index`, so that no section between the two has a row. The sections have the
 /// rows `rows`. It costs a bisection.
-fn next_index(rows: &[SectionRows], index: usize) -> usize
+fn next_index(rows: &SectionStack, index: usize) -> usize
     requires follow { SectionsFollow rows.now }
     requires within { index < length rows.now }
+    requires few { length rows.now ≤ max_items }
     ensures later { index < result }
     ensures bare { (i : ℕ) → (d : SectionRows) → index < i → i < result → i < length rows.now
         → has_row (get_or rows.now i d) ≡ false }
 {
-    let begun = sections_begun(rows, rows[index].end);
+    let begun = rows.begun(rows.row(index).end);
     begun.saturating_sub(1).max(index + 1)
 }
 
@@ -210,7 +210,7 @@ pub(crate) fn shown_views<'a>(
     alloc: Global,
     key: FileKey,
     counts: &FileCounts,
-    rows: &[SectionRows],
+    rows: &SectionStack,
     range: SectionRange,
     file: &'a File<'a>,
 ) -> Result<Items<SectionView<'a>>, AllocError>
@@ -226,7 +226,7 @@ pub(crate) fn shown_views<'a>(
     let mut views = Vec::new(alloc);
     let mut index = range.start;
     'sections: while index < range.end {
-        if has_row(&rows[index]) {
+        if has_row(&rows.row(index)) {
             views.push(view_at(view_state, key, counts, index, file))?;
         }
         index = next_index(rows, index).min(range.end);

@@ -12,8 +12,8 @@ ghost use Rattle.scm_view_state.specs.Views.{lent_files};
 use crate::file_views::file_part;
 use crate::section_views::SectionRange;
 use crate::view_state::ViewState;
-use scm_layout::row_search::{files_begun, sections_begun};
-use scm_layout::{FileCounts, FileRows, SectionRows};
+use scm_layout::row_search::files_begun;
+use scm_layout::{FileCounts, FileRows, SectionStack};
 use scm_types::{File, Items, Section};
 use scm_view::{FileKey, FileView, SelectionKey};
 use std::alloc::{AllocError, Global};
@@ -65,7 +65,7 @@ fn sections_begun_in(is_unfolded: bool, rows: &FileRows, row: usize) -> usize
     // `&`: one branch for the prover
     let has_begun = is_unfolded & (rows.top < row);
     if has_begun {
-        sections_begun(rows.sections.as_slice(), row - rows.top - 1)
+        rows.sections.begun(row - rows.top - 1)
     } else {
         0
     }
@@ -109,7 +109,7 @@ fn end_of(sections: &[Section<'_>], end: usize) -> usize
 
 /// Returns the first row of section `index`, counted from the row below the header of its file, or 0 if
 /// there is none.
-fn top_at(sections: &[SectionRows], index: usize) -> usize
+fn top_at(sections: &SectionStack, index: usize) -> usize
     ensures { result ≡ top_at index sections.now }
 {
     match sections.get(index) {
@@ -201,7 +201,7 @@ pub(crate) fn visible_stretch(
         last_file,
         end_section: end_section(view_state, &rows[last_file], last_file, last_row, last),
         top: first_rows.top,
-        section_top: top_at(first_rows.sections.as_slice(), first_section),
+        section_top: top_at(&first_rows.sections, first_section),
     }
 }
 

@@ -18,7 +18,7 @@ impl<'state> ActiveSession<'state> {
         requires { is_line key ≡ false }
         ensures { OnOk result (self.new ≡ after_fold self.old key) }
     {
-        self.shared_rows = None;
+        self.frame_rows.note(key);
         let shown = &mut self.view_state;
         self.layout.fold(&shown.state, &mut shown.expanded, key);
         self.ensure_selection_in_viewport()
@@ -31,7 +31,7 @@ impl<'state> ActiveSession<'state> {
             ≡ with_expanded self.old (with_key_flipped self.old.shown.expanded key)) }
         ensures err { IfErr result (λ e. e ≡ OutOfMemory) }
     {
-        self.shared_rows = None;
+        self.frame_rows.note(key);
         let shown = &mut self.view_state;
         self.layout.flip(&shown.state, &mut shown.expanded, key)
     }
@@ -41,7 +41,7 @@ impl<'state> ActiveSession<'state> {
         ensures { self.new ≡ with_expanded self.old [] }
     {
         let alloc = self.allocator();
-        self.shared_rows = None;
+        self.frame_rows.forget();
         self.view_state.fold_all(alloc);
         self.view_state.refold(&mut self.layout);
     }
@@ -54,7 +54,7 @@ impl<'state> ActiveSession<'state> {
     {
         let alloc = self.allocator();
         self.view_state.expand_all(alloc)?;
-        self.shared_rows = None;
+        self.frame_rows.forget();
         self.view_state.refold_all(&mut self.layout);
         Ok(())
     }

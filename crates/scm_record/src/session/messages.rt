@@ -42,7 +42,7 @@ impl<'state> ActiveSession<'state> {
         ensures { self.new ≡ with_message self.old commit (string_bytes text) }
     {
         set_message(self.view_state.state.commits.as_mut_slice(), commit, text);
-        self.shared_rows = None;
+        self.frame_rows.forget();
         self.layout.restack(&self.view_state.state);
     }
 

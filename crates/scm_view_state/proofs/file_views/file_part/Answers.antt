@@ -19,11 +19,11 @@ use Rattle.scm_view_state.proofs.file_views.file_part.Goals as goal
 pub shown_views-requires-clause-follow : goal.shown_views-requires-clause-follow
 shown_views-requires-clause-follow c =
     let f = c.args.file.now in
-    subst SectionsFollow (sym (c.as_slice-sections.ensures ∙ c.requires.rows)) (sections-follow c.args.view_state.now.expanded c.args.key (length f.sections) f.sections)
+    subst SectionsFollow (sym c.requires.rows) (sections-follow c.args.view_state.now.expanded c.args.key (length f.sections) f.sections)
 
 pub shown_views-requires-clause-lengths : goal.shown_views-requires-clause-lengths
 shown_views-requires-clause-lengths c =
-    ap length (c.as_slice-sections.ensures ∙ c.requires.rows) ∙ layout-length c.args.view_state.now c.args.key c.args.file.now
+    ap length c.requires.rows ∙ layout-length c.args.view_state.now c.args.key c.args.file.now
 
 pub returns : goal.returns
 returns c =
@@ -33,7 +33,7 @@ returns c =
     let mark : c.tristate_by-mark.result ≡ tristate_of (file_marks f) = c.tristate_by-mark.ensures ∙ ap (λ (n : FileCounts). tristate_by n.checked n.items) c.requires.counted in
     let fold : c.counted_fold-fold.result ≡ file_fold s k f =
     c.counted_fold-fold.ensures ∙ ap (λ b. fold_of (has_key s.expanded (keys.File k)) b) (ap (λ n. n == 0) c.requires.folded ∙ sym (folds-counted s k 0 f.sections)) in
-    let rows = c.as_slice-sections.ensures ∙ c.requires.rows in
+    let rows = c.requires.rows in
     let sections : lent_sections c.in_ok-section_views.section_views ≡ views_with_rows (elements_in c.args.range (file_rows s.expanded k f).sections) (elements_in c.args.range (file_view_of s k f).section_views) =
     c.in_ok-section_views.ensures ∙ ap (λ rs. views_with_rows (elements_in c.args.range rs) (elements_in c.args.range (file_view_of s k f).section_views)) rows in
     let same : ◌≡◌ {A = FileView}

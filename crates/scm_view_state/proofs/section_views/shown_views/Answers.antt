@@ -26,6 +26,9 @@ sections-init c =
       high = inr refl;
     }
 
+pub next_index-requires-clause-few : goal.next_index-requires-clause-few
+next_index-requires-clause-few c = omega (arith, c.requires.lengths, c.requires.size)
+
 pub sections-smaller : goal.sections-smaller
 sections-smaller c = omega (arith, c.next_index.ensures.later, c.min-index.ensures, c.sections-test.true)
 
@@ -50,10 +53,10 @@ sections-preserved c =
                 let added : map lent_section (c.sections.views.items ++ d ∷ []) ≡ map lent_section c.sections.views.items ++ lent_section d ∷ [] = map-append lent_section c.sections.views.items (d ∷ []) in
                 ap (λ (x : Vec SectionView Global). lent_sections x.items) w.views-is ∙ ap lent_sections w.in_ok-push.ensures.items ∙ added
                 ∙ ap (λ vs. vs ++ lent_section d ∷ []) c.sections.invariant.views ∙ ap (λ u. W i ++ u ∷ []) (w.view_at.ensures v)
-                ∙ ap (λ b. W i ++ (if b then get_or all i v ∷ [] else [])) (sym (sym c.has_row.ensures ∙ w.if-has_row.true))
+                ∙ ap (λ b. W i ++ (if b then get_or all i v ∷ [] else [])) (sym (sym (c.has_row.ensures ∙ ap has_row (c.row.ensures no-section)) ∙ w.if-has_row.true))
             | else-has_row w ↦
                 ap (λ (x : Vec SectionView Global). lent_sections x.items) w.views-is ∙ c.sections.invariant.views ∙ sym (append-nil (W i))
-                ∙ ap (λ b. W i ++ (if b then get_or all i v ∷ [] else [])) (sym (sym c.has_row.ensures ∙ w.if-has_row.false))
+                ∙ ap (λ b. W i ++ (if b then get_or all i v ∷ [] else [])) (sym (sym (c.has_row.ensures ∙ ap has_row (c.row.ensures no-section)) ∙ w.if-has_row.false))
           ] in
           one ∙ sym (one-more a rs all count i no-section v c.sections.invariant.low within)
           ∙ sym (none-more a rs all count (suc i) (n - suc i) (omega (arith, c.sections.invariant.low)) (omega (arith, next, c.min-index.ensures, c.requires.within, c.requires.lengths)) no-section v

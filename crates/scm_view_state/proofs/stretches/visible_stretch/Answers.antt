@@ -48,5 +48,5 @@ returns c =
       last_file = c.last_of-last_file.ensures.last ∙ ap (λ n. n - 1) c.files_begun.ensures.count;
       end_section = λ r f. c.end_section.ensures ∙ ap₂ (λ (x : FileRows) (y : File). end_section_of s j c.args.last_row x y) (end_row r) (end_file f);
       top = λ r. ap (λ (x : FileRows). x.top) (row r);
-      section_top = λ r. c.top_at.ensures ∙ ap (λ (qs : List SectionRows). top_at c.first_section-first_section.result qs) (c.as_slice.ensures ∙ ap (λ (x : FileRows). x.sections) (row r));
+      section_top = λ r. c.top_at.ensures ∙ ap (λ (qs : List SectionRows). top_at c.first_section-first_section.result qs) (ap (λ (x : FileRows). x.sections) (row r));
     }

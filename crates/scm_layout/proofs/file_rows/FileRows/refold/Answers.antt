@@ -7,5 +7,5 @@ pub height_with-self-requires : goal.height_with-self-requires
 height_with-self-requires c =
     let sections = c.args.file.now.sections in
     let fit = sections-fit c.args.unfolded.keys.now c.args.key (length sections) sections in
-    let is = rw c.as_slice-sections.ensures at c.refold_sections-height.ensures.height in
+    let is = rw c.as_slice-sections.ensures at c.refold-height.ensures.height in
     omega (arith, items_room, c.requires.fits)

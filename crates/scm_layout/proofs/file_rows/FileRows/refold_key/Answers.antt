@@ -12,7 +12,7 @@ height_with-self-requires c =
     let k = c.args.file_key in
     let ss = c.args.file.now.sections in
     let n = length ss in
-    let height = c.last_end-height.ensures ∙ ap (λ rs. last_end 0 rs) (c.as_slice.ensures ∙ c.refold_sections.ensures.sections) ∙ last-rows ks k n 0 0 false ss in
+    let height = c.last_end-height.ensures ∙ ap (λ rs. last_end 0 rs) c.refold_sections.ensures.sections ∙ last-rows ks k n 0 0 false ss in
     omega (arith, items_room, height, sections-fit ks k n ss, c.requires.rows.fits)
 
 pub returns : goal.returns
@@ -21,6 +21,6 @@ returns c =
     let k = c.args.file_key in
     let ss = c.args.file.now.sections in
     let n = length ss in
-    let height : c.last_end-height.result ≡ 0 + sections_height ks k n 0 false ss = c.last_end-height.ensures ∙ ap (λ rs. last_end 0 rs) (c.as_slice.ensures ∙ c.refold_sections.ensures.sections) ∙ last-rows ks k n 0 0 false ss in
+    let height : c.last_end-height.result ≡ 0 + sections_height ks k n 0 false ss = c.last_end-height.ensures ∙ ap (λ rs. last_end 0 rs) c.refold_sections.ensures.sections ∙ last-rows ks k n 0 0 false ss in
     let tall : c.last_end-height.result ≡ sections_height ks k n 0 false ss = omega arith in
     rw (c.height_with-self.ensures, c.contains.ensures, tall, c.refold_sections.ensures.folded, c.refold_sections.ensures.sections) refl

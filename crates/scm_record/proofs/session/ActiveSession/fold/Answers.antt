@@ -1,8 +1,11 @@
-use Rattle.std.proofs.Common.{◌∙◌, ◌≤◌, ap, rules, subst, sym}
+use Rattle.std.proofs.Common.{◌∙◌, ◌≤◌, List, ap, subst, sym}
 use Rattle.std.proofs.lemmas.Result.{IfOk-weaker}
 use Rattle.scm_types.specs.Limits.{max_items, state_size}
 use Rattle.scm_layout.specs.Layouts.{layout_of}
-use Rattle.scm_selection.specs.KeySet.{without_key}
+use Rattle.scm_layout.proofs.FoldLemmas.{other-removed}
+use Rattle.scm_layout_index.proofs.FrameRowLemmas.{noted-fits}
+use Rattle.scm_types.specs.declared.keys.SelectionKey.{SelectionKey}
+use Rattle.scm_selection.specs.KeySet.{has_key, without_key}
 use Rattle.scm_view.specs.ViewState.{ViewState}
 use Rattle.scm_view_state.specs.LineKeys.{with_lines}
 use Rattle.scm_view_state.proofs.LineSetLemmas.{layout-with, without-with}
@@ -18,9 +21,11 @@ fold-requires-clause-layout c =
 pub invariant_of-self : goal.invariant_of-self
 invariant_of-self c =
     let v = c.shown.inside in
+    let before = c.self.invariant.layout ∙ ap (λ (s : ViewState). layout_of s.state s.expanded) (sym c.shown.view_is) ∙ layout-with v.state.files v.expanded v.has_all_lines v.state in
     record {
       layout = c.fold.ensures.layout ∙ sym (layout-with v.state.files c.fold.new.expanded v.has_all_lines v.state);
-      shared = search rules;
+      shared = rw c.note.ensures (noted-fits c.fold.new.expanded v.expanded c.args.key (λ x other. ap (λ (ks : List SelectionKey). has_key ks x) c.fold.ensures.set ∙ other-removed v.expanded c.args.key x other)
+          c.self.inside.frame_rows v.state c.self.inside.layout c.fold.new.self before c.fold.ensures.layout c.self.invariant.shared);
       size = subst (λ (s : ViewState). state_size s.state ≤ max_items) (sym c.shown.view_is) c.self.invariant.size;
     }
 
