@@ -17,7 +17,7 @@ use Rattle.scm_cells.specs.Beginnings.{IsBeginning, IsPlain, IsFirst, Adds}
 use Rattle.scm_cells.specs.Cluster.{Cluster, is_printable}
 use Rattle.scm_cells.specs.Clusters.{clusters, text_width, visible_clusters, with_width, visible_width}
 use Rattle.scm_cells.specs.Laying.{columns_of}
-use Rattle.scm_cells.specs.Replaced.{replacement, pieces_from, line_pieces, last_piece}
+use Rattle.scm_cells.specs.Replaced.{replacement, pieces_from, line_pieces}
 use Rattle.scm_cells.proofs.PrintableLemmas.{is_printable_char, printable-breaks, chars-printable, text_width-printable}
 use Rattle.scm_cells.proofs.ReplacedLemmas.{HasRead, HasRead-boundary, pieces_from-stays, pieces_from-replaced, pieces_from-end}
 use Rattle.scm_cells.proofs.SingleLemmas.{begins-cut}

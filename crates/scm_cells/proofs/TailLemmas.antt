@@ -1,11 +1,10 @@
 -- The end of a row that is blank, after puts and where the row is cleared.
-use Rattle.std.proofs.Common.{◌≡◌, ℕ, zero, suc, ◌+◌, ◌-◌, ◌<◌, ◌≤◌, min, max, Bool, true, false, List, [], ◌∷◌, ◌++◌, length, take, drop, replicate, get_or, length-append, length-take, refl, sym, ap, ap₂, subst, ◌∙◌, arith, ⊎_elim}
+use Rattle.std.proofs.Common.{◌≡◌, ℕ, zero, suc, ◌+◌, ◌-◌, ◌<◌, ◌≤◌, min, Bool, true, false, List, [], ◌∷◌, ◌++◌, length, take, drop, replicate, get_or, length-take, refl, sym, ap, ap₂, subst, ◌∙◌, arith, ⊎_elim}
 use Rattle.std.specs.Prelude.{ℤ, nat_le, if◌then◌else◌}
 use Rattle.std.proofs.lemmas.Bool.{cases_lt}
 use Rattle.std.proofs.lemmas.List.{get_or-drop, get_or_past}
 use Rattle.scm_cells.specs.Cell.{Cell, blank}
-use Rattle.scm_cells.specs.Clusters.{clusters}
-use Rattle.scm_cells.specs.Row.{whole_before, whole_after, written, overlay, put}
+use Rattle.scm_cells.specs.Row.{whole_before, whole_after, overlay, put}
 use Rattle.scm_cells.specs.Tail.{IsBlankFrom}
 use Rattle.scm_cells.proofs.PutLemmas.{length-before, put-tail}
 

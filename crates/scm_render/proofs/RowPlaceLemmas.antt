@@ -1,12 +1,10 @@
 -- What a put at the place of a row makes of the screen.
-use Rattle.std.proofs.Common.{◌≡◌, ℕ, ◌<◌, ◌≤◌, List, [], ◌∷◌, length, get_or, set, refl, sym, ap, ◌∙◌, arith, Option, Some, None, inl, inr}
+use Rattle.std.proofs.Common.{◌≡◌, ℕ, List, length, refl, sym, ap, ◌∙◌, arith, Option, Some, None, inl, inr}
 use Rattle.std.specs.Prelude.{ℤ, ◌-ℤ◌, IfSome}
-use Rattle.std.specs.Int.RustNames.{unsigned_abs}
 use Rattle.scm_cells.proofs.RectLemmas.{places}
-use Rattle.scm_cells.specs.Rect.{end_x_of}
 use Rattle.scm_cells.specs.declared.rect.Rect.{Rect}
 use Rattle.scm_render.specs.Canvas.{SurfaceState, with_puts}
-use Rattle.scm_render.specs.Drawing.{text_puts, whole_put}
+use Rattle.scm_render.specs.Drawing.{text_puts}
 use Rattle.scm_render.specs.RowPlaces.{FitsIn, IsPlace, IsPlaceOf, put_on}
 use Rattle.scm_render.specs.declared.surface.Place.{Place}
 use Rattle.scm_render.proofs.DrawLemmas.{put-whole, text_puts-shown, text-hidden, text-off}

@@ -200,12 +200,7 @@ impl Surface {
     }
 
     /// Puts a text at `place`, if there is a place. Returns the width of the whole text.
-    fn put_at(
-        &mut self,
-        place: Option<Place>,
-        x: isize,
-        text: &str,
-    ) -> Result<usize, RecordError>
+    fn put_at(&mut self, place: Option<Place>, x: isize, text: &str) -> Result<usize, RecordError>
         requires x { InRange x }
         requires place { IfSome place (λ p. FitsIn p self.old.rect) }
         ensures ok { OnOk result ((within : Rect) → (y : ℤ)

@@ -1,8 +1,8 @@
 -- How many rows a section and a message have at most.
-use Rattle.std.proofs.Common.{◌≡◌, ℕ, ◌+◌, ◌*◌, ◌≤◌, Bool, true, false, List, length, arith}
+use Rattle.std.proofs.Common.{ℕ, ◌+◌, ◌*◌, ◌≤◌, Bool, true, false, List, length, arith}
 use Rattle.std.specs.Prelude.{min, nat_eq, if◌then◌else◌, Option, Some, None}
 use Rattle.scm_types.specs.declared.section.Section.{Section}
-use Rattle.scm_types.specs.declared.section.Section.TheVariants.{Unchanged, Changed, FileMode, Binary}
+use Rattle.scm_types.specs.declared.section.Section.TheVariants.{Unchanged, Changed}
 use Rattle.scm_types.specs.Limits.{section_size}
 use Rattle.scm_rows.specs.declared.section_place.SectionPlace.{SectionPlace}
 use Rattle.scm_rows.specs.Context.{are_all_shown, context_height, dots_height, has_dots, is_first, lines_above, lines_height}

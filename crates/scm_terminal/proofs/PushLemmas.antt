@@ -7,14 +7,13 @@ use Rattle.std.proofs.lemmas.List.Concat.{flat_map-append}
 use Rattle.scm_cells.specs.declared.style.Style.{Style}
 use Rattle.scm_terminal.specs.declared.pen.Pen.{Pen}
 use Rattle.scm_terminal.specs.declared.pen.Pass.{Pass}
-use Rattle.scm_terminal.specs.declared.pen.Pass.TheVariants.{Blanks, Symbols, Letters}
 use Rattle.scm_terminal.specs.declared.row.Row.{Row}
 use Rattle.scm_terminal.specs.PassedOver.{IsPassedOver}
 use Rattle.scm_terminal.specs.RowView.{sent_line_of}
 use Rattle.scm_terminal.specs.Sent.{sent_cell, blank_after, sent_from}
 use Rattle.scm_terminal.specs.StyledCell.{StyledCell, First, Later, laters}
 use Rattle.scm_terminal.specs.Terminal.{Command, Put, SetWrap, bytes_of}
-use Rattle.scm_terminal.specs.Painting.{Line, move_commands, style_commands, cell_commands, pen_after, new_pen, passed, columns_in, pass_commands, row_commands, line_commands, painting, paint_commands}
+use Rattle.scm_terminal.specs.Painting.{Line, move_commands, style_commands, cell_commands, pen_after, passed, columns_in, pass_commands, line_commands, painting, paint_commands}
 
 abbrev pub bytes : List Command → List ℕ
 bytes commands = flat_map bytes_of commands

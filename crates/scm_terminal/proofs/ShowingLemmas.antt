@@ -1,11 +1,11 @@
 -- Cells that show a row of a grid, column by column, and rows of a size.
-use Rattle.std.proofs.Common.{◌≡◌, ℕ, ◌+◌, ◌<◌, Bool, true, false, ◌&&◌, ◌==◌, List, [], ◌∷◌, ◌++◌, length, ◌≤◌, get_or, map, refl, sym, ap, subst, ◌∙◌, ⊎_elim, Option, arith, IsTrue}
+use Rattle.std.proofs.Common.{◌≡◌, ℕ, ◌+◌, ◌<◌, Bool, true, false, ◌&&◌, ◌==◌, List, length, ◌≤◌, get_or, map, refl, sym, ap, subst, ◌∙◌, ⊎_elim, Option, arith, IsTrue}
 use Rattle.std.specs.Prelude.{◌↔◌}
 use Rattle.std.specs.List.{All, range_with_len}
 use Rattle.std.proofs.lemmas.Bool.{and_parts, cases_lt}
 use Rattle.std.proofs.lemmas.Bool.Decides.{nat_tests}
-use Rattle.std.proofs.lemmas.List.{get_or_default, get_or-map, length-map, length_push, map_push}
-use Rattle.std.proofs.lemmas.List.Elements.{All-map, All-append, All-cons, All-nil}
+use Rattle.std.proofs.lemmas.List.{get_or_default, get_or-map, length-map}
+use Rattle.std.proofs.lemmas.List.Elements.{All-map}
 use Rattle.std.proofs.lemmas.List.FromFn.{get_or-map-range_with_len, length-map-range_with_len, fill_by_all}
 use Rattle.scm_cells.specs.Screen.{Screen}
 use Rattle.scm_cells.specs.Symbols.{symbol_at}

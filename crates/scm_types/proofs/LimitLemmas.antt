@@ -1,6 +1,6 @@
 -- The limits of the code are those of the definitions, and leave room.
 use Rattle.std.proofs.Common.{◌≡◌, ◌≤◌, ◌^◌, refl, arith}
-use Rattle.scm_types.specs.declared.state.TheConstants.RecordState.{MAX_ITEMS, MAX_SCROLL, MAX_TEXT}
+use Rattle.scm_types.specs.declared.state.TheConstants.RecordState.{MAX_TEXT}
 use Rattle.scm_types.specs.Limits.{max_items, max_scroll, max_text}
 
 pub text_limit : MAX_TEXT ≡ max_text

@@ -14,7 +14,7 @@ use Rattle.scm_view.specs.declared.app_view.AppView.{AppView}
 use Rattle.scm_document.specs.declared.commit_view.CommitView.{CommitView}
 use Rattle.scm_overlay.specs.declared.quit_dialog.QuitDialog.{QuitDialog}
 use Rattle.scm_rows.specs.Heights.{message_height}
-use Rattle.scm_document.specs.Rows.{DocRow, HeaderRow, SectionRow, LineRow, MarkRow, ContextRow, DotsRow, BlankRow, ShownSection, ShownFile, Document, document_of, file_rows, sections_rows}
+use Rattle.scm_document.specs.Rows.{DocRow, HeaderRow, ShownSection, ShownFile, Document, document_of, file_rows, sections_rows}
 use Rattle.scm_document.specs.Pictures.{mask_row, is_pinned, no_files_place}
 use Rattle.scm_widgets.specs.Counts.{drawn, on_row}
 use Rattle.scm_document.specs.Counts.{row_calls, rows_counts, header_counts, sections_counts, file_counts, pinned_counts, files_counts, message_counts, document_counts}

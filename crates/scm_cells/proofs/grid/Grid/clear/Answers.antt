@@ -1,7 +1,6 @@
-use Rattle.std.proofs.Common.{◌≡◌, ◌∙◌, ap, arith, length, List, replicate}
+use Rattle.std.proofs.Common.{◌≡◌, ◌∙◌, ap, arith, length, List}
 use Rattle.std.specs.Vec.{with_items}
 use Rattle.std.proofs.lemmas.List.{with_items_is}
-use Rattle.scm_cells.specs.Cell.{Cell, blank}
 use Rattle.scm_cells.specs.Screen.{Screen, blank_screen}
 use Rattle.scm_cells.proofs.MapFrom.{so_far-more}
 use Rattle.scm_cells.proofs.ScreenLemmas.{cleared_row, screen-cleared, IsScreen-blank, IsScreen-same}

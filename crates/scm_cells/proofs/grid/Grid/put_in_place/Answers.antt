@@ -1,5 +1,4 @@
-use Rattle.std.proofs.Common.{◌∙◌, sym, ap}
-use Rattle.scm_cells.specs.Screen.{put_on}
+use Rattle.std.proofs.Common.{◌∙◌, sym}
 use Rattle.scm_cells.proofs.FrameTextLemmas.{text_width-frame}
 use Rattle.scm_cells.proofs.PrintableLemmas.{text_width-printable}
 use Rattle.scm_cells.proofs.grid.Grid.put_in_place.Goals as goal

@@ -4,7 +4,7 @@ use Rattle.scm_cells.specs.Cell.{Cell}
 use Rattle.scm_cells.specs.Row.{IsWhole, put}
 use Rattle.scm_cells.specs.Screen.{Screen, put_on}
 use Rattle.scm_cells.proofs.PutLemmas.{length-put}
-use Rattle.scm_cells.proofs.ScreenLemmas.{row-read, whole-read, length-read, rows-unchanged, IsScreen-set, IsScreen-same, length-with_items}
+use Rattle.scm_cells.proofs.ScreenLemmas.{row-read, whole-read, length-read, rows-unchanged, IsScreen-set, length-with_items}
 use Rattle.scm_cells.proofs.WholeLemmas.{IsWhole-put}
 use Rattle.scm_cells.proofs.WrittenLemmas.{on_err}
 use Rattle.scm_cells.proofs.grid.Grid.put_text.Goals as goal

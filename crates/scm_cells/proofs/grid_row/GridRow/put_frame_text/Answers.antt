@@ -1,4 +1,4 @@
-use Rattle.std.proofs.Common.{◌∙◌, ap, arith, max, sym, subst}
+use Rattle.std.proofs.Common.{◌∙◌, arith, sym, subst}
 use Rattle.std.proofs.lemmas.List.{with_items_is}
 use Rattle.scm_cells.specs.Tail.{IsBlankFrom}
 use Rattle.scm_cells.proofs.TailLemmas.{IsBlankFrom-later}

@@ -1,4 +1,4 @@
-use Rattle.std.proofs.Common.{◌∙◌, arith, max, subst, sym, rules, FitsSigned, w64}
+use Rattle.std.proofs.Common.{◌∙◌, arith, subst, sym, rules, FitsSigned, w64}
 use Rattle.std.proofs.lemmas.Int.{to_z-of_z}
 use Rattle.std.proofs.lemmas.List.{with_items_is}
 use Rattle.scm_cells.specs.Tail.{IsBlankFrom}

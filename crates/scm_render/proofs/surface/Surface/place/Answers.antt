@@ -1,4 +1,4 @@
-use Rattle.std.proofs.Common.{arith, inl, inr, sym, ◌∙◌, FitsSigned, w64}
+use Rattle.std.proofs.Common.{inl, inr, sym, ◌∙◌, FitsSigned, w64}
 use Rattle.std.proofs.lemmas.Int.{to_z-of_z}
 use Rattle.scm_render.proofs.surface.Surface.place.Goals as goal
 use Rattle.scm_render.proofs.surface.Surface.place.Goals.{else-has_row-via-then-has_row+else-has_row-2, else-has_row-via-else-has_row}
