@@ -7,7 +7,7 @@ use Rattle.scm_types.specs.declared.file.File.{File}
 use Rattle.scm_types.specs.declared.file_mode.FileMode.{FileMode as Mode}
 use Rattle.scm_types.specs.declared.line.SectionChangedLine.{SectionChangedLine}
 use Rattle.scm_types.specs.declared.section.Section.{Section}
-use Rattle.scm_types.specs.declared.section.Section.TheVariants.{Unchanged, Changed, FileMode, Binary}
+use Rattle.scm_types.specs.declared.section.Section.TheVariants.{Changed, FileMode}
 use Rattle.scm_types.specs.Edits.{modify}
 use Rattle.scm_types.specs.Marks.{line_with_mark}
 use Rattle.scm_types.specs.Mode.{is_absent}

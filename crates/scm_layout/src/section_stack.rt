@@ -14,8 +14,8 @@ use crate::section_rows::{SectionRows, Unfolded, narrow, refold_tops};
 use scm_rows::SectionShape;
 use scm_rows::section_shape::shape_of;
 use scm_selection::key_set::KeySet;
-use scm_types::{Items, Section};
 use scm_types::keys::FileKey;
+use scm_types::{Items, Section};
 use std::alloc::{AllocError, Global};
 use std::marker::Model;
 
@@ -131,7 +131,9 @@ impl SectionStack {
         requires { shapes_of self.old ≡ shapes_of other.now }
         ensures { self.new ≡ other.now }
     {
-        self.tops.as_mut_slice().copy_from_slice(other.tops.as_slice());
+        self.tops
+            .as_mut_slice()
+            .copy_from_slice(other.tops.as_slice());
         self.end = other.end;
     }
 

@@ -19,7 +19,7 @@ use Rattle.scm_record.specs.Session.{Session, with_ensure, at_key, with_keys_abo
 use Rattle.scm_record.specs.Frames.{Scene}
 use Rattle.scm_record.specs.Change.{stays}
 use Rattle.scm_record.specs.Step.{change}
-use Rattle.scm_selection.proofs.KeyOrderLemmas.{Ascends, with-same, with-has, with-keeps, with-ascends}
+use Rattle.scm_selection.proofs.KeyOrderLemmas.{Ascends, with-same, with-has, with-ascends}
 use Rattle.scm_record.proofs.WalkToLemmas.{step-next, kept-at, AllPass, filter-pass, Walks, arrived, walks, walk-down, walk-up}
 use Rattle.scm_record.proofs.InsideLemmas.{file-of-section, section-of-line}
 use Rattle.scm_layout.proofs.FoldLemmas.{still-has}

@@ -12,7 +12,6 @@ use Rattle.scm_view_state.proofs.CoverLemmas.{layout-length}
 use Rattle.scm_view_state.proofs.PartRowLemmas.{file-of}
 
 module _ (rs : List FileRows) (s : ViewState) (fs : List File) (are : AreFileRows rs s fs) where
-
   pub files-rise : IsNonDecreasingBy (λ (r : FileRows). r.top) rs
   files-rise =
       let follow = files-follow are.top (each_file_rows s.expanded 0 0 fs) in

@@ -6,11 +6,11 @@ use Rattle.scm_types.specs.declared.section.Section.{Section}
 use Rattle.scm_types.specs.Limits.{max_items}
 use Rattle.scm_types.proofs.LimitLemmas.{items_room}
 use Rattle.scm_layout.specs.declared.section_rows.SectionRows.{SectionRows}
-use Rattle.scm_layout.specs.Refolds.{AreBetween, height_from}
+use Rattle.scm_layout.specs.Refolds.{AreBetween}
 use Rattle.scm_layout.specs.Rows.{sections_height, sections_rows}
 use Rattle.scm_layout.specs.SectionStack.{first_or, tops_of}
 use Rattle.scm_layout.proofs.MendLemmas.{first-from, front-height, mended, rest-between, rest-tall, row_at, tops-at, tops-drop}
-use Rattle.scm_layout.proofs.RowLemmas.{length-sections_rows, rows_room, sections-fit}
+use Rattle.scm_layout.proofs.RowLemmas.{length-sections_rows, sections-fit}
 use Rattle.scm_layout.proofs.section_folds.mend_tops.Goals as goal
 
 -- the row of a section is kept

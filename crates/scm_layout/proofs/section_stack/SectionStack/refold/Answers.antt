@@ -1,12 +1,11 @@
-use Rattle.std.proofs.Common.{◌≡◌, ◌∙◌, ◌+◌, ◌<◌, ◌++◌, ℕ, List, false, take, drop, length, map, ap, ap₂, sym, arith}
+use Rattle.std.proofs.Common.{◌≡◌, ◌∙◌, ◌+◌, ◌++◌, ℕ, List, false, take, drop, length, ap, sym, arith}
 use Rattle.std.proofs.lemmas.List.{length-map}
 use Rattle.scm_rows.specs.Heights.{shape_of}
 use Rattle.scm_rows.specs.declared.section_shape.SectionShape.{SectionShape}
 use Rattle.scm_selection.proofs.ToggleLemmas.{lent_whole}
-use Rattle.scm_types.specs.declared.section.Section.{Section}
 use Rattle.scm_layout.specs.declared.section_rows.SectionRows.{SectionRows}
 use Rattle.scm_layout.specs.Rows.{sections_height, sections_rows}
-use Rattle.scm_layout.specs.SectionStack.{rows_by, tops_of}
+use Rattle.scm_layout.specs.SectionStack.{rows_by}
 use Rattle.scm_layout.proofs.MendLemmas.{rows-by}
 use Rattle.scm_layout.proofs.RowLemmas.{length-sections_rows, rows_room, sections-fit}
 use Rattle.scm_layout.proofs.SectionStackLemmas.{length-by}

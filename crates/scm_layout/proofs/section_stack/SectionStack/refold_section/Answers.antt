@@ -1,7 +1,5 @@
 use Rattle.std.proofs.Common.{◌≡◌, ◌∙◌, ◌+◌, ◌<◌, ◌++◌, ℕ, List, false, take, drop, length, map, ap, sym, arith}
-use Rattle.std.proofs.lemmas.List.{length-map}
 use Rattle.scm_rows.specs.Heights.{shape_of}
-use Rattle.scm_rows.specs.declared.section_shape.SectionShape.{SectionShape}
 use Rattle.scm_selection.proofs.ToggleLemmas.{lent_whole}
 use Rattle.scm_layout.specs.declared.section_rows.SectionRows.{SectionRows}
 use Rattle.scm_layout.specs.Refolds.{last_end}

@@ -1,7 +1,7 @@
-use Rattle.std.proofs.Common.{◌≡◌, ◌∙◌, ◌&&◌, ◌++◌, Bool, true, false, List, ap, ap₂, subst, sym}
+use Rattle.std.proofs.Common.{◌≡◌, ◌∙◌, ◌&&◌, ◌++◌, true, false, List, ap, subst, sym}
 use Rattle.scm_types.specs.declared.keys.SelectionKey.{SelectionKey}
 use Rattle.scm_selection.specs.declared.key_flags.FileFlags.{FileFlags}
-use Rattle.scm_selection.specs.KeySet.{is_same_set, key_set}
+use Rattle.scm_selection.specs.KeySet.{key_set}
 use Rattle.scm_selection.specs.KeyFlags.{flagged_keys, has_each}
 use Rattle.scm_selection.proofs.KeyFlagLemmas.{each-set, same-each}
 use Rattle.scm_selection.proofs.KeyOrderLemmas.{Ascends, set-ascends}

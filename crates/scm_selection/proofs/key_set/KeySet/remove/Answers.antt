@@ -1,4 +1,4 @@
-use Rattle.std.proofs.Common.{◌≡◌, ◌∙◌, ◌++◌, false, List, ap, drop, length, sym, take, rules}
+use Rattle.std.proofs.Common.{◌≡◌, ◌∙◌, ◌++◌, false, List, ap, drop, length, take, rules}
 use Rattle.scm_types.specs.declared.keys.SelectionKey.{SelectionKey}
 use Rattle.scm_selection.specs.declared.key_flags.FileFlags.{FileFlags}
 use Rattle.scm_selection.specs.KeySet.{key_set, without_key}

@@ -1,6 +1,5 @@
-use Rattle.std.proofs.Common.{◌≡◌, ◌∙◌, Bool, ap, sym}
+use Rattle.std.proofs.Common.{◌∙◌, Bool, ap, sym}
 use Rattle.std.proofs.lemmas.Result.{IfOk-weaker}
-use Rattle.scm_types.specs.declared.file.File.{File}
 use Rattle.scm_selection.specs.KeyLists.{all_keys}
 use Rattle.scm_selection.specs.KeySet.{is_same_set, key_set}
 use Rattle.scm_view.specs.ViewState.{ViewState}
