@@ -10,7 +10,7 @@ use crate::samples::{Part, state_with};
 use scm_cells::Rect;
 use scm_layout::StateRows;
 use scm_layout_index::owner_runs::rect_end;
-use scm_layout_index::{LayoutIndex, SharedRows, span_of_key};
+use scm_layout_index::{FrameRows, LayoutIndex, span_of_key};
 use scm_samples::{ADDED, REMOVED};
 use scm_selection::key_lists::all_keys;
 use scm_selection::key_set::key_set_of;
@@ -76,7 +76,8 @@ fn check_frame(
 {
     let view = view_state.app_view(alloc)?;
     let layout = view_state.layout(alloc)?;
-    let rows = SharedRows::new(alloc, &layout.rows)?;
+    let mut kept = FrameRows::new();
+    let rows = kept.share(alloc, &layout.rows)?;
     let whole = FrameIndex::new(alloc, &view, 30, 12, scroll)?;
     check_spans(rt, &layout.rows, &whole, keys);
     let index = LayoutIndex::new(alloc, view_state, &view.menu_bar, rows, 30, 12, scroll)?;
