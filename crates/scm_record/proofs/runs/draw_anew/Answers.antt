@@ -11,4 +11,4 @@ returns-clause-shown c = λ kind s e f size.
     c.in_ok-draw.ensures.ok kind s
     (e ∙ sym (c.view_state.ensures ∙ ap (λ (t : Session). t.shown) same))
     (f ∙ sym (c.scroll.ensures ∙ ap (λ (t : Session). t.scroll) same))
-    size
+    (c.release_rows.ensures.size kind size)
