@@ -93,7 +93,11 @@ fn check_rows(
     let mut next = 0;
     for (index, end) in ends.iter().enumerate() {
         let section = rows.sections.get(index);
-        check_equal(rt, section.map(|rows| (rows.top, rows.end)), Some((next, *end)));
+        check_equal(
+            rt,
+            section.map(|rows| (rows.top, rows.end)),
+            Some((next, *end)),
+        );
         next = *end;
     }
 }
