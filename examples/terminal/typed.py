@@ -137,10 +137,19 @@ class Typed:
         """Types a word, and waits for the next frame or the program's end."""
         self.type(bytes_of(word).encode())
 
+    def is_busy(self):
+        """Whether the program runs, or waits for a processor, where that can be read."""
+        try:
+            with open("/proc/%d/stat" % self.process) as file:
+                return file.read().rpartition(")")[2].split()[0] == "R"
+        except OSError:
+            return False
+
     def rest(self):
         """Waits until the program draws no more."""
-        while self.has_more(QUIET) and self.read():
-            pass
+        goes_on = True
+        while goes_on:
+            goes_on = self.read() if self.has_more(QUIET) else self.is_busy()
 
     def resize(self, width, height):
         """Gives the terminal another size, and waits until the program draws no more."""
