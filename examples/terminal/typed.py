@@ -1,5 +1,5 @@
 """A program in a pseudo terminal, driven by the words of a script. A frame is one synchronized update that the program draws."""
-import fcntl, os, pty, re, select, struct, termios
+import fcntl, os, pty, re, select, signal, struct, termios
 
 KEYS = {"space": " ", "enter": "\r", "esc": "\x1b", "up": "\x1b[A", "down": "\x1b[B", "right": "\x1b[C", "left": "\x1b[D",
         "pageup": "\x1b[5~", "pagedown": "\x1b[6~", "wheel-up": "\x1b[<64;1;1M", "wheel-down": "\x1b[<65;1;1M",
@@ -79,6 +79,9 @@ class Typed:
     def __init__(self, command, width, height, environment=None, folder=None):
         self.process, self.terminal = pty.fork()
         if self.process == 0:
+            # as in a terminal, also where a shell started this behind `&` or `nohup`
+            for number in (signal.SIGHUP, signal.SIGINT, signal.SIGQUIT):
+                signal.signal(number, signal.SIG_DFL)
             fcntl.ioctl(1, termios.TIOCSWINSZ, struct.pack("HHHH", height, width, 0, 0))
             os.chdir(folder or ".")
             os.execvpe(command[0], command, {**os.environ, "SELECT_LAYER": "off", **(environment or {})})
