@@ -1,12 +1,11 @@
 -- An index of rows: what stands on a row, and where a key stands, among pieces one below another.
-use Rattle.std.proofs.Common.{◌≡◌, ℕ, zero, suc, ◌+◌, ◌-◌, ◌<◌, ◌≤◌, List, [], ◌∷◌, ◌++◌, length, drop, get_or, refl, sym, ap, ap₂, ◌∙◌, arith, add-one, drop-cons, true, false, Bool, inl, inr}
-use Rattle.std.specs.Prelude.{nat_le, nat_lt, nat_eq, ◌==◌, ◌&&◌, ◌||◌, if◌then◌else◌, Option, Some, None, option_map, is_some, slice_get}
-use Rattle.std.specs.List.{flat_map, list_any}
-use Rattle.std.proofs.lemmas.Bool.{cases_lt}
+use Rattle.std.proofs.Common.{◌≡◌, ℕ, zero, suc, ◌+◌, ◌-◌, ◌<◌, ◌≤◌, List, [], ◌∷◌, ◌++◌, length, drop, get_or, refl, sym, ap, ap₂, ◌∙◌, arith, add-one, drop-cons, true, false, Bool}
+use Rattle.std.specs.Prelude.{nat_eq, ◌==◌, ◌&&◌, if◌then◌else◌, Option, Some, None, IfSome, option_map, slice_get}
+use Rattle.std.specs.List.{flat_map}
 use Rattle.std.proofs.lemmas.Bool.Decides.{nat_tests}
 use Rattle.std.proofs.lemmas.List.{drop_all}
 use Rattle.std.proofs.lemmas.List.Concat.{flat_map-cons}
-use Rattle.std.specs.Option.{option_or}
+use Rattle.scm_rows.specs.Kinds.{holds, line_of}
 use Rattle.scm_types.specs.Keys.{is_key, section_of_line, line_key_of}
 use Rattle.scm_types.specs.declared.keys.SectionKey.{SectionKey}
 use Rattle.scm_types.specs.declared.keys.LineKey.{LineKey}
@@ -19,7 +18,8 @@ use Rattle.scm_document.specs.declared.index_pieces.Piece.{Piece}
 use Rattle.scm_document.specs.Places.{Place}
 use Rattle.scm_document.specs.DocumentRows.{rows_of_place, rows_of_key}
 use Rattle.scm_document.specs.RowIndex.{section_parts, message_parts}
-use Rattle.scm_document.specs.Pieces.{run_places, lines_places, lines_on_top, lines_at_end, first_at_end, piece_places, piece_parts, run_row, key_row, found_in}
+use Rattle.scm_document.specs.SectionPieces.{kind_on}
+use Rattle.scm_document.specs.Pieces.{line_list, lines_places, piece_places, piece_parts, found_in}
 
 -- ---- what stands on a row
 
@@ -74,35 +74,6 @@ place-rest pieces i d left own h e k =
 
 -- ---- where a line stands
 
-run-inside : (row i n x : ℕ) → i ≤ x → x < i + n → run_row row i n x ≡ Some (row + (x - i))
-run-inside row i n x h k = let e : (nat_le i x && nat_lt x (i + n)) ≡ true = grind (arith, nat_tests) in rw e refl
-
-run-before : (row i n x : ℕ) → x < i → run_row row i n x ≡ None
-run-before row i n x h = let e : (nat_le i x && nat_lt x (i + n)) ≡ false = grind (arith, nat_tests) in rw e refl
-
-run-past : (row i n x : ℕ) → i + n ≤ x → run_row row i n x ≡ None
-run-past row i n x h = let e : (nat_le i x && nat_lt x (i + n)) ≡ false = grind (arith, nat_tests) in rw e refl
-
-run-none : (row i x : ℕ) → run_row row i 0 x ≡ None
-run-none row i x = elim (cases_lt x i) [ inl h ↦ run-before row i 0 x h | inr h ↦ run-past row i 0 x (omega (arith, h)) ]
-
-run-first : (row i n x : ℕ) → nat_eq x i ≡ true → run_row row i (suc n) x ≡ Some row
-run-first row i n x e =
-    let same : x ≡ i = grind (arith, nat_tests) in
-    let zero_off : row + (x - i) ≡ row = omega (arith, same) in
-    run-inside row i (suc n) x (omega (arith, same)) (omega (arith, same)) ∙ ap Some zero_off
-
-run-rest : (row i n x : ℕ) → nat_eq x i ≡ false → run_row row i (suc n) x ≡ run_row (suc row) (suc i) n x
-run-rest row i n x e = elim (cases_lt x i) [
-  | inl h ↦ run-before row i (suc n) x h ∙ sym (run-before (suc row) (suc i) n x (omega (arith, h)))
-  | inr h ↦ (let apart : i < x = grind (arith, nat_tests, h) in
-      elim (cases_lt x (i + suc n)) [
-        | inl k ↦ (let same : row + (x - i) ≡ suc row + (x - suc i) = omega (arith, apart) in
-            run-inside row i (suc n) x (omega (arith, apart)) k ∙ ap Some same ∙ sym (run-inside (suc row) (suc i) n x (omega (arith, apart)) (omega (arith, k))))
-        | inr k ↦ run-past row i (suc n) x (omega (arith, k)) ∙ sym (run-past (suc row) (suc i) n x (omega (arith, k)))
-      ])
-]
-
 -- a line's key is of the section and of the line's index
 split-key : (a b c x : Bool) → (a && (b && (c && (x && true)))) ≡ ((a && (b && (c && true))) && x)
 split-key false b c x = refl
@@ -111,22 +82,8 @@ split-key true true false x = refl
 split-key true true true false = refl
 split-key true true true true = refl
 
-line-is : (line : LineKey) (k : SectionKey) (i : ℕ) → is_key (keys.Line line) (keys.Line (line_key_of k i)) ≡ (is_key (keys.Section (section_of_line line)) (keys.Section k) && nat_eq line.line_idx i)
+pub line-is : (line : LineKey) (k : SectionKey) (i : ℕ) → is_key (keys.Line line) (keys.Line (line_key_of k i)) ≡ (is_key (keys.Section (section_of_line line)) (keys.Section k) && nat_eq line.line_idx i)
 line-is line k i = split-key (nat_eq line.commit_idx k.commit_idx) (nat_eq line.file_idx k.file_idx) (nat_eq line.section_idx k.section_idx) (nat_eq line.line_idx i)
-
--- the place of a line's key among `n` lines from line `i` on
-run-found : (line : LineKey) (k : SectionKey) (row i n : ℕ) (b : Bool) → is_key (keys.Section (section_of_line line)) (keys.Section k) ≡ b
-    → found_in (keys.Line line) (run_places k row i n) ≡ option_map (λ t. (t, 1)) (if b then run_row row i n line.line_idx else None)
-unfolding run_places
-run-found line k row i zero true e = ap (option_map (λ t. (t, 1))) (sym (run-none row i line.line_idx))
-run-found line k row i zero false e = refl
-run-found line k row i (suc n) true e = go (nat_eq line.line_idx i) refl (run-found line k (suc row) (suc i) n true e)
-  where
-    go : (t : Bool) → nat_eq line.line_idx i ≡ t → found_in (keys.Line line) (run_places k (suc row) (suc i) n) ≡ option_map (λ t. (t, 1)) (run_row (suc row) (suc i) n line.line_idx)
-        → (if is_key (keys.Line line) (keys.Line (line_key_of k i)) then Some (row, 1) else found_in (keys.Line line) (run_places k (suc row) (suc i) n)) ≡ option_map (λ t. (t, 1)) (run_row row i (suc n) line.line_idx)
-    go true f more = rw (line-is line k i, e, f) (ap (option_map (λ t. (t, 1))) (sym (run-first row i n line.line_idx f)))
-    go false f more = rw (line-is line k i, e, f) (more ∙ ap (option_map (λ t. (t, 1))) (sym (run-rest row i n line.line_idx f)))
-run-found line k row i (suc n) false e = rw (line-is line k i, e) (run-found line k (suc row) (suc i) n false e)
 
 -- ---- where a key stands
 
@@ -139,56 +96,51 @@ found-append key (p ∷ ps) qs = go (is_key key p.key) (found-append key ps qs)
     go true e = refl
     go false e = e
 
-first-of : (a b : Option ℕ) → first_of_two {A = ℕ × ℕ} (option_map (λ t. (t, 1)) a) (option_map (λ t. (t, 1)) b) ≡ option_map (λ t. (t, 1)) (option_or a b)
-first-of (Some t) b = refl
-first-of None b = refl
+-- a key of no line
+list-other : (key : SelectionKey) (k : SectionKey) (row : ℕ) (o : Option ℕ) → ((i : ℕ) → is_key key (keys.Line (line_key_of k i)) ≡ false) → found_in key (line_list k row o) ≡ None
+list-other key k row None never = refl
+list-other key k row (Some i) never = rw (never i) refl
 
-both-found : (line : LineKey) (k : SectionKey) (row n low i m : ℕ) (b : Bool) → is_key (keys.Section (section_of_line line)) (keys.Section k) ≡ b
-    → found_in (keys.Line line) (run_places k row 0 n ++ run_places k low i m)
-    ≡ option_map (λ t. (t, 1)) (if b then option_or (run_row row 0 n line.line_idx) (run_row low i m line.line_idx) else None)
-both-found line k row n low i m true e =
-    found-append (keys.Line line) (run_places k row 0 n) (run_places k low i m)
-    ∙ ap₂ (first_of_two {A = ℕ × ℕ}) (run-found line k row 0 n true e) (run-found line k low i m true e)
-    ∙ first-of (run_row row 0 n line.line_idx) (run_row low i m line.line_idx)
-both-found line k row n low i m false e =
-    found-append (keys.Line line) (run_places k row 0 n) (run_places k low i m)
-    ∙ ap₂ (first_of_two {A = ℕ × ℕ}) (run-found line k row 0 n false e) (run-found line k low i m false e)
+lines-missed : (s : SectionPiece) (key : SelectionKey) (j n : ℕ) → ((i : ℕ) → i < j + n → found_in key (line_list s.key (s.top + i) (line_of (kind_on s i))) ≡ None) → found_in key (lines_places s j n) ≡ None
+unfolding lines_places
+lines-missed s key j zero missed = refl
+lines-missed s key j (suc n) missed =
+    found-append key (line_list s.key (s.top + j) (line_of (kind_on s j))) (lines_places s (suc j) n)
+    ∙ ap₂ (first_of_two {A = ℕ × ℕ}) (missed j (omega arith)) (lines-missed s key (suc j) n (λ i h. missed i (omega (arith, h))))
 
--- no line has the key of a file or a section, or none
-run-other : (key : SelectionKey) (k : SectionKey) (row i n : ℕ) → ((line : LineKey) → is_key key (keys.Line line) ≡ false) → found_in key (run_places k row i n) ≡ None
-unfolding run_places
-run-other key k row i zero never = refl
-run-other key k row i (suc n) never = rw (never (line_key_of k i)) (run-other key k (suc row) (suc i) n never)
+pub lines-other : (s : SectionPiece) (key : SelectionKey) → ((i : ℕ) → is_key key (keys.Line (line_key_of s.key i)) ≡ false) → found_in key (lines_places s 0 (s.end - s.top)) ≡ None
+lines-other s key never = lines-missed s key 0 (s.end - s.top) (λ i h. list-other key s.key (s.top + i) (line_of (kind_on s i)) never)
 
-lines-other : (s : SectionPiece) (key : SelectionKey) → ((line : LineKey) → is_key key (keys.Line line) ≡ false) → found_in key (lines_places s.key s.kinds s.top s.end (s.end - s.top)) ≡ None
-lines-other s key never =
-    let r = s.end - s.top in
-    let first = run_places s.key s.top 0 (lines_on_top s.kinds r) in
-    let last = run_places s.key (s.end - lines_at_end s.kinds r) (first_at_end s.kinds r) (lines_at_end s.kinds r) in
-    found-append key first last
-    ∙ ap₂ (first_of_two {A = ℕ × ℕ}) (run-other key s.key s.top 0 (lines_on_top s.kinds r) never) (run-other key s.key (s.end - lines_at_end s.kinds r) (first_at_end s.kinds r) (lines_at_end s.kinds r) never)
+pub line-other : (line : LineKey) (k : SectionKey) (i : ℕ) → is_key (keys.Section (section_of_line line)) (keys.Section k) ≡ false → is_key (keys.Line line) (keys.Line (line_key_of k i)) ≡ false
+line-other line k i e = rw (line-is line k i, e) refl
 
--- the lines of a section
-pub lines-found : (s : SectionPiece) (key : SelectionKey) → found_in key (lines_places s.key s.kinds s.top s.end (s.end - s.top)) ≡ option_map (λ t. (t, 1)) (key_row s key)
-lines-found s (keys.Line l) =
-    let r = s.end - s.top in
-    both-found l s.key s.top (lines_on_top s.kinds r) (s.end - lines_at_end s.kinds r) (first_at_end s.kinds r) (lines_at_end s.kinds r) (is_key (keys.Section (section_of_line l)) (keys.Section s.key)) refl
-lines-found s key = lines-other s key (λ l. refl)
+-- a line of the section
+module _ (s : SectionPiece) (line : LineKey) (own : is_key (keys.Section (section_of_line line)) (keys.Section s.key) ≡ true) where
+  row-found : (i : ℕ) (b : Bool) → holds (line_of (kind_on s i)) line.line_idx ≡ b → found_in (keys.Line line) (line_list s.key (s.top + i) (line_of (kind_on s i))) ≡ (if b then Some (s.top + i, 1) else None)
+  row-found i b e = one (line_of (kind_on s i)) ∙ ap (λ b. if b then Some (s.top + i, 1) else None) e
+    where
+      one : (o : Option ℕ) → found_in (keys.Line line) (line_list s.key (s.top + i) o) ≡ (if holds o line.line_idx then Some (s.top + i, 1) else None)
+      one None = refl
+      one (Some n) = rw (line-is line s.key n, own) refl
 
-any-found : (key : SelectionKey) (ps : List Place) → list_any (λ (p : Place). is_key key p.key) ps ≡ is_some (found_in key ps)
-any-found key [] = refl
-any-found key (p ∷ ps) = go (is_key key p.key) (any-found key ps)
-  where
-    go : (b : Bool) → list_any (λ (q : Place). is_key key q.key) ps ≡ is_some (found_in key ps) → (b || list_any (λ (q : Place). is_key key q.key) ps) ≡ is_some (if b then Some (p.top, p.rows) else found_in key ps)
-    go true e = refl
-    go false e = e
+  lines-hit : (t j n : ℕ) → ((i : ℕ) → i < j + n → holds (line_of (kind_on s i)) line.line_idx ≡ (i == t)) → j ≤ t → t < j + n → found_in (keys.Line line) (lines_places s j n) ≡ Some (s.top + t, 1)
+  unfolding lines_places
+  lines-hit t j zero shows low high = absurd (omega arith)
+  lines-hit t j (suc n) shows low high =
+      found-append (keys.Line line) (line_list s.key (s.top + j) (line_of (kind_on s j))) (lines_places s (suc j) n)
+      ∙ go (j == t) refl (row-found j (j == t) (shows j (omega arith))) (lines-hit t (suc j) n (λ i h. shows i (omega (arith, h))))
+    where
+      go : (b : Bool) → (j == t) ≡ b → found_in (keys.Line line) (line_list s.key (s.top + j) (line_of (kind_on s j))) ≡ (if b then Some (s.top + j, 1) else None)
+          → (suc j ≤ t → t < suc j + n → found_in (keys.Line line) (lines_places s (suc j) n) ≡ Some (s.top + t, 1))
+          → first_of_two {A = ℕ × ℕ} (found_in (keys.Line line) (line_list s.key (s.top + j) (line_of (kind_on s j)))) (found_in (keys.Line line) (lines_places s (suc j) n)) ≡ Some (s.top + t, 1)
+      go true e here rest = let same : j ≡ t = grind (arith, nat_tests) in rw here (ap (λ i. Some (s.top + i, 1)) same)
+      go false e here rest = rw here (rest (grind (arith, nat_tests)) (omega (arith, high)))
 
-some-mapped : {A B : Type 0} (f : A → B) (o : Option A) → is_some (option_map f o) ≡ is_some o
-some-mapped f (Some t) = refl
-some-mapped f None = refl
-
-pub lines-any : (s : SectionPiece) (key : SelectionKey) → list_any (λ (p : Place). is_key key p.key) (lines_places s.key s.kinds s.top s.end (s.end - s.top)) ≡ is_some (key_row s key)
-lines-any s key = any-found key (lines_places s.key s.kinds s.top s.end (s.end - s.top)) ∙ ap is_some (lines-found s key) ∙ some-mapped (λ t. (t, 1)) (key_row s key)
+  -- its row among the section's n rows, if it has one
+  pub line-found : (row : Option ℕ) (n : ℕ) → n ≡ s.end - s.top → ((i : ℕ) → i < n → holds (line_of (kind_on s i)) line.line_idx ≡ holds row i) → IfSome row (λ t. t < n)
+      → option_map (λ t. (s.top + t, 1)) row ≡ found_in (keys.Line line) (lines_places s 0 (s.end - s.top))
+  line-found None n size shows fits = sym (lines-missed s (keys.Line line) 0 (s.end - s.top) (λ i h. row-found i false (shows i (omega (arith, h, size)))))
+  line-found (Some t) n size shows fits = sym (lines-hit t 0 (s.end - s.top) (λ i h. shows i (omega (arith, h, size))) (omega arith) (omega (arith, fits, size)))
 
 -- ---- pieces one below another
 
@@ -203,7 +155,7 @@ found-first key (p ∷ ps) qs rows e = go (is_key key p.key) (found-first key ps
     go true more f = let same : ◌≡◌ {A = ℕ × ℕ} (p.top, p.rows) rows = cc f in ap (λ (q : ℕ × ℕ). if q.1 == 0 then None else Some q) same
     go false more f = more f
 
-found-rest : (key : SelectionKey) (ps qs : List Place) → found_in key ps ≡ None → rows_of_key key (ps ++ qs) ≡ rows_of_key key qs
+pub found-rest : (key : SelectionKey) (ps qs : List Place) → found_in key ps ≡ None → rows_of_key key (ps ++ qs) ≡ rows_of_key key qs
 unfolding rows_of_key
 found-rest key [] qs e = refl
 found-rest key (p ∷ ps) qs e = go (is_key key p.key) (found-rest key ps qs) e

@@ -18,6 +18,8 @@ pub mod DocumentLemmas
 pub mod AppShapeLemmas
 pub mod BoxLemmas
 pub mod OwnerLemmas
+-- What each row shows, by its kind.
+mod KindLemmas
 pub mod SectionPieceLemmas
 pub mod ViewPieceLemmas
 pub mod OverlayRectLemmas

@@ -1,36 +1,27 @@
 -- The pieces of a document are its files and sections, its rows, and the places of its keys.
-use Rattle.std.proofs.Common.{◌≡◌, ℕ, suc, ◌+◌, ◌-◌, ◌≤◌, ◌==◌, List, [], ◌∷◌, ◌++◌, length, map, take, drop, refl, sym, ap, ap₂, ◌∙◌, arith, append_assoc, true, false, Bool}
-use Rattle.std.specs.Prelude.{if◌then◌else◌, min}
+use Rattle.std.proofs.Common.{◌≡◌, ℕ, suc, ◌+◌, ◌-◌, ◌<◌, List, [], ◌∷◌, ◌++◌, length, map, get_or, refl, sym, ap, ap₂, ◌∙◌, arith, true, false, Bool}
+use Rattle.std.specs.Prelude.{if◌then◌else◌}
 use Rattle.std.specs.List.{flat_map}
-use Rattle.std.proofs.lemmas.List.{length-drop}
 use Rattle.std.proofs.lemmas.List.Concat.{flat_map-cons, flat_map-append}
-use Rattle.scm_types.specs.declared.section.Section.{Section}
-use Rattle.scm_types.specs.declared.section.Section.TheVariants.{Unchanged, Changed, FileMode, Binary}
-use Rattle.scm_types.specs.declared.line.SectionChangedLine.{SectionChangedLine}
-use Rattle.scm_types.specs.declared.keys.SectionKey.{SectionKey}
 use Rattle.scm_types.specs.declared.keys.SelectionKey.TheVariants as selection
 use Rattle.scm_document.specs.declared.section_view.SectionView.{SectionView}
 use Rattle.scm_document.specs.declared.file_view.FileView.{FileView}
 use Rattle.scm_document.specs.declared.row_place.RowPlace.TheVariants as part
 use Rattle.scm_document.specs.declared.index_pieces.FilePiece.{FilePiece}
 use Rattle.scm_document.specs.declared.index_pieces.SectionPiece.{SectionPiece}
-use Rattle.scm_document.specs.declared.index_pieces.RowKinds.TheVariants as kinds
 use Rattle.scm_document.specs.declared.index_pieces.Piece.{Piece}
 use Rattle.scm_document.specs.declared.index_pieces.Piece.TheVariants as pieces
-use Rattle.scm_rows.specs.Context.{are_all_shown, dots_height, first_below, has_dots, is_first, is_last, lines_above, lines_height}
-use Rattle.scm_document.specs.Rows.{DocRow, SectionRow, DotsRow, BlankRow, is_selected, section_heading, changed_rows, numbered_rows, rows_below, shown_lines, context_rows, section_height, rows_of, section_rows, shown_of_view, shown_sections, shown_file, file_rows, place_of}
+use Rattle.scm_document.specs.Rows.{DocRow, BlankRow, section_height, rows_of, section_rows, shown_of_view, shown_sections, shown_file, file_rows}
 use Rattle.scm_widgets.specs.Boxes.{is_fold_open}
-use Rattle.scm_types.specs.Keys.{line_key_of}
 use Rattle.scm_document.specs.Places.{Place, line_places, rows_places, sections_places, files_places}
 use Rattle.scm_document.specs.RowIndex.{section_parts, sections_parts, files_parts}
 use Rattle.scm_document.specs.SectionWalk.{visible_views}
-use Rattle.scm_rows.specs.Heights.{shape_of}
-use Rattle.scm_rows.proofs.HeightLemmas.{above-le}
-use Rattle.scm_document.specs.SectionPieces.{kinds_of}
+use Rattle.scm_rows.specs.Kinds.{line_of}
+use Rattle.scm_document.specs.SectionPieces.{kind_on}
 use Rattle.scm_document.specs.ViewPieces.{section_piece_of, section_piece_list, file_height, sections_in_file, file_piece_of, file_piece_list, sections_in_files}
-use Rattle.scm_document.specs.Pieces.{file_pieces, files_pieces, files_of, sections_of, run_places, lines_places, section_places, piece_places, piece_parts}
-use Rattle.scm_document.proofs.RowsLemmas.{length-numbered, length-taken}
-use Rattle.scm_document.proofs.SectionsLemmas.{most-below, section-size, shown-visible}
+use Rattle.scm_document.specs.Pieces.{file_pieces, files_pieces, files_of, sections_of, line_list, lines_places, section_places, piece_places, piece_parts}
+use Rattle.scm_document.proofs.KindLemmas.{IsRead, kind-at}
+use Rattle.scm_document.proofs.SectionsLemmas.{height-of, section-size, shown-visible}
 use Rattle.scm_document.proofs.ViewPieceLemmas.{file-height}
 
 -- ---- the files and sections among them
@@ -53,109 +44,35 @@ pieces-sections m top [] = refl
 pieces-sections m top (v ∷ vs) =
     sections-keep (sections_in_file top v) (files_pieces m (top + file_height v) vs) ∙ ap (λ w. sections_in_file top v ++ w) (pieces-sections m (top + file_height v) vs)
 
--- ---- the lines of a section
+-- ---- the rows of a section
 
-rows_places-append : (top : ℕ) (rs qs : List DocRow) → rows_places top (rs ++ qs) ≡ rows_places top rs ++ rows_places (top + length rs) qs
-unfolding rows_places
-rows_places-append top [] qs = let same : top ≡ top + 0 = omega arith in ap (λ t. rows_places t qs) same
-rows_places-append top (r ∷ rs) qs =
-    let same : suc top + length rs ≡ top + suc (length rs) = omega arith in
-    ap (λ w. line_places top r ++ w) (rows_places-append (suc top) rs qs ∙ ap (λ t. rows_places (suc top) rs ++ rows_places t qs) same)
-    ∙ sym (append_assoc (line_places top r) (rows_places (suc top) rs) (rows_places (top + suc (length rs)) qs))
+places-read : (v : SectionView) (row : ℕ) → IsRead v (line_places row) (λ kind. line_list v.section_key row (line_of kind))
+places-read v row = record { line = λ i l. refl; mark = λ b t. refl; context = λ i l. refl; dots = λ t. refl; blank = refl }
 
-numbered-run : (v : SectionView) (top i : ℕ) (ls : List (List ℕ)) → rows_places top (numbered_rows v i ls) ≡ run_places v.section_key top i (length ls)
-unfolding rows_places numbered_rows run_places
-numbered-run v top i [] = refl
-numbered-run v top i (l ∷ ls) = ap (λ w. record { key = selection.Line (line_key_of v.section_key i); top = top; rows = 1 } ∷ w) (numbered-run v (suc top) (suc i) ls)
-
-changed-run : (v : SectionView) (top i : ℕ) (ls : List SectionChangedLine) → rows_places top (changed_rows v i ls) ≡ run_places v.section_key top i (length ls)
-unfolding rows_places changed_rows run_places
-changed-run v top i [] = refl
-changed-run v top i (l ∷ ls) = ap (λ w. record { key = selection.Line (line_key_of v.section_key i); top = top; rows = 1 } ∷ w) (changed-run v (suc top) (suc i) ls)
-
--- the row of dots has no key
-dots-places : (b : Bool) (t : List ℕ) (top : ℕ) (qs : List DocRow) → rows_places top ((if b then DotsRow t ∷ [] else []) ++ qs) ≡ rows_places (top + (if b then 1 else 0)) qs
-unfolding rows_places
-dots-places true t top qs = ap (λ n. rows_places n qs) (omega arith)
-dots-places false t top qs = let same : top ≡ top + 0 = omega arith in ap (λ n. rows_places n qs) same
-
--- lines of context: a of n above d rows, and those from the b-th on below
-two-runs : (k : SectionKey) (top a d b n : ℕ) → b ≤ n
-    → run_places k top 0 a ++ run_places k ((top + a) + d) b (n - b) ≡ lines_places k (kinds.Context a (a + d) n) top (top + (a + (d + (n - b)))) (a + (d + (n - b)))
-two-runs k top a d b n h =
-    let above : min a (a + (d + (n - b))) ≡ a = omega arith in
-    let below : a + (d + (n - b)) - (a + d) ≡ n - b = omega arith in
-    let first : n - (n - b) ≡ b = omega (arith, h) in
-    let row : top + (a + (d + (n - b))) - (n - b) ≡ (top + a) + d = omega arith in
-    rw (above, below, first, row) refl
-
-context-places : (v : SectionView) (top : ℕ) (ls : List (List ℕ)) → let n = length ls in
-    rows_places top (shown_lines v ls) ≡ lines_places v.section_key (kinds.Context (lines_above (place_of v) n) (lines_above (place_of v) n + dots_height (place_of v) n) n) top (top + lines_height (place_of v) n) (lines_height (place_of v) n)
-context-places v top ls =
-    let n = length ls in
-    let above = lines_above (place_of v) n in
-    let size : length (numbered_rows v 0 (take above ls)) ≡ above = length-taken v above ls (above-le (are_all_shown (place_of v) n) (is_first (place_of v)) n) in
-    let few : length (take above ls) ≡ above = sym (length-numbered v 0 (take above ls)) ∙ size in
-    rows_places-append top (numbered_rows v 0 (take above ls)) (rows_below v ls)
-    ∙ ap (λ w. w ++ rows_places (top + length (numbered_rows v 0 (take above ls))) (rows_below v ls)) (numbered-run v top 0 (take above ls) ∙ ap (run_places v.section_key top 0) few)
-    ∙ ap (λ m. run_places v.section_key top 0 above ++ rows_places (top + m) (rows_below v ls)) size
-    ∙ ap (λ w. run_places v.section_key top 0 above ++ w)
-    (dots-places (has_dots (place_of v) n) _ (top + above) (numbered_rows v (first_below (place_of v) n) (drop (first_below (place_of v) n) ls))
-    ∙ numbered-run v ((top + above) + dots_height (place_of v) n) (first_below (place_of v) n) (drop (first_below (place_of v) n) ls)
-    ∙ ap (run_places v.section_key ((top + above) + dots_height (place_of v) n) (first_below (place_of v) n)) (length-drop (first_below (place_of v) n) ls))
-    ∙ two-runs v.section_key top above (dots_height (place_of v) n) (first_below (place_of v) n) n (most-below (are_all_shown (place_of v) n) (is_last (place_of v)) n)
-
-blank-places : (k : SectionKey) (top : ℕ) → rows_places top (BlankRow ∷ []) ≡ lines_places k (kinds.Context 0 1 0) top (top + 1) 1
-unfolding rows_places run_places
-blank-places k top = refl
-
--- the row of a header or of a mark has no key
-first-none : (top : ℕ) (r : DocRow) (rs : List DocRow) → line_places top r ≡ [] → rows_places top (r ∷ rs) ≡ rows_places (suc top) rs
-unfolding rows_places
-first-none top r rs e = ap (λ w. w ++ rows_places (suc top) rs) e
-
-header-alone : (k : SectionKey) (top : ℕ) → rows_places (suc top) [] ≡ lines_places k kinds.Changed top (top + 1) 1
-unfolding rows_places run_places
-header-alone k top = refl
-
-mark-alone : (k : SectionKey) (top : ℕ) → rows_places (suc top) [] ≡ lines_places k kinds.Mark top (top + 1) 1
-unfolding rows_places run_places
-mark-alone k top = refl
-
-changed-below : (k : SectionKey) (top n : ℕ) → run_places k (suc top) 0 n ≡ lines_places k kinds.Changed top (top + (1 + n)) (1 + n)
-unfolding run_places
-changed-below k top n =
-    let size : 1 + n - 1 ≡ n = omega arith in
-    let row : top + (1 + n) - n ≡ suc top = omega arith in
-    rw (size, row) refl
-
-lines-places : (v : SectionView) (top : ℕ) (s : Section) → rows_places top (rows_of v s) ≡ lines_places v.section_key (kinds_of (place_of v) (shape_of s)) top (top + section_height v s) (section_height v s)
-unfolding context_rows
-lines-places v top (Unchanged ls) = go (length ls == 0)
-  where
-    go : (b : Bool) → rows_places top (if b then BlankRow ∷ [] else shown_lines v ls)
-        ≡ lines_places v.section_key (if b then kinds.Context 0 1 0 else kinds.Context (lines_above (place_of v) (length ls)) (lines_above (place_of v) (length ls) + dots_height (place_of v) (length ls)) (length ls)) top
-        (top + (if b then 1 else lines_height (place_of v) (length ls))) (if b then 1 else lines_height (place_of v) (length ls))
-    go true = blank-places v.section_key top
-    go false = context-places v top ls
-lines-places v top (Changed ls) = go (is_fold_open v.expand_box)
-  where
-    go : (b : Bool) → rows_places top (SectionRow (is_selected v) (section_heading v) ∷ (if b then changed_rows v 0 ls else []))
-        ≡ lines_places v.section_key kinds.Changed top (top + (if b then 1 + length ls else 1)) (if b then 1 + length ls else 1)
-    go true = first-none top _ (changed_rows v 0 ls) refl ∙ changed-run v (suc top) 0 ls ∙ changed-below v.section_key top (length ls)
-    go false = first-none top _ [] refl ∙ header-alone v.section_key top
-lines-places v top (FileMode checked mode) = first-none top _ [] refl ∙ mark-alone v.section_key top
-lines-places v top (Binary checked old new) = first-none top _ [] refl ∙ mark-alone v.section_key top
+rows-read : (s : SectionPiece) (j : ℕ) (rs : List DocRow) → ((i row : ℕ) → i < length rs → line_places row (get_or rs i BlankRow) ≡ line_list s.key row (line_of (kind_on s (j + i))))
+    → rows_places (s.top + j) rs ≡ lines_places s j (length rs)
+unfolding rows_places lines_places
+rows-read s j [] h = refl
+rows-read s j (r ∷ rs) h =
+    let here : j + 0 ≡ j = omega arith in
+    let next : suc (s.top + j) ≡ s.top + suc j = omega arith in
+    ap₂ (λ a b. a ++ b) (h 0 (s.top + j) (omega arith) ∙ ap (λ i. line_list s.key (s.top + j) (line_of (kind_on s i))) here)
+    (ap (λ t. rows_places t rs) next ∙ rows-read s (suc j) rs (λ i row below. let same : j + suc i ≡ suc j + i = omega arith in rw same at (h (suc i) row (omega (arith, below)))))
 
 -- ---- the places of the keys
 
 section-is : (v : SectionView) (top : ℕ) → section_places (section_piece_of v top) ≡ record { key = selection.Section v.section_key; top = top; rows = length (section_rows v) } ∷ rows_places top (section_rows v)
 unfolding section_rows
 section-is v top =
-    let h = section_height v v.section.now in
-    let size : top + h - top ≡ h = omega arith in
-    ap (λ r. record { key = selection.Section v.section_key; top = top; rows = r } ∷ lines_places v.section_key (kinds_of (place_of v) (shape_of v.section.now)) top (top + h) r) size
-    ∙ ap₂ (λ (r : ℕ) (ps : List Place). record { key = selection.Section v.section_key; top = top; rows = r } ∷ ps) (sym (section-size v)) (sym (lines-places v top v.section.now))
+    let section = v.section.now in
+    let s = section_piece_of v top in
+    let first : top + 0 ≡ top = omega arith in
+    let size : top + section_height v section - top ≡ length (rows_of v section) = omega (arith, height-of v section) in
+    let read : rows_places (top + 0) (rows_of v section) ≡ lines_places s 0 (length (rows_of v section)) =
+    rows-read s 0 (rows_of v section) (λ i row h. let same : 0 + i ≡ i = omega arith in
+    rw same (kind-at v (line_places row) (λ kind. line_list v.section_key row (line_of kind)) (places-read v row) i section (λ e. refl) (omega (arith, h, height-of v section)))) in
+    ap₂ (λ (r : ℕ) (ps : List Place). record { key = selection.Section v.section_key; top = top; rows = r } ∷ ps) size
+    (ap (lines_places s 0) size ∙ sym read ∙ ap (λ t. rows_places t (rows_of v section)) first)
 
 sections-places : (top : ℕ) (vs : List SectionView) → flat_map piece_places (map pieces.Section (section_piece_list top vs)) ≡ sections_places top (map shown_of_view vs)
 unfolding sections_places

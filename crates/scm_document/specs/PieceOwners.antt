@@ -1,5 +1,5 @@
 -- The owners of the columns of a document's rows, by its pieces alone.
-use Rattle.std.specs.Prelude.{ℕ, ◌-◌, ◌==◌, nat_le, nat_lt, ◌||◌, if◌then◌else◌, List, [], ◌∷◌, Option, Some, None, option_map}
+use Rattle.std.specs.Prelude.{ℕ, ◌-◌, ◌==◌, nat_le, ◌||◌, if◌then◌else◌, List, [], ◌∷◌, Option, Some, None}
 use Rattle.scm_render.specs.Hits.{first_of_two}
 use Rattle.scm_types.specs.declared.keys.SectionKey.{SectionKey}
 use Rattle.scm_types.specs.declared.keys.LineKey.{LineKey}
@@ -9,8 +9,9 @@ use Rattle.scm_widgets.specs.declared.ids.ComponentId.{ComponentId}
 use Rattle.scm_widgets.specs.declared.ids.ComponentId.TheVariants as ids
 use Rattle.scm_document.specs.declared.index_pieces.FilePiece.{FilePiece}
 use Rattle.scm_document.specs.declared.index_pieces.SectionPiece.{SectionPiece}
-use Rattle.scm_document.specs.declared.index_pieces.RowKinds.{RowKinds}
-use Rattle.scm_document.specs.declared.index_pieces.RowKinds.TheVariants.{Changed, Mark, Context}
+use Rattle.scm_rows.specs.declared.row_kind.RowKind.{RowKind}
+use Rattle.scm_rows.specs.declared.row_kind.RowKind.TheVariants.{Header, Line, Mark, Context, Blank}
+use Rattle.scm_document.specs.SectionPieces.{kind_on}
 use Rattle.scm_document.specs.Rows.{file_id, section_id, line_id}
 use Rattle.scm_types.specs.Keys.{line_key_of}
 use Rattle.scm_widgets.specs.Layers.{is_among}
@@ -27,22 +28,18 @@ box_owner w c k x =
 abbrev pub line_owner : LineKey → ℕ → ComponentId
 line_owner k x = if is_among 4 3 x then ids.ToggleBox (selection.Line k) else line_id k
 
--- the line on row j of a section with r rows and n lines of context, if any: the first lines from the top, the last lines from
--- the bottom
-abbrev pub context_line : ℕ → ℕ → ℕ → ℕ → ℕ → Option ℕ
-context_line above first n r j = if nat_lt j above then Some j else if nat_lt j first then None else Some (n - (r - j))
-
--- the part of section k that owns column x of its row j, if any; the section has r rows
-unfoldable pub part_owner : ℕ → RowKinds → SectionKey → ℕ → ℕ → ℕ → Option ComponentId
-part_owner w Changed k r j x =
-    if j == 0 then box_owner w 2 (selection.Section k) x else Some (line_owner (line_key_of k (j - 1)) x)
-part_owner w Mark k r j x = if is_among 2 3 x then Some (ids.ToggleBox (selection.Section k)) else None
-part_owner w (Context above first n) k r j x = option_map (λ line. line_id (line_key_of k line)) (context_line above first n r j)
+-- the part of section k that owns column x of a row of this kind on w columns, if any
+unfoldable pub part_owner : ℕ → RowKind → SectionKey → ℕ → Option ComponentId
+part_owner w Header k x = box_owner w 2 (selection.Section k) x
+part_owner w (Line i) k x = Some (line_owner (line_key_of k i) x)
+part_owner w Mark k x = if is_among 2 3 x then Some (ids.ToggleBox (selection.Section k)) else None
+part_owner w (Context i) k x = Some (line_id (line_key_of k i))
+part_owner w Blank k x = None
 
 -- the owner of column x of row j of section s: a part of it, or the section itself, in columns 0 and 1 only if it is wide
 abbrev pub section_owner : ℕ → SectionPiece → ℕ → ℕ → Option ComponentId
 section_owner w s j x =
-    first_of_two (part_owner w s.kinds s.key (s.end - s.top) j x)
+    first_of_two (part_owner w (kind_on s j) s.key x)
     (if s.is_wide || nat_le 2 x then Some (section_id s.key) else None)
 
 -- the owner of row y and column x among sections, if any

@@ -6,31 +6,16 @@ ghost use Rattle.scm_render.specs.Hits.{first_of_two};
 ghost use Rattle.scm_document.specs.Rows.{line_id as id_of_line, section_id};
 ghost use Rattle.scm_types.specs.Keys.{line_key_of};
 ghost use Rattle.scm_widgets.specs.Layers.{is_among as among};
-ghost use Rattle.scm_document.specs.PieceOwners.{box_owner, context_line, file_owner, files_owner, header_owner, line_owner, part_owner, rows_owner, section_owner, sections_owner};
+ghost use Rattle.scm_document.specs.PieceOwners.{box_owner, file_owner, files_owner, header_owner, line_owner, part_owner, rows_owner, section_owner, sections_owner};
 ghost use Rattle.scm_document.specs.Pieces.{files_of, sections_of};
+ghost use Rattle.scm_document.specs.SectionPieces.{kind_on};
 
+use scm_rows::row_kind::row_kind;
+use scm_rows::{RowKind, SectionPlace, SectionShape};
 use scm_types::{FileKey, LineKey, SectionKey, SelectionKey};
 use scm_widgets::ids::ComponentId;
 use scm_widgets::overlay_rects::{OverlayRect, is_from, row_overlay_rect};
 use std::alloc::AllocError;
-
-/// The kinds of a section's rows.
-#[derive(Clone, Copy)]
-pub enum RowKinds {
-    /// A header and, if the section is unfolded, its changed lines below.
-    Changed,
-    /// The only row of a `FileMode` or `Binary` section.
-    Mark,
-    /// Lines of context: the first lines, then rows without a line, then the last lines.
-    Context {
-        /// Number of lines at the top.
-        above: usize,
-        /// Number of rows above the last lines.
-        first: usize,
-        /// Number of lines, visible or hidden.
-        lines: usize,
-    },
-}
 
 /// A section with its row range, in rows of the document.
 #[derive(Clone, Copy)]
@@ -43,8 +28,10 @@ pub struct SectionPiece {
     pub end: usize,
     /// Whether the section owns columns 0 and 1 of its rows.
     pub is_wide: bool,
-    /// Kinds of the section's rows.
-    pub kinds: RowKinds,
+    /// Place of the section among the sections of its file.
+    pub place: SectionPlace,
+    /// What the section is.
+    pub shape: SectionShape,
 }
 
 /// A file with its row range, in rows of the document.
@@ -123,61 +110,35 @@ fn line_owner(section: SectionKey, line: usize, column: usize) -> ComponentId
     }
 }
 
-/// Returns the line on `row` of a section of `lines` lines of context and `rows` rows, if any.
-/// `above` lines are at the top. The last lines begin on row `first`, counted from 0.
-fn context_line(above: usize, first: usize, lines: usize, rows: usize, row: usize) -> Option<usize>
-    ensures { result ≡ context_line above first lines rows row }
+/// Returns the part of section `key` that owns `column` of a row of kind `kind`, if any. The screen has
+/// `width` columns.
+#[tactic(auto, unfolding(crate::specs::PieceOwners::part_owner))]
+fn part_owner(width: usize, kind: RowKind, key: SectionKey, column: usize) -> Option<ComponentId>
+    ensures { result ≡ part_owner width kind key column }
 {
-    if row < above {
-        Some(row)
-    } else if row < first {
-        None
-    } else {
-        Some(lines.saturating_sub(rows.saturating_sub(row)))
-    }
-}
-
-impl RowKinds {
-    /// Returns the part of a section of `rows` rows that owns `column` of `row`, if any.
-    #[tactic(auto, unfolding(crate::specs::PieceOwners::part_owner))]
-    fn part_owner(
-        self,
-        width: usize,
-        key: SectionKey,
-        rows: usize,
-        row: usize,
-        column: usize,
-    ) -> Option<ComponentId>
-        ensures { result ≡ part_owner width self key rows row column }
-    {
-        match self {
-            RowKinds::Changed => {
-                if row == 0 {
-                    box_owner(width, 2, SelectionKey::Section(key), column)
-                } else {
-                    Some(line_owner(key, row - 1, column))
-                }
+    match kind {
+        RowKind::Header => box_owner(width, 2, SelectionKey::Section(key), column),
+        RowKind::Line(line) => Some(line_owner(key, line, column)),
+        RowKind::Mark => {
+            if is_among(2, column) {
+                Some(ComponentId::ToggleBox(SelectionKey::Section(key)))
+            } else {
+                None
             }
-            RowKinds::Mark => {
-                if is_among(2, column) {
-                    Some(ComponentId::ToggleBox(SelectionKey::Section(key)))
-                } else {
-                    None
-                }
-            }
-            RowKinds::Context {
-                above,
-                first,
-                lines,
-            } => match context_line(above, first, lines, rows, row) {
-                Some(line) => Some(line_id(key, line)),
-                None => None,
-            },
         }
+        RowKind::Context(line) => Some(line_id(key, line)),
+        RowKind::Blank => None,
     }
 }
 
 impl SectionPiece {
+    /// Returns what the section's row `row`, counted from 0, shows.
+    pub fn kind_on(&self, row: usize) -> RowKind
+        ensures { result ≡ kind_on self.now row }
+    {
+        row_kind(self.place, self.shape, row)
+    }
+
     /// Returns the section's id, if the section owns `column` of its rows where no part of it does.
     fn own_id(&self, column: usize) -> Option<ComponentId>
         ensures { result ≡ (if self.now.is_wide || nat_le 2 column
@@ -194,8 +155,7 @@ impl SectionPiece {
     fn owner(&self, width: usize, row: usize, column: usize) -> Option<ComponentId>
         ensures { result ≡ section_owner width self.now row column }
     {
-        let rows = self.end.saturating_sub(self.top);
-        let part = self.kinds.part_owner(width, self.key, rows, row, column);
+        let part = part_owner(width, self.kind_on(row), self.key, column);
         first_of_two(part, self.own_id(column))
     }
 }

@@ -5,11 +5,11 @@ use Rattle.scm_types.specs.declared.keys.SelectionKey.TheVariants as keys
 use Rattle.scm_types.specs.Keys.{section_key_of}
 use Rattle.scm_document.specs.declared.index_pieces.FilePiece.{FilePiece}
 use Rattle.scm_document.specs.declared.index_pieces.SectionPiece.{SectionPiece}
-use Rattle.scm_document.specs.declared.index_pieces.RowKinds.{RowKinds}
-use Rattle.scm_document.specs.declared.index_pieces.RowKinds.TheVariants as kinds
 use Rattle.scm_document.specs.declared.index_pieces.Piece.TheVariants as pieces
 use Rattle.scm_layout.specs.declared.file_rows.FileRows.{FileRows}
+use Rattle.scm_rows.specs.declared.section_shape.SectionShape.{SectionShape}
 use Rattle.scm_rows.specs.declared.section_shape.SectionShape.TheVariants as shapes
+use Rattle.scm_rows.specs.Context.{place}
 use Rattle.scm_layout.specs.Rows.{file_key_of, rows_at}
 use Rattle.scm_layout_index.specs.declared.row_pieces.RowPieces.{RowPieces}
 use Rattle.scm_layout_index.specs.RowPieces.{end_of_files, piece_of_key, pieces_on, pinned_piece}
@@ -22,8 +22,8 @@ open_rows = record { top = 4; end = 11; folded = 0; sections = rows_at 0 2 (shap
 abbrev folded_rows : FileRows
 folded_rows = record open_rows { end = 5 }
 
-abbrev section : ℕ → ℕ → ℕ → Bool → RowKinds → SectionPiece
-section i top end wide kinds = record { key = section_key_of (file_key_of 0 0) i; top = top; end = end; is_wide = wide; kinds = kinds }
+abbrev section : ℕ → ℕ → ℕ → Bool → SectionShape → SectionPiece
+section i top end wide shape = record { key = section_key_of (file_key_of 0 0) i; top = top; end = end; is_wide = wide; place = place 3 i; shape = shape }
 
 abbrev file : Bool → FilePiece
 file pinned = record { key = file_key_of 0 0; top = 4; end = 11; is_pinned = pinned }
@@ -39,17 +39,17 @@ on-row-3 = refl
 on-row-4 : pieces_on keys.None 1 4 (open_rows ∷ []) ≡ found (file false) None
 on-row-4 = refl
 
-on-row-6 : pieces_on keys.None 1 6 (open_rows ∷ []) ≡ found (file false) (Some (section 0 5 7 true (kinds.Context 0 0 2)))
+on-row-6 : pieces_on keys.None 1 6 (open_rows ∷ []) ≡ found (file false) (Some (section 0 5 7 true (shapes.Context 2)))
 on-row-6 = refl
 
-on-row-7 : pieces_on keys.None 1 7 (open_rows ∷ []) ≡ found (file false) (Some (section 1 7 10 true kinds.Changed))
+on-row-7 : pieces_on keys.None 1 7 (open_rows ∷ []) ≡ found (file false) (Some (section 1 7 10 true shapes.Changed))
 on-row-7 = refl
 
 -- a mode is wide if it is selected
-on-row-10 : pieces_on keys.None 1 10 (open_rows ∷ []) ≡ found (file false) (Some (section 2 10 11 false kinds.Mark))
+on-row-10 : pieces_on keys.None 1 10 (open_rows ∷ []) ≡ found (file false) (Some (section 2 10 11 false shapes.Mark))
 on-row-10 = refl
 
-selected-row-10 : pieces_on (keys.Section (section_key_of (file_key_of 0 0) 2)) 1 10 (open_rows ∷ []) ≡ found (file false) (Some (section 2 10 11 true kinds.Mark))
+selected-row-10 : pieces_on (keys.Section (section_key_of (file_key_of 0 0) 2)) 1 10 (open_rows ∷ []) ≡ found (file false) (Some (section 2 10 11 true shapes.Mark))
 selected-row-10 = refl
 
 -- the header is pinned to row 8, not to its own row
@@ -60,7 +60,7 @@ pinned-to-4 : pinned_piece 4 (open_rows ∷ []) ≡ Some (pieces.File (file fals
 pinned-to-4 = refl
 
 -- a section of a folded file has no piece, nor has one of another commit
-of-changes : piece_of_key (open_rows ∷ []) (keys.Section (section_key_of (file_key_of 0 0) 1)) ≡ Some (pieces.Section (section 1 7 10 true kinds.Changed))
+of-changes : piece_of_key (open_rows ∷ []) (keys.Section (section_key_of (file_key_of 0 0) 1)) ≡ Some (pieces.Section (section 1 7 10 true shapes.Changed))
 of-changes = refl
 
 of-folded : piece_of_key (folded_rows ∷ []) (keys.Section (section_key_of (file_key_of 0 0) 1)) ≡ None

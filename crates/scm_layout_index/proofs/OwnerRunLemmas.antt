@@ -11,9 +11,10 @@ use Rattle.scm_widgets.specs.declared.ids.ComponentId.{ComponentId}
 use Rattle.scm_widgets.specs.declared.overlay_rects.OverlayRect.{OverlayRect}
 use Rattle.scm_widgets.specs.OverlayRects.{have_row, is_at, overlay_owner}
 use Rattle.scm_document.specs.declared.index_pieces.SectionPiece.{SectionPiece}
-use Rattle.scm_document.specs.declared.index_pieces.RowKinds.TheVariants.{Changed, Mark, Context}
+use Rattle.scm_rows.specs.declared.row_kind.RowKind.TheVariants.{Header, Line, Mark, Context, Blank}
 use Rattle.scm_document.specs.PieceOwners.{box_owner, part_owner, rows_owner, section_owner}
 use Rattle.scm_document.specs.Pieces.{files_of, sections_of}
+use Rattle.scm_document.specs.SectionPieces.{kind_on}
 use Rattle.scm_layout_index.specs.declared.layout_index.LayoutIndex.{LayoutIndex}
 use Rattle.scm_layout_index.specs.declared.row_pieces.RowPieces.{RowPieces}
 use Rattle.scm_layout_index.specs.LayoutIndex.{document_owner, owner_in}
@@ -43,32 +44,32 @@ most-stop c stop e = grind (arith, nat_tests)
 -- ---- sections
 
 -- the row of a section's heading
-pub heading-row : (w : ℕ) (s : SectionPiece) (j c e : ℕ) → s.kinds ≡ Changed → j ≡ 0 → ((k : SelectionKey) → IsRun (box_owner w 2 k) w c e) → IsRun (nat_le 2) w c e
+pub heading-row : (w : ℕ) (s : SectionPiece) (j c e : ℕ) → kind_on s j ≡ Header → ((k : SelectionKey) → IsRun (box_owner w 2 k) w c e) → IsRun (nat_le 2) w c e
     → IsRun (section_owner w s j) w c e
 unfolding part_owner
-heading-row w s j c e kind zero boxes two = record {
+heading-row w s j c e kind boxes two = record {
   past = two.past;
   most = two.most;
   same = λ x low high.
       let beyond = two.same x low high in
       let box = λ (k : SelectionKey). (boxes k).same x low high in
-      rw (kind, zero, box, beyond) refl;
+      rw (kind, box, beyond) refl;
 }
 
 -- the row of a changed line
-pub line-row : (w : ℕ) (s : SectionPiece) (j c : ℕ) → s.kinds ≡ Changed → (j == 0) ≡ false → c < w → IsRun (section_owner w s j) w c (end_before c 4 (end_before c 7 w))
+pub line-row : (w : ℕ) (s : SectionPiece) (j c i : ℕ) → kind_on s j ≡ Line i → c < w → IsRun (section_owner w s j) w c (end_before c 4 (end_before c 7 w))
 unfolding part_owner
-line-row w s j c kind some h = record {
+line-row w s j c i kind h = record {
   past = past-stop c 4 _ (past-stop c 7 w h);
   most = let m0 = most-stop c 4 (end_before c 7 w) in let m1 = most-stop c 7 w in omega arith;
   same = λ x low high.
       let s0 = one-side c 4 (end_before c 7 w) x low high in
       let s1 = one-side c 7 w x low s0.within in
-      rw (kind, some, s0.above, s1.below) refl;
+      rw (kind, s0.above, s1.below) refl;
 }
 
 -- the row of a mode or a binary
-pub mark-row : (w : ℕ) (s : SectionPiece) (j c : ℕ) → s.kinds ≡ Mark → c < w → IsRun (section_owner w s j) w c (end_before c 2 (end_before c 5 w))
+pub mark-row : (w : ℕ) (s : SectionPiece) (j c : ℕ) → kind_on s j ≡ Mark → c < w → IsRun (section_owner w s j) w c (end_before c 2 (end_before c 5 w))
 unfolding part_owner
 mark-row w s j c kind h = record {
   past = past-stop c 2 _ (past-stop c 5 w h);
@@ -79,10 +80,15 @@ mark-row w s j c kind h = record {
       rw (kind, s0.above, s1.below) refl;
 }
 
--- a row of context
-pub context-row : (w : ℕ) (s : SectionPiece) (j c a f n : ℕ) → s.kinds ≡ Context a f n → c < w → IsRun (section_owner w s j) w c (end_before c 2 w)
+-- a line of context
+pub context-row : (w : ℕ) (s : SectionPiece) (j c i : ℕ) → kind_on s j ≡ Context i → c < w → IsRun (section_owner w s j) w c w
 unfolding part_owner
-context-row w s j c a f n kind h = record {
+context-row w s j c i kind h = record { past = h; most = omega arith; same = λ x low high. rw kind refl }
+
+-- a row of context without a line
+pub blank-row : (w : ℕ) (s : SectionPiece) (j c : ℕ) → kind_on s j ≡ Blank → c < w → IsRun (section_owner w s j) w c (end_before c 2 w)
+unfolding part_owner
+blank-row w s j c kind h = record {
   past = past-stop c 2 w h;
   most = most-stop c 2 w;
   same = λ x low high. let s0 = one-side c 2 w x low high in rw (kind, s0.above) refl;

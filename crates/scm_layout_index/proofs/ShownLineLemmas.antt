@@ -10,8 +10,8 @@ use Rattle.scm_widgets.specs.declared.ids.ComponentId.{ComponentId}
 use Rattle.scm_widgets.specs.OverlayRects.{have_row, overlay_owner}
 use Rattle.scm_document.specs.declared.index_pieces.FilePiece.{FilePiece}
 use Rattle.scm_document.specs.declared.index_pieces.SectionPiece.{SectionPiece}
-use Rattle.scm_document.specs.declared.index_pieces.RowKinds.{RowKinds}
-use Rattle.scm_document.specs.declared.index_pieces.RowKinds.TheVariants.{Changed, Mark, Context}
+use Rattle.scm_rows.specs.declared.section_shape.SectionShape.{SectionShape}
+use Rattle.scm_rows.specs.declared.section_shape.SectionShape.TheVariants.{Context, Changed, Mark}
 use Rattle.scm_document.specs.PieceOwners.{files_owner, line_owner, part_owner, rows_owner, section_owner, sections_owner}
 use Rattle.scm_document.specs.Pieces.{files_of, sections_of}
 use Rattle.scm_view.specs.ViewState.{ViewState}
@@ -21,7 +21,7 @@ use Rattle.scm_layout_index.specs.declared.row_owners.RowOwners.{RowOwners}
 use Rattle.scm_layout_index.specs.declared.row_pieces.RowPieces.{RowPieces}
 use Rattle.scm_layout_index.specs.LayoutIndex.{AreRowOwners, IsLayoutIndexOf, document_owner, owner_in}
 use Rattle.scm_layout_index.specs.RowPieces.{found_list, pieces_on, section_list}
-use Rattle.scm_layout_index.specs.ShownLines.{is_below_top, line_among, line_in, shown_line, line_of_kinds, line_of_section}
+use Rattle.scm_layout_index.specs.ShownLines.{is_below_top, line_among, line_in, shown_line, line_of_shape, line_of_section}
 use Rattle.scm_layout_index.proofs.RowOwnerLemmas.{not-over}
 
 -- a row of top..end, and not the first
@@ -44,11 +44,11 @@ below top end y e =
 
 -- ---- among pieces
 
-in-section : (w j x : ℕ) (s : SectionPiece) → s.kinds ≡ Changed → (j == 0) ≡ false → section_owner w s j x ≡ Some (line_owner (line_key_of s.key (j - 1)) x)
+in-section : (w j x : ℕ) (s : SectionPiece) → s.shape ≡ Changed → (j == 0) ≡ false → section_owner w s j x ≡ Some (line_owner (line_key_of s.key (j - 1)) x)
 unfolding part_owner
 in-section w j x s kind some = rw (kind, some) refl
 
-in-sections : (w y x : ℕ) (s : SectionPiece) → IsBelow s.top s.end y → s.kinds ≡ Changed → sections_owner w (s ∷ []) y x ≡ Some (line_owner (line_key_of s.key (y - s.top - 1)) x)
+in-sections : (w y x : ℕ) (s : SectionPiece) → IsBelow s.top s.end y → s.shape ≡ Changed → sections_owner w (s ∷ []) y x ≡ Some (line_owner (line_key_of s.key (y - s.top - 1)) x)
 in-sections w y x s in_rows kind = rw (in_rows.low, in_rows.high) (in-section w (y - s.top) x s kind in_rows.not_first)
 
 in-file : (w y x : ℕ) (f : FilePiece) (o : Option ComponentId) (i : ComponentId) → IsBelow f.top f.end y → o ≡ Some i → files_owner w (f ∷ []) o y x ≡ Some i
@@ -62,17 +62,17 @@ in-pieces w y x f None k e = none (is_below_top f.top f.end y) e
     none : (b : Bool) → ◌≡◌ {A = Option LineKey} (if b then None else None) (Some k) → rows_owner w (f ∷ []) [] y x ≡ Some (line_owner k x)
     none true q = absurd (cc q)
     none false q = absurd (cc q)
-in-pieces w y x f (Some s) k e = go (is_below_top f.top f.end y) refl (is_below_top s.top s.end y) refl s.kinds refl e
+in-pieces w y x f (Some s) k e = go (is_below_top f.top f.end y) refl (is_below_top s.top s.end y) refl s.shape refl e
   where
-    go : (a : Bool) → is_below_top f.top f.end y ≡ a → (b : Bool) → is_below_top s.top s.end y ≡ b → (kinds : RowKinds) → s.kinds ≡ kinds
-        → (if a then (if b then line_of_kinds kinds s.key (y - s.top) else None) else None) ≡ Some k → rows_owner w (f ∷ []) (s ∷ []) y x ≡ Some (line_owner k x)
+    go : (a : Bool) → is_below_top f.top f.end y ≡ a → (b : Bool) → is_below_top s.top s.end y ≡ b → (shape : SectionShape) → s.shape ≡ shape
+        → (if a then (if b then line_of_shape shape s.key (y - s.top) else None) else None) ≡ Some k → rows_owner w (f ∷ []) (s ∷ []) y x ≡ Some (line_owner k x)
     go true p true q Changed kind h =
         in-file w y x f (sections_owner w (s ∷ []) y x) (line_owner k x) (below f.top f.end y p)
         (in-sections w y x s (below s.top s.end y q) kind ∙ ap (λ (l : LineKey). Some (line_owner l x)) (same_Some (line_key_of s.key (y - s.top - 1)) k h))
     go true p true q Mark kind h = absurd (cc h)
-    go true p true q (Context above first n) kind h = absurd (cc h)
-    go true p false q kinds kind h = absurd (cc h)
-    go false p b q kinds kind h = absurd (cc h)
+    go true p true q (Context n) kind h = absurd (cc h)
+    go true p false q shape kind h = absurd (cc h)
+    go false p b q shape kind h = absurd (cc h)
 
 pub found-line : (w y x : ℕ) (p : RowPieces) (k : LineKey) → line_among y p ≡ Some k
     → rows_owner w (files_of (found_list (Some p))) (sections_of (found_list (Some p))) y x ≡ Some (line_owner k x)

@@ -1,7 +1,7 @@
 -- The rows of a key are those of the piece that its indexes find.
-use Rattle.std.proofs.Common.{◌≡◌, ℕ, suc, ◌+◌, ◌-◌, ◌<◌, ◌≤◌, Bool, true, false, ◌&&◌, ◌||◌, List, [], ◌∷◌, ◌++◌, length, map, Option, Some, None, refl, ap, sym, ◌∙◌, arith}
+use Rattle.std.proofs.Common.{◌≡◌, ℕ, zero, suc, ◌+◌, ◌-◌, ◌<◌, ◌≤◌, Bool, true, false, ◌&&◌, List, [], ◌∷◌, ◌++◌, length, map, Option, Some, None, refl, ap, sym, ◌∙◌, arith}
 use Rattle.std.specs.Prelude.{nat_eq, nat_lt, if◌then◌else◌, option_and_then, slice_get}
-use Rattle.std.specs.List.{flat_map, list_any}
+use Rattle.std.specs.List.{flat_map}
 use Rattle.std.proofs.lemmas.Bool.Decides.{nat_tests}
 use Rattle.std.proofs.lemmas.List.Concat.{flat_map-cons}
 use Rattle.scm_types.specs.declared.keys.FileKey.{FileKey}
@@ -9,14 +9,16 @@ use Rattle.scm_types.specs.declared.keys.SectionKey.{SectionKey}
 use Rattle.scm_types.specs.declared.keys.LineKey.{LineKey}
 use Rattle.scm_types.specs.declared.keys.SelectionKey.{SelectionKey}
 use Rattle.scm_types.specs.declared.keys.SelectionKey.TheVariants as keys
-use Rattle.scm_types.specs.Keys.{is_key, section_key_of, section_of_line}
+use Rattle.scm_types.specs.Keys.{is_key, line_key_of, section_key_of, section_of_line}
 use Rattle.scm_document.specs.declared.index_pieces.SectionPiece.{SectionPiece}
 use Rattle.scm_document.specs.declared.index_pieces.Piece.{Piece}
 use Rattle.scm_document.specs.declared.index_pieces.Piece.TheVariants as pieces
 use Rattle.scm_document.specs.Places.{Place}
 use Rattle.scm_document.specs.DocumentRows.{rows_of_key, rows_of_place}
-use Rattle.scm_document.specs.Pieces.{key_row, piece_places, section_places}
-use Rattle.scm_document.proofs.IndexLemmas.{lines-any}
+use Rattle.scm_rows.specs.Kinds.{line_of}
+use Rattle.scm_document.specs.SectionPieces.{kind_on}
+use Rattle.scm_document.specs.Pieces.{found_in, line_list, lines_places, piece_places, section_places}
+use Rattle.scm_document.proofs.IndexLemmas.{found-rest, line-other, lines-other}
 use Rattle.scm_layout.specs.declared.file_rows.FileRows.{FileRows}
 use Rattle.scm_layout.specs.declared.section_rows.SectionRows.{SectionRows}
 use Rattle.scm_layout.specs.Rows.{file_key_of}
@@ -24,19 +26,6 @@ use Rattle.scm_layout_index.specs.RowPieces.{file_of_key, file_of_rows, piece_li
 use Rattle.scm_layout_index.proofs.PieceLists.{all_pieces, file_sections, section_pieces}
 
 -- ---- a key among places
-
-abbrev has : SelectionKey → List Place → Bool
-has key ps = list_any (λ (p : Place). is_key key p.key) ps
-
--- places without the key
-skip : (key : SelectionKey) (ps qs : List Place) → has key ps ≡ false → rows_of_key key (ps ++ qs) ≡ rows_of_key key qs
-unfolding rows_of_key
-skip key [] qs h = refl
-skip key (p ∷ ps) qs h = go (is_key key p.key) h (λ g. skip key ps qs g)
-  where
-    go : (b : Bool) → (b || has key ps) ≡ false → (has key ps ≡ false → rows_of_key key (ps ++ qs) ≡ rows_of_key key qs) → (if b then rows_of_place p else rows_of_key key (ps ++ qs)) ≡ rows_of_key key qs
-    go true g more = absurd (cc g)
-    go false g more = more g
 
 -- none of the later places has it
 only : (key : SelectionKey) (ps qs : List Place) → rows_of_key key qs ≡ None → rows_of_key key (ps ++ qs) ≡ rows_of_key key ps
@@ -49,20 +38,32 @@ unfolding rows_of_key
 no-place key = refl
 
 -- a section and its lines without the key
-section-other : (key : SelectionKey) (s : SectionPiece) → is_key key (keys.Section s.key) ≡ false → key_row s key ≡ None → has key (section_places s) ≡ false
-section-other key s own line = rw (own, lines-any s key, line) refl
+section-other : (key : SelectionKey) (s : SectionPiece) → is_key key (keys.Section s.key) ≡ false → ((i : ℕ) → is_key key (keys.Line (line_key_of s.key i)) ≡ false) → found_in key (section_places s) ≡ None
+section-other key s own lines = rw own (lines-other s key lines)
 
 -- the rows of a key among pieces
 abbrev rows_among : SelectionKey → List Piece → Option (ℕ × ℕ)
 rows_among key ps = rows_of_key key (flat_map piece_places ps)
 
-skip-piece : (key : SelectionKey) (p : Piece) (ps : List Piece) → has key (piece_places p) ≡ false → rows_among key (p ∷ ps) ≡ rows_among key ps
-skip-piece key p ps h = ap (rows_of_key key) (flat_map-cons piece_places p ps) ∙ skip key (piece_places p) (flat_map piece_places ps) h
+skip-piece : (key : SelectionKey) (p : Piece) (ps : List Piece) → found_in key (piece_places p) ≡ None → rows_among key (p ∷ ps) ≡ rows_among key ps
+skip-piece key p ps h = ap (rows_of_key key) (flat_map-cons piece_places p ps) ∙ found-rest key (piece_places p) (flat_map piece_places ps) h
 
 only-piece : (key : SelectionKey) (p : Piece) (ps : List Piece) → rows_among key ps ≡ None → rows_among key (p ∷ ps) ≡ rows_among key (p ∷ [])
 only-piece key p ps h =
     ap (rows_of_key key) (flat_map-cons piece_places p ps) ∙ only key (piece_places p) (flat_map piece_places ps) h
     ∙ sym (ap (rows_of_key key) (flat_map-cons piece_places p []) ∙ only key (piece_places p) [] (sym (no-place key)))
+
+-- whether a section is wide says nothing of its places
+same-lines : (s : SectionPiece) (w : Bool) (j n : ℕ) → lines_places s j n ≡ lines_places (record s { is_wide = w }) j n
+unfolding lines_places
+same-lines s w j zero = refl
+same-lines s w j (suc n) = ap (λ (ps : List Place). line_list s.key (s.top + j) (line_of (kind_on s j)) ++ ps) (same-lines s w (suc j) n)
+
+any-width : (key : SelectionKey) (s : SectionPiece) (w : Bool) → rows_among key (pieces.Section s ∷ []) ≡ rows_among key (pieces.Section (record s { is_wide = w }) ∷ [])
+any-width key s w =
+    ap (rows_of_key key) (flat_map-cons piece_places (pieces.Section s) [])
+    ∙ ap (λ (ps : List Place). rows_of_key key ((record { key = keys.Section s.key; top = s.top; rows = s.end - s.top } ∷ ps) ++ flat_map piece_places [])) (same-lines s w 0 (s.end - s.top))
+    ∙ sym (ap (rows_of_key key) (flat_map-cons piece_places (pieces.Section (record s { is_wide = w })) []))
 
 pub no-rows : (key : SelectionKey) (o : Option Piece) → o ≡ None → None ≡ rows_among key (piece_list o)
 no-rows key o e = no-place key ∙ ap (λ (x : Option Piece). rows_among key (piece_list x)) (sym e)
@@ -71,7 +72,7 @@ no-rows key o e = no-place key ∙ ap (λ (x : Option Piece). rows_among key (pi
 
 module _ (key : SelectionKey) where
   sections-skip : (selection : SelectionKey) (total : ℕ) (k : FileKey) (first j : ℕ) (rs : List SectionRows) (rest : List Piece)
-      → ((i : ℕ) (s : SectionPiece) → s.key ≡ section_key_of k i → has key (section_places s) ≡ false)
+      → ((i : ℕ) (s : SectionPiece) → s.key ≡ section_key_of k i → found_in key (section_places s) ≡ None)
       → rows_among key (map pieces.Section (section_pieces selection total k first j rs) ++ rest) ≡ rows_among key rest
   sections-skip selection total k first j [] rest h = refl
   sections-skip selection total k first j (r ∷ rs) rest h = go (nat_lt r.top r.end) (sections-skip selection total k first (suc j) rs rest h)
@@ -85,7 +86,7 @@ module _ (key : SelectionKey) where
       go false more = more
 
   file-skip : (selection : SelectionKey) (i : ℕ) (r : FileRows) (rest : List Piece)
-      → ((j : ℕ) (s : SectionPiece) → s.key ≡ section_key_of (file_key_of 0 i) j → has key (section_places s) ≡ false)
+      → ((j : ℕ) (s : SectionPiece) → s.key ≡ section_key_of (file_key_of 0 i) j → found_in key (section_places s) ≡ None)
       → rows_among key (map pieces.Section (file_sections selection i r) ++ rest) ≡ rows_among key rest
   file-skip selection i r rest h = go (nat_lt (r.top + 1) r.end)
     where
@@ -96,13 +97,13 @@ module _ (key : SelectionKey) where
   -- no file has it
   pub files-skip : (selection : SelectionKey) (m i : ℕ) (rs : List FileRows)
       → ((n : ℕ) → i ≤ n → is_key key (keys.File (file_key_of 0 n)) ≡ false)
-      → ((n j : ℕ) (s : SectionPiece) → i ≤ n → s.key ≡ section_key_of (file_key_of 0 n) j → has key (section_places s) ≡ false)
+      → ((n j : ℕ) (s : SectionPiece) → i ≤ n → s.key ≡ section_key_of (file_key_of 0 n) j → found_in key (section_places s) ≡ None)
       → rows_among key (all_pieces selection m i rs) ≡ None
   unfolding rows_of_key
   files-skip selection m i [] own parts = refl
   files-skip selection m i (r ∷ rs) own parts =
       let low : i ≤ i = omega arith in
-      let none : has key (piece_places (pieces.File (file_of_rows m i r))) ≡ false = rw (own i low) refl in
+      let none : found_in key (piece_places (pieces.File (file_of_rows m i r))) ≡ None = rw (own i low) refl in
       skip-piece key (pieces.File (file_of_rows m i r)) (map pieces.Section (file_sections selection i r) ++ all_pieces selection m (suc i) rs) none
       ∙ file-skip selection i r (all_pieces selection m (suc i) rs) (λ j s e. parts i j s low e)
       ∙ files-skip selection m (suc i) rs (λ n h. own n (omega (arith, h))) (λ n j s h e. parts n j s (omega (arith, h)) e)
@@ -129,8 +130,8 @@ three-false c n i x j h = go (nat_eq c 0) (nat_eq n i) (nat_eq x j) refl refl re
 -- ---- the key of a file
 
 module _ (k : FileKey) where
-  file-parts : (s : SectionPiece) → has (keys.File k) (section_places s) ≡ false
-  file-parts s = section-other (keys.File k) s refl refl
+  file-parts : (s : SectionPiece) → found_in (keys.File k) (section_places s) ≡ None
+  file-parts s = section-other (keys.File k) s refl (λ i. refl)
 
   file-find : (selection : SelectionKey) (m i : ℕ) (rs : List FileRows) → k.commit_idx ≡ 0 → i ≤ k.file_idx
       → rows_among (keys.File k) (all_pieces selection m i rs)
@@ -157,7 +158,7 @@ module _ (k : FileKey) where
           ∙ rw (none, same) refl
       go false q more =
           let next : k.file_idx - i ≡ suc (k.file_idx - suc i) = grind (arith, nat_tests, q, low) in
-          let other : has (keys.File k) (piece_places (pieces.File (file_of_rows m i r))) ≡ false =
+          let other : found_in (keys.File k) (piece_places (pieces.File (file_of_rows m i r))) ≡ None =
           rw (two-false k.commit_idx k.file_idx i (λ d g. grind (arith, nat_tests, q, g))) refl in
           skip-piece (keys.File k) (pieces.File (file_of_rows m i r)) rest other
           ∙ file-skip (keys.File k) selection i r (all_pieces selection m (suc i) rs) (λ j s e. file-parts s)
@@ -169,27 +170,27 @@ module _ (k : FileKey) where
 -- q is a key's section: the key is not that of a file, nor has another section a place of it
 record IsSectionOf (key : SelectionKey) (q : SectionKey) : Type 0 where
   file : (k : FileKey) → is_key key (keys.File k) ≡ false
-  other : (s : SectionPiece) → is_key (keys.Section q) (keys.Section s.key) ≡ false → has key (section_places s) ≡ false
+  other : (s : SectionPiece) → is_key (keys.Section q) (keys.Section s.key) ≡ false → found_in key (section_places s) ≡ None
 
 of-section : (q : SectionKey) → IsSectionOf (keys.Section q) q
-of-section q = record { file = λ k. refl; other = λ s e. section-other (keys.Section q) s e refl }
+of-section q = record { file = λ k. refl; other = λ s e. section-other (keys.Section q) s e (λ i. refl) }
 
 of-line : (l : LineKey) → IsSectionOf (keys.Line l) (section_of_line l)
 of-line l = record {
   file = λ k. refl;
-  other = λ s e. section-other (keys.Line l) s refl (rw e refl);
+  other = λ s e. section-other (keys.Line l) s refl (λ i. line-other l s.key i e);
 }
 
 module _ (key : SelectionKey) (q : SectionKey) (is : IsSectionOf key q) where
   -- a section of another file, or of another commit
-  far : (n j : ℕ) (s : SectionPiece) → (q.commit_idx ≡ 0 → q.file_idx ≡ n → ⊥) → s.key ≡ section_key_of (file_key_of 0 n) j → has key (section_places s) ≡ false
+  far : (n j : ℕ) (s : SectionPiece) → (q.commit_idx ≡ 0 → q.file_idx ≡ n → ⊥) → s.key ≡ section_key_of (file_key_of 0 n) j → found_in key (section_places s) ≡ None
   far n j s h e = is.other s (rw e (three-false q.commit_idx q.file_idx n q.section_idx j (λ c f x. h c f)))
 
   -- another section of its file
-  beside : (n j : ℕ) (s : SectionPiece) → (q.section_idx ≡ j → ⊥) → s.key ≡ section_key_of (file_key_of 0 n) j → has key (section_places s) ≡ false
+  beside : (n j : ℕ) (s : SectionPiece) → (q.section_idx ≡ j → ⊥) → s.key ≡ section_key_of (file_key_of 0 n) j → found_in key (section_places s) ≡ None
   beside n j s h e = is.other s (rw e (three-false q.commit_idx q.file_idx n q.section_idx j (λ c f x. h x)))
 
-  no-file : (m n : ℕ) (r : FileRows) → has key (piece_places (pieces.File (file_of_rows m n r))) ≡ false
+  no-file : (m n : ℕ) (r : FileRows) → found_in key (piece_places (pieces.File (file_of_rows m n r))) ≡ None
   no-file m n r = rw (is.file (file_key_of 0 n)) refl
 
   -- the sections from index j on, all below its own
@@ -225,7 +226,9 @@ module _ (key : SelectionKey) (q : SectionKey) (is : IsSectionOf key q) where
       -- it is this one
       own : (b : Bool) → q.section_idx ≡ j → rows_among key (map pieces.Section (if b then p ∷ more else more) ++ rest)
           ≡ rows_among key (piece_list (if b then Some (pieces.Section (section_of_rows keys.None total (section_key_of k j) first r)) else None))
-      own true e = only-piece key (pieces.Section p) (map pieces.Section more ++ rest) (later selection total q.file_idx first (suc j) rs rest (omega (arith, e)) none)
+      own true e =
+          only-piece key (pieces.Section p) (map pieces.Section more ++ rest) (later selection total q.file_idx first (suc j) rs rest (omega (arith, e)) none)
+          ∙ any-width key p (section_of_rows keys.None total (section_key_of k j) first r).is_wide
       own false e = later selection total q.file_idx first (suc j) rs rest (omega (arith, e)) none ∙ no-place key
 
       named : q.section_idx ≡ j → section_key_of k j ≡ q
@@ -327,7 +330,7 @@ file-rows k selection m rs = go (nat_eq k.commit_idx 0) refl
 pub rows-of-key : (key : SelectionKey) (selection : SelectionKey) (m : ℕ) (rs : List FileRows)
     → rows_among key (all_pieces selection m 0 rs) ≡ rows_among key (piece_list (piece_of_key rs key))
 rows-of-key keys.None selection m rs =
-    files-skip keys.None selection m 0 rs (λ n h. refl) (λ n j s h d. section-other keys.None s refl refl) ∙ no-place keys.None
+    files-skip keys.None selection m 0 rs (λ n h. refl) (λ n j s h d. section-other keys.None s refl (λ i. refl)) ∙ no-place keys.None
 rows-of-key (keys.File k) selection m rs = file-rows k selection m rs
 rows-of-key (keys.Section q) selection m rs = section-rows (keys.Section q) q (of-section q) selection m rs
 rows-of-key (keys.Line l) selection m rs = section-rows (keys.Line l) (section_of_line l) (of-line l) selection m rs

@@ -4,8 +4,8 @@ use Rattle.scm_types.specs.declared.keys.SectionKey.{SectionKey}
 use Rattle.scm_types.specs.declared.keys.LineKey.{LineKey}
 use Rattle.scm_types.specs.Keys.{line_key_of}
 use Rattle.scm_document.specs.declared.index_pieces.SectionPiece.{SectionPiece}
-use Rattle.scm_document.specs.declared.index_pieces.RowKinds.{RowKinds}
-use Rattle.scm_document.specs.declared.index_pieces.RowKinds.TheVariants.{Changed, Mark, Context}
+use Rattle.scm_rows.specs.declared.section_shape.SectionShape.{SectionShape}
+use Rattle.scm_rows.specs.declared.section_shape.SectionShape.TheVariants.{Context, Changed, Mark}
 use Rattle.scm_widgets.specs.OverlayRects.{have_row}
 use Rattle.scm_layout_index.specs.declared.layout_index.LayoutIndex.{LayoutIndex}
 use Rattle.scm_layout_index.specs.declared.row_owners.RowOwners.{RowOwners}
@@ -17,14 +17,14 @@ abbrev pub is_below_top : ℕ → ℕ → ℕ → Bool
 is_below_top top end y = nat_lt top y && nat_lt y end
 
 -- the changed line on row j of section k, which is not its first, if its rows are of changed lines
-abbrev pub line_of_kinds : RowKinds → SectionKey → ℕ → Option LineKey
-line_of_kinds Changed k j = Some (line_key_of k (j - 1))
-line_of_kinds Mark k j = None
-line_of_kinds (Context above first n) k j = None
+abbrev pub line_of_shape : SectionShape → SectionKey → ℕ → Option LineKey
+line_of_shape (Context n) k j = None
+line_of_shape Changed k j = Some (line_key_of k (j - 1))
+line_of_shape Mark k j = None
 
 -- the changed line of section s on row y of the document, if any
 abbrev pub line_of_section : ℕ → SectionPiece → Option LineKey
-line_of_section y s = if is_below_top s.top s.end y then line_of_kinds s.kinds s.key (y - s.top) else None
+line_of_section y s = if is_below_top s.top s.end y then line_of_shape s.shape s.key (y - s.top) else None
 
 -- the changed line on row y of the document among the pieces, if any
 abbrev pub line_among : ℕ → RowPieces → Option LineKey

@@ -15,7 +15,8 @@ use crate::layout_index::LayoutIndex;
 use crate::row_owners::RowOwners;
 use crate::row_pieces::RowPieces;
 use scm_cells::{Rect, gap};
-use scm_document::index_pieces::{RowKinds, SectionPiece};
+use scm_document::index_pieces::SectionPiece;
+use scm_rows::RowKind;
 use scm_widgets::ids::ComponentId;
 use scm_widgets::overlay_rects::{OverlayRect, have_row};
 
@@ -58,16 +59,12 @@ fn section_end(width: usize, section: &SectionPiece, row: usize, column: usize) 
     requires { column < width }
     ensures { IsRun (section_owner width section.now row) width column result }
 {
-    match section.kinds {
-        RowKinds::Changed => {
-            if row == 0 {
-                heading_end(width, 2, column)
-            } else {
-                end_before(column, 4, end_before(column, 7, width))
-            }
-        }
-        RowKinds::Mark => end_before(column, 2, end_before(column, 5, width)),
-        RowKinds::Context { .. } => end_before(column, 2, width),
+    match section.kind_on(row) {
+        RowKind::Header => heading_end(width, 2, column),
+        RowKind::Line(_) => end_before(column, 4, end_before(column, 7, width)),
+        RowKind::Mark => end_before(column, 2, end_before(column, 5, width)),
+        RowKind::Context(_) => width,
+        RowKind::Blank => end_before(column, 2, width),
     }
 }
 

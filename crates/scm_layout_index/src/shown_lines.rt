@@ -11,7 +11,8 @@ ghost use Rattle.scm_layout_index.specs.ShownLines.{is_below_top, line_among, li
 use crate::layout_index::LayoutIndex;
 use crate::row_owners::RowOwners;
 use crate::row_pieces::RowPieces;
-use scm_document::index_pieces::{RowKinds, SectionPiece};
+use scm_document::index_pieces::SectionPiece;
+use scm_rows::SectionShape;
 use scm_types::{LineKey, SelectionKey};
 use scm_widgets::ids::ComponentId;
 
@@ -30,10 +31,9 @@ fn line_of_section(section: &SectionPiece, row: usize) -> Option<LineKey>
     if !is_below_top(section.top, section.end, row) {
         return None;
     }
-    match section.kinds {
-        RowKinds::Changed => Some(section.key.line(row - section.top - 1)),
-        RowKinds::Mark => None,
-        RowKinds::Context { .. } => None,
+    match section.shape {
+        SectionShape::Changed => Some(section.key.line(row - section.top - 1)),
+        SectionShape::Context { .. } | SectionShape::Mark => None,
     }
 }
 

@@ -4,3 +4,5 @@ pub mod Lines
 pub mod Context
 -- the rows of a section
 pub mod Heights
+-- what each row shows
+pub mod Kinds

@@ -5,9 +5,11 @@
 #![tactic(auto)]
 
 pub mod message_rows;
+pub mod row_kind;
 pub mod section_heights;
 pub mod section_place;
 pub mod section_shape;
 
+pub use row_kind::RowKind;
 pub use section_place::SectionPlace;
 pub use section_shape::SectionShape;
