@@ -18,6 +18,7 @@ use Rattle.scm_document.specs.declared.section_view.SectionView.{SectionView}
 use Rattle.scm_document.specs.Texts.{dots_text}
 use Rattle.scm_document.specs.Rows.{DocRow, SectionRow, MarkRow, DotsRow, BlankRow, changed_row, changed_rows, numbered_row, numbered_rows, context_rows, shown_lines, rows_of, section_box, section_heading, is_selected, section_height, place_of}
 use Rattle.scm_document.proofs.RowsLemmas.{length-taken}
+use Rattle.scm_document.proofs.SectionsLemmas.{one_or_none}
 
 -- the row of dots, if there is one
 abbrev pub dots_rows : SectionView → Bool → List DocRow
@@ -81,9 +82,8 @@ module _ {T : Type 0} (v : SectionView) (g : DocRow → T) (f : RowKind → T) (
       let a = lines_above (place_of v) n in
       let b = first_below (place_of v) n in
       let most : a ≤ n = above-le (are_all_shown (place_of v) n) (is_first (place_of v)) n in
-      let dots : length (dots_rows v (has_dots (place_of v) n)) ≡ dots_height (place_of v) n = elim (has_dots (place_of v) n) as (λ c. length (dots_rows v c) ≡ (if c then 1 else 0)) [ true ↦ refl | false ↦ refl ] in
       three-at (numbered_rows v 0 (take a ls)) (dots_rows v (has_dots (place_of v) n)) (numbered_rows v b (drop b ls)) a (dots_height (place_of v) n) b n j
-      (length-taken v a ls most) dots within (λ k h. numbered-at 0 k (take a ls) (omega (arith, h, most, length-take a ls))) (dots-at (has_dots (place_of v) n))
+      (length-taken v a ls most) (one_or_none (has_dots (place_of v) n) (DotsRow (dots_text v.use_unicode))) within (λ k h. numbered-at 0 k (take a ls) (omega (arith, h, most, length-take a ls))) (dots-at (has_dots (place_of v) n))
       (λ k h. numbered-at b k (drop b ls) (omega (arith, h, length-drop b ls)))
 
   pub kind-at : (j : ℕ) (s : Section) → (shape_of s ≡ shapes.Changed → g (SectionRow (is_selected v) (section_heading v)) ≡ f kinds.Header) → j < section_height v s

@@ -23,12 +23,7 @@ use Rattle.scm_document.proofs.RowsLemmas.{row-end, length-numbered, length-take
 
 -- ---- heights
 
-pub most-below : (a b : Bool) (n : ℕ) → (if a then n else if b then n else n - 3) ≤ n
-most-below true b n = omega arith
-most-below false true n = omega arith
-most-below false false n = omega arith
-
-one_or_none : (b : Bool) (r : DocRow) → length (if b then r ∷ [] else []) ≡ (if b then 1 else 0)
+pub one_or_none : (b : Bool) (r : DocRow) → length (if b then r ∷ [] else []) ≡ (if b then 1 else 0)
 one_or_none true r = refl
 one_or_none false r = refl
 

@@ -4,7 +4,6 @@ ghost use Rattle.std.specs.Prelude.{◌≡◌, ◌<◌, ◌^◌, ◌+◌, ◌-�
 ghost use Rattle.scm_document.specs.HeaderRects.{header_rects, pinned_rects};
 ghost use Rattle.scm_render.specs.Hits.{first_of_two};
 ghost use Rattle.scm_document.specs.Rows.{line_id as id_of_line, section_id};
-ghost use Rattle.scm_types.specs.Keys.{line_key_of};
 ghost use Rattle.scm_widgets.specs.Layers.{is_among as among};
 ghost use Rattle.scm_document.specs.PieceOwners.{box_owner, file_owner, files_owner, header_owner, line_owner, part_owner, rows_owner, section_owner, sections_owner};
 ghost use Rattle.scm_document.specs.Pieces.{files_of, sections_of};
@@ -92,21 +91,21 @@ pub(crate) fn box_owner(
     }
 }
 
-/// Returns the component id of line `line` of `section`.
-fn line_id(section: SectionKey, line: usize) -> ComponentId
-    ensures { result ≡ id_of_line (line_key_of section line) }
+/// Returns the component id of `line`.
+fn line_id(line: LineKey) -> ComponentId
+    ensures { result ≡ id_of_line line }
 {
-    ComponentId::SelectableItem(SelectionKey::Line(section.line(line)))
+    ComponentId::SelectableItem(SelectionKey::Line(line))
 }
 
-/// Returns the owner of `column` of a changed line: its checkbox, or else the line.
-fn line_owner(section: SectionKey, line: usize, column: usize) -> ComponentId
-    ensures { result ≡ line_owner (line_key_of section line) column }
+/// Returns the owner of `column` on the row of changed line `line`: its checkbox, or else the line.
+pub fn line_owner(line: LineKey, column: usize) -> ComponentId
+    ensures { result ≡ line_owner line column }
 {
     if is_among(4, column) {
-        ComponentId::ToggleBox(SelectionKey::Line(section.line(line)))
+        ComponentId::ToggleBox(SelectionKey::Line(line))
     } else {
-        line_id(section, line)
+        line_id(line)
     }
 }
 
@@ -118,7 +117,7 @@ fn part_owner(width: usize, kind: RowKind, key: SectionKey, column: usize) -> Op
 {
     match kind {
         RowKind::Header => box_owner(width, 2, SelectionKey::Section(key), column),
-        RowKind::Line(line) => Some(line_owner(key, line, column)),
+        RowKind::Line(line) => Some(line_owner(key.line(line), column)),
         RowKind::Mark => {
             if is_among(2, column) {
                 Some(ComponentId::ToggleBox(SelectionKey::Section(key)))
@@ -126,7 +125,7 @@ fn part_owner(width: usize, kind: RowKind, key: SectionKey, column: usize) -> Op
                 None
             }
         }
-        RowKind::Context(line) => Some(line_id(key, line)),
+        RowKind::Context(line) => Some(line_id(key.line(line))),
         RowKind::Blank => None,
     }
 }

@@ -6,8 +6,10 @@ ghost use Rattle.scm_document.specs.HeaderRects.{pinned_rects};
 ghost use Rattle.scm_layout.specs.Searches.{FilesFollow};
 ghost use Rattle.scm_layout_index.specs.RowPieces.{end_of_files, file_of_rows, found_list, piece_at, piece_list, pieces_at, pieces_on, pinned_piece, section_in, section_of_rows, RowsFit, SectionsFit};
 
-use crate::shown_lines::{line_among, owner_on_line};
-use scm_document::index_pieces::{FilePiece, Piece, SectionPiece, push_pinned, rows_owner};
+use crate::shown_lines::line_among;
+use scm_document::index_pieces::{
+    FilePiece, Piece, SectionPiece, line_owner, push_pinned, rows_owner,
+};
 use scm_document::section_pieces::{file_piece, section_piece};
 use scm_layout::row_search::file_on;
 use scm_layout::{FileRows, SectionRows};
@@ -168,7 +170,7 @@ pub(crate) fn owner_among(
 {
     match line_among(found, row) {
         None => owner_of_pieces(width, found, row, column),
-        Some(key) => Some(owner_on_line(key, column)),
+        Some(key) => Some(line_owner(key, column)),
     }
 }
 

@@ -13,8 +13,7 @@ use crate::row_owners::RowOwners;
 use crate::row_pieces::RowPieces;
 use scm_document::index_pieces::SectionPiece;
 use scm_rows::SectionShape;
-use scm_types::{LineKey, SelectionKey};
-use scm_widgets::ids::ComponentId;
+use scm_types::LineKey;
 
 /// Returns whether `row` lies in `top..end`, and is not `top`.
 fn is_below_top(top: usize, end: usize, row: usize) -> bool
@@ -47,18 +46,6 @@ pub(crate) fn line_among(found: &RowPieces, row: usize) -> Option<LineKey>
     match &found.section {
         None => None,
         Some(section) => line_of_section(section, row),
-    }
-}
-
-/// Returns the owner of `column` on the row of line `key`: its checkbox, or else the line.
-pub(crate) fn owner_on_line(key: LineKey, column: usize) -> ComponentId
-    ensures { result ≡ line_owner key column }
-{
-    let key = SelectionKey::Line(key);
-    if 4 <= column && column < 7 {
-        ComponentId::ToggleBox(key)
-    } else {
-        ComponentId::SelectableItem(key)
     }
 }
 
