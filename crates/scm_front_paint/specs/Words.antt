@@ -9,20 +9,16 @@ use Rattle.scm_types.specs.declared.line.SectionChangedLine.{SectionChangedLine}
 use Rattle.scm_types.specs.declared.section.Section.{Section}
 use Rattle.scm_types.specs.declared.section.Section.TheVariants as sections
 use Rattle.scm_types.specs.declared.keys.LineKey.{LineKey}
-use Rattle.scm_types.specs.declared.keys.SelectionKey.{SelectionKey}
-use Rattle.scm_types.specs.declared.keys.SelectionKey.TheVariants as keys
 use Rattle.scm_cells.specs.Clusters.{text_width}
 use Rattle.scm_cells.specs.Replaced.{line_pieces}
 use Rattle.scm_cells.specs.declared.style.Style.{Style}
 use Rattle.scm_diff.specs.Words.{AreSpans}
 use Rattle.scm_diff.specs.declared.words.WordSpan.{WordSpan}
-use Rattle.scm_widgets.specs.declared.ids.ComponentId.{ComponentId}
-use Rattle.scm_widgets.specs.declared.ids.ComponentId.TheVariants as ids
 use Rattle.scm_document.specs.declared.commit_view.CommitViewMode.{CommitViewMode}
 use Rattle.scm_document.specs.declared.commit_view.CommitViewMode.TheVariants.{Inline, Adjacent}
-use Rattle.scm_record.specs.FrameQueries.{hit}
 use Rattle.scm_record.specs.Frames.{scene_of}
 use Rattle.scm_record.specs.Live.{Live}
+use Rattle.scm_record.specs.ShownLines.{line_on}
 use Rattle.scm_front_paint.specs.declared.words.Columns.{Columns}
 use Rattle.scm_front_paint.specs.Capped.{capped}
 use Rattle.scm_front_paint.specs.Pane.{is_free}
@@ -108,32 +104,6 @@ pub record AreColumns (old new : List ℕ) (is_old : Bool) (columns : List Colum
 
 -- ---- rows
 
--- the line of a component, if it is one
-abbrev pub line_of_key : SelectionKey → Option LineKey
-line_of_key keys.None = None
-line_of_key (keys.File key) = None
-line_of_key (keys.Section key) = None
-line_of_key (keys.Line key) = Some key
-
-abbrev pub line_of : Option ComponentId → Option LineKey
-line_of None = None
-line_of (Some ids.App) = None
-line_of (Some ids.AppFiles) = None
-line_of (Some ids.CommitMessageView) = None
-line_of (Some (ids.CommitEditMessageButton commit)) = None
-line_of (Some ids.MenuBar) = None
-line_of (Some ids.MenuHeader) = None
-line_of (Some (ids.Menu menu)) = None
-line_of (Some (ids.MenuItem item)) = None
-line_of (Some (ids.FileViewHeader key)) = None
-line_of (Some (ids.SelectableItem key)) = line_of_key key
-line_of (Some (ids.ToggleBox key)) = None
-line_of (Some (ids.ExpandBox key)) = None
-line_of (Some ids.HelpDialog) = None
-line_of (Some ids.HelpDialogQuitButton) = None
-line_of (Some ids.QuitDialog) = None
-line_of (Some (ids.QuitDialogButton button)) = None
-
 abbrev pub is_inline : CommitViewMode → Bool
 is_inline Inline = true
 is_inline Adjacent = false
@@ -141,10 +111,6 @@ is_inline Adjacent = false
 -- whether nothing lies over the lines: no dialog and no menu is open, and one commit is shown
 abbrev pub is_bare : Live → Bool
 is_bare l = is_free l && (not (is_some l.session.shown.open_menu) && is_inline l.session.shown.view_mode)
-
--- the line on row `row` of the screen: a click on column 8, where its sign stands, acts on it
-abbrev pub line_on : Live → ℕ → Option LineKey
-line_on l row = line_of (hit (scene_of l.kind l.session) l.session.scroll row 8)
 
 abbrev pub pair_of_line : List File → Option LineKey → Option Pair
 pair_of_line files None = None

@@ -4,14 +4,14 @@ ghost use Rattle.std.specs.List.{list_any};
 ghost use Rattle.std.specs.Str.{IsCharBoundary};
 ghost use Rattle.scm_errors.specs.declared.error.RecordError.TheVariants.{OutOfMemory};
 ghost use Rattle.scm_diff.specs.Words.{AreSpans};
-ghost use Rattle.scm_front_paint.specs.Words.{AreColumns, AreColumnsFor, AreWords, HasBorders, column_of, columns_of_bytes, columns_of_span, has_column, is_bare, is_inline, line_of, line_of_key, line_on, pair_at, pair_in_section, pair_of, pair_of_key, pair_of_kinds, pair_on, set_off, shown_width, with_words};
+ghost use Rattle.scm_front_paint.specs.Words.{AreColumns, AreColumnsFor, AreWords, HasBorders, column_of, columns_of_bytes, columns_of_span, has_column, is_bare, is_inline, pair_at, pair_in_section, pair_of, pair_of_key, pair_of_kinds, pair_on, set_off, shown_width, with_words};
 ghost use Rattle.scm_front_paint.specs.WordsView.{AreFor, columns_in, pair_value};
 
 use crate::line_words::LineWords;
 use scm_diff::{WordSpan, word_spans};
 use scm_record::{
-    ChangeType, CommitViewMode, ComponentId, File, LineKey, LiveSession, RecordError, Section,
-    SectionChangedLine, SelectionKey, Style, push_spans_from_line, text_width,
+    ChangeType, CommitViewMode, File, LineKey, LiveSession, RecordError, Section,
+    SectionChangedLine, Style, push_spans_from_line, text_width,
 };
 use std::alloc::Global;
 
@@ -276,41 +276,6 @@ fn is_bare(session: &LiveSession<'_>) -> bool
     is_free && (!view.open_menu.is_some() && is_inline)
 }
 
-/// Returns the line that `key` names, if it names one.
-fn line_of_key(key: SelectionKey) -> Option<LineKey>
-    ensures { result ≡ line_of_key key }
-{
-    match key {
-        SelectionKey::Line(key) => Some(key),
-        SelectionKey::None | SelectionKey::File(_) | SelectionKey::Section(_) => None,
-    }
-}
-
-/// Returns the line of the component `id`, if it is one.
-fn line_of(id: Option<ComponentId>) -> Option<LineKey>
-    ensures { result ≡ line_of id }
-{
-    match id {
-        Some(ComponentId::SelectableItem(key)) => line_of_key(key),
-        None
-        | Some(ComponentId::App)
-        | Some(ComponentId::AppFiles)
-        | Some(ComponentId::CommitMessageView)
-        | Some(ComponentId::CommitEditMessageButton(_))
-        | Some(ComponentId::MenuBar)
-        | Some(ComponentId::MenuHeader)
-        | Some(ComponentId::Menu(_))
-        | Some(ComponentId::MenuItem(_))
-        | Some(ComponentId::FileViewHeader(_))
-        | Some(ComponentId::ToggleBox(_))
-        | Some(ComponentId::ExpandBox(_))
-        | Some(ComponentId::HelpDialog)
-        | Some(ComponentId::HelpDialogQuitButton)
-        | Some(ComponentId::QuitDialog)
-        | Some(ComponentId::QuitDialogButton(_)) => None,
-    }
-}
-
 /// Returns the pair of the line on row `row` of the screen.
 fn pair_on<'a>(session: &'a LiveSession<'_>, row: usize) -> Option<PairOfLines<'a>>
     ensures { option_map pair_value result ≡ pair_on session.now row }
@@ -318,7 +283,7 @@ fn pair_on<'a>(session: &'a LiveSession<'_>, row: usize) -> Option<PairOfLines<'
     if !is_bare(session) {
         return None;
     }
-    match line_of(session.owner(row, 8)) {
+    match session.line(row) {
         None => None,
         Some(key) => pair_of_key(session.view_state().state.files.as_slice(), key),
     }

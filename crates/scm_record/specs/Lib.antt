@@ -6,6 +6,8 @@ pub mod Frames
 pub mod FreePlaces
 -- queries of the scene: screenshots, hit tests, limits of the scroll
 pub mod FrameQueries
+-- the line that a row of the screen shows
+pub mod ShownLines
 -- the result of an event
 pub mod Change
 -- the help and the quit dialog
