@@ -2,7 +2,7 @@
 use crate::checks::check_equal;
 use crate::sessions::{session_of, waiting_of};
 use scm_record::{
-    Commit, ComponentId, Editing, Event, FileKey, LiveSession, RecordError, RecordState,
+    Commit, ComponentId, Editing, Event, FileKey, LineKey, LiveSession, RecordError, RecordState,
     SelectionKey, TerminalKind, TestingScreenshot, Turn,
 };
 use std::alloc::Global;
@@ -18,6 +18,20 @@ const NARROW: TerminalKind = TerminalKind::Testing {
 const WIDE: TerminalKind = TerminalKind::Testing {
     width: 14,
     height: 2,
+};
+
+/// The size of a screen on which an unfolded file stands.
+const HIGH: TerminalKind = TerminalKind::Testing {
+    width: 20,
+    height: 6,
+};
+
+/// The line of the states.
+const LINE: LineKey = LineKey {
+    commit_idx: 0,
+    file_idx: 0,
+    section_idx: 0,
+    line_idx: 0,
 };
 
 /// The file of the states.
@@ -84,6 +98,31 @@ fn a_session_is_shown_on_each_size(rt: HostRuntime) -> Result<(), RecordError> {
     check_owners(&rt, &session);
     session.resize(WIDE)?;
     check_screen(&rt, &session, WIDE, WIDE_SCREEN)?;
+    Ok(())
+}
+
+/// Checks that row `row` of the screen shows `line`.
+fn check_line(rt: &impl Abort, session: &LiveSession<'_>, row: usize, line: Option<LineKey>) {
+    check_equal(rt, (row, session.line(row)), (row, line));
+}
+
+/// Unfolded, the file has its header on row 1, the header of its section on row 2 and the line on row 3.
+/// The open menu `File` lies over rows 1 and 2, the menu `Edit` over the line too.
+#[test]
+fn a_row_shows_its_line(rt: HostRuntime) -> Result<(), RecordError> {
+    let alloc = rt.alloc();
+    let session = session_of(&rt, alloc, HIGH, "x", "F")?;
+    check_line(&rt, &session, 2, None);
+    check_line(&rt, &session, 3, Some(LINE));
+    check_line(&rt, &session, 4, None);
+    check_line(&rt, &session, 6, None);
+    check_line(
+        &rt,
+        &session_of(&rt, alloc, HIGH, "x", "FA")?,
+        3,
+        Some(LINE),
+    );
+    check_line(&rt, &session_of(&rt, alloc, HIGH, "x", "FB")?, 3, None);
     Ok(())
 }
 
