@@ -1,5 +1,6 @@
 -- The words that differ in two lines.
-use Rattle.std.proofs.Common.{◌≡◌, ℕ, zero, suc, ◌+◌, ◌<◌, List, [], ◌∷◌, ◌++◌, length, map, get_or, sym, ap, ◌∙◌, subst, arith, Option, None, inl, inr}
+use Rattle.std.proofs.Common.{◌≡◌, ℕ, zero, suc, ◌+◌, ◌<◌, Bool, true, false, List, [], ◌∷◌, ◌++◌, length, map, get_or, refl, sym, ap, ◌∙◌, subst, arith, Option, None, Some, inl, inr}
+use Rattle.std.specs.Prelude.{if◌then◌else◌}
 use Rattle.std.proofs.lemmas.Bool.{cases_lt}
 use Rattle.std.proofs.lemmas.List.{get_or_append_left, get_or_push, get_or-map, length-map, length_push}
 use Rattle.scm_diff.specs.Words.{AreSpans, AreSpansFrom}
@@ -8,7 +9,9 @@ use Rattle.scm_front_paint.specs.declared.words.Columns.{Columns}
 use Rattle.scm_front_paint.specs.LineValue.{LineValue}
 use Rattle.scm_record.specs.Frames.{scene_of}
 use Rattle.scm_record.specs.Live.{Live}
-use Rattle.scm_front_paint.specs.Words.{AreColumnsFor, AreWords, HasBorders, pair_on}
+use Rattle.scm_record.specs.ShownLines.{line_on}
+use Rattle.scm_types.specs.declared.keys.LineKey.{LineKey}
+use Rattle.scm_front_paint.specs.Words.{AreColumnsFor, AreWords, HasBorders, files_with_pairs, is_bare, pair_of_line, pair_on}
 use Rattle.scm_front_paint.specs.WordsView.{columns_in}
 
 borders-from : (old new : List ℕ) (i j : ℕ) (spans : List WordSpan) (d : WordSpan) → AreSpansFrom old new i j spans → (k : ℕ) → k < length spans → HasBorders old new (get_or spans k d)
@@ -26,6 +29,15 @@ pub borders : (old new : List ℕ) (spans : List WordSpan) (d : WordSpan) → Ar
 borders old new spans d are k h = borders-from old new 0 0 spans d are k h
 
 -- ---- rows
+
+-- the pair of a line, among the files that have pairs
+pub pair-is : (l : Live) (row : ℕ) → pair_of_line (files_with_pairs l) (line_on l row) ≡ pair_on l row
+pair-is l row = go (is_bare l) (line_on l row)
+  where
+    go : (b : Bool) (line : Option LineKey) → pair_of_line (if b then l.session.shown.state.files else []) line ≡ (if b then pair_of_line l.session.shown.state.files line else None)
+    go true line = refl
+    go false None = refl
+    go false (Some key) = refl
 
 -- a row more
 pub more-rows : (l : Live) (old new : List (Option LineValue)) (x : Option LineValue) (row : ℕ) → new ≡ old ++ x ∷ [] → length old ≡ row

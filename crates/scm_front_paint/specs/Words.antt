@@ -116,6 +116,10 @@ abbrev pub pair_of_line : List File → Option LineKey → Option Pair
 pair_of_line files None = None
 pair_of_line files (Some key) = pair_of_key files key
 
+-- the files whose lines have pairs: none if something lies over the lines
+abbrev pub files_with_pairs : Live → List File
+files_with_pairs l = if is_bare l then l.session.shown.state.files else []
+
 -- the pair of the line on row `row` of the screen
 abbrev pub pair_on : Live → ℕ → Option Pair
 pair_on l row = if is_bare l then pair_of_line l.session.shown.state.files (line_on l row) else None

@@ -1,9 +1,12 @@
 -- What the code's values of words represent.
-use Rattle.std.specs.Prelude.{◌≡◌, List, [], Option, Some, None}
+use Rattle.std.specs.Prelude.{◌≡◌, ◌+◌, ◌<◌, ◌^◌, ℕ, List, [], IfSome, Option, Some, None}
+use Rattle.scm_record.specs.Live.{Live}
+use Rattle.scm_record.specs.ShownLines.{line_after, line_on}
 use Rattle.scm_front_paint.specs.Words.{Pair}
 use Rattle.scm_front_paint.specs.LineValue.{LineValue}
 use Rattle.scm_front_paint.specs.declared.words.Columns.{Columns}
 use Rattle.scm_front_paint.specs.declared.words.PairOfLines.{PairOfLines}
+use Rattle.scm_front_paint.specs.declared.words.Stretch.{Stretch}
 
 -- the pair of the code's value
 abbrev pub pair_value : PairOfLines → Pair
@@ -19,3 +22,8 @@ pub record AreFor (words : LineValue) (pair : Pair) : Type 0 where
   pub old : words.old ≡ pair.old
   pub new : words.new ≡ pair.new
   pub is_old : words.is_old ≡ pair.is_old
+
+-- the rows of a stretch show its lines
+pub record IsStretch (l : Live) (s : Stretch) : Type 0 where
+  pub lines : (n : ℕ) → n < s.lines.rows → line_on l (s.top + n) ≡ line_after s.lines n
+  pub low : (n : ℕ) → n < s.lines.rows → IfSome s.lines.first (λ first. first.line_idx + n < 2 ^ 64)

@@ -1,17 +1,17 @@
 //! The words that differ in a removed line and the added line that replaces it.
-ghost use Rattle.std.specs.Prelude.{◌≡◌, [], IfErr, IfOk, IsTrue, map, option_map, slice_index_or, string_bytes};
+ghost use Rattle.std.specs.Prelude.{◌≡◌, ◌-◌, ◌<◌, ◌≤◌, [], IfErr, IfOk, IsTrue, map, option_map, slice_index_or, string_bytes};
 ghost use Rattle.std.specs.List.{list_any};
 ghost use Rattle.std.specs.Str.{IsCharBoundary};
 ghost use Rattle.scm_errors.specs.declared.error.RecordError.TheVariants.{OutOfMemory};
 ghost use Rattle.scm_diff.specs.Words.{AreSpans};
-ghost use Rattle.scm_front_paint.specs.Words.{AreColumns, AreColumnsFor, AreWords, HasBorders, column_of, columns_of_bytes, columns_of_span, has_column, is_bare, is_inline, pair_at, pair_in_section, pair_of, pair_of_key, pair_of_kinds, pair_on, set_off, shown_width, with_words};
-ghost use Rattle.scm_front_paint.specs.WordsView.{AreFor, columns_in, pair_value};
+ghost use Rattle.scm_front_paint.specs.Words.{AreColumns, AreColumnsFor, AreWords, HasBorders, column_of, columns_of_bytes, columns_of_span, files_with_pairs, has_column, is_bare, is_inline, pair_at, pair_in_section, pair_of, pair_of_key, pair_of_kinds, pair_of_line, set_off, shown_width, with_words};
+ghost use Rattle.scm_front_paint.specs.WordsView.{AreFor, IsStretch, columns_in, pair_value};
 
 use crate::line_words::LineWords;
 use scm_diff::{WordSpan, word_spans};
 use scm_record::{
     ChangeType, CommitViewMode, File, LineKey, LiveSession, RecordError, Section,
-    SectionChangedLine, Style, push_spans_from_line, text_width,
+    SectionChangedLine, ShownLines, Style, push_spans_from_line, text_width,
 };
 use std::alloc::Global;
 
@@ -276,32 +276,76 @@ fn is_bare(session: &LiveSession<'_>) -> bool
     is_free && (!view.open_menu.is_some() && is_inline)
 }
 
-/// Returns the pair of the line on row `row` of the screen.
-fn pair_on<'a>(session: &'a LiveSession<'_>, row: usize) -> Option<PairOfLines<'a>>
-    ensures { option_map pair_value result ≡ pair_on session.now row }
+/// Returns the files whose lines have pairs: those of `session`, or none if something lies over the lines.
+fn files_with_pairs<'a, 'state>(session: &'a LiveSession<'state>) -> &'a [File<'state>]
+    ensures { result.now ≡ files_with_pairs session.now }
 {
-    if !is_bare(session) {
-        return None;
-    }
-    match session.line(row) {
-        None => None,
-        Some(key) => pair_of_key(session.view_state().state.files.as_slice(), key),
+    if is_bare(session) {
+        session.view_state().state.files.as_slice()
+    } else {
+        &[]
     }
 }
 
-/// Returns what is set off on row `row` of the screen: what is in `kept`, if that was found for the line on
+/// Lines that rows of a screen show, and the first of these rows, counted from 0.
+#[derive(Clone, Copy)]
+struct Stretch {
+    /// The first row.
+    top: usize,
+    /// The lines from there on.
+    lines: ShownLines,
+}
+
+/// Returns the lines that rows of the screen of `session` show from row `row` on.
+fn stretch_from(session: &LiveSession<'_>, row: usize) -> Stretch
+    ensures stretch { IsStretch session.now result }
+    ensures top { result.top ≡ row }
+    ensures some { 0 < result.lines.rows }
+{
+    Stretch {
+        top: row,
+        lines: session.lines_from(row),
+    }
+}
+
+/// Returns the lines of a stretch of rows of the screen of `session` that has row `row`: `last`, if that has
 /// it.
-fn words_on(
+fn stretch_on(session: &LiveSession<'_>, last: Stretch, row: usize) -> Stretch
+    requires stretch { IsStretch session.now last }
+    requires top { last.top ≤ row }
+    ensures stretch { IsStretch session.now result }
+    ensures top { result.top ≤ row }
+    ensures row { row - result.top < result.lines.rows }
+{
+    if row - last.top < last.lines.rows {
+        last
+    } else {
+        stretch_from(session, row)
+    }
+}
+
+/// Returns the pair of `line` of `files`, if it is a line that has one.
+fn pair_of_line<'a>(files: &'a [File<'_>], line: Option<LineKey>) -> Option<PairOfLines<'a>>
+    ensures { option_map pair_value result ≡ pair_of_line files.now line }
+{
+    match line {
+        None => None,
+        Some(key) => pair_of_key(files, key),
+    }
+}
+
+/// Returns what is set off in the line of `pair` that is meant, if there is a pair: what is in `kept`, if
+/// that was found for it.
+fn words_with(
     alloc: Global,
-    session: &LiveSession<'_>,
-    row: usize,
+    pair: Option<PairOfLines<'_>>,
     kept: &mut [Option<LineWords>],
 ) -> Result<Option<LineWords>, RecordError>
     ensures ok { IfOk result (λ words.
-        AreColumnsFor (pair_on session.now row) (columns_in words)) }
+        AreColumnsFor (option_map pair_value pair.entry) (columns_in words)) }
     ensures err { IfErr result (λ e. e ≡ OutOfMemory) }
 {
-    match pair_on(session, row) {
+    match pair {
         None => Ok(None),
         Some(pair) => Ok(Some(words_for(alloc, kept, pair)?)),
     }
@@ -317,10 +361,15 @@ pub(crate) fn words_of(
     ensures err { IfErr result (λ e. e ≡ OutOfMemory) }
 {
     let mut kept = kept;
+    let files = files_with_pairs(session);
     let height = session.grid().height();
     let mut words = Vec::with_capacity(alloc, height)?;
+    let mut stretch = stretch_from(session, 0);
     for row in 0..height {
-        words.push(words_on(alloc, session, row, kept.as_mut_slice())?)?;
+        stretch = stretch_on(session, stretch, row);
+        let line = stretch.lines.line(row - stretch.top);
+        let pair = pair_of_line(files, line);
+        words.push(words_with(alloc, pair, kept.as_mut_slice())?)?;
     }
     Ok(words)
 }

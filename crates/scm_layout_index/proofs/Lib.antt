@@ -22,3 +22,5 @@ pub mod RowOwnerLemmas
 pub mod ShownLineLemmas
 -- where a run of columns ends
 pub mod OwnerRunLemmas
+-- the lines that rows show one below the other
+pub mod LineRowLemmas

@@ -6,6 +6,8 @@ pub mod SharedRows
 pub mod FrameRows
 -- the changed line that a row shows
 pub mod ShownLines
+-- lines that rows show one below the other
+pub mod LineRows
 -- runs of columns that have the same owner
 pub mod OwnerRuns
 -- the index by a layout, and what it answers

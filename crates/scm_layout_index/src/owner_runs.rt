@@ -97,6 +97,22 @@ fn found_end(width: usize, owners: &RowOwners, column: usize) -> usize
     }
 }
 
+/// Returns the end of a run from `place` on of the places before `end`: all in `first..first + size`, or all
+/// beside it.
+pub(crate) fn stretch_end(first: isize, size: usize, place: usize, end: usize) -> usize
+    requires place { place < end }
+    requires end { end < 2 ^ 63 }
+    ensures { IsRun (is_within first size) end place result }
+{
+    let start = gap(0, first);
+    let left = size.saturating_sub(gap(first, 0));
+    end_before(
+        place,
+        start,
+        end_before(place, start.saturating_add(left), end),
+    )
+}
+
 /// Returns the end of a run from `column` on of the columns before `end`: all in `rect`, or all beside
 /// it.
 pub fn rect_end(rect: Rect, column: usize, end: usize) -> usize
@@ -104,13 +120,7 @@ pub fn rect_end(rect: Rect, column: usize, end: usize) -> usize
     requires end { end < 2 ^ 63 }
     ensures { IsRun (is_within rect.x rect.width) end column result }
 {
-    let start = gap(0, rect.x);
-    let left = rect.width.saturating_sub(gap(rect.x, 0));
-    end_before(
-        column,
-        start,
-        end_before(column, start.saturating_add(left), end),
-    )
+    stretch_end(rect.x, rect.width, column, end)
 }
 
 /// Returns the end of a run from `column` on of the columns before `end` on row `row`: all in `placed`,

@@ -2,7 +2,7 @@
 ghost use Rattle.std.specs.Prelude.{◌≡◌, false, IfOk};
 ghost use Rattle.scm_layout.specs.SectionStack.{shapes_of};
 ghost use Rattle.scm_layout_index.specs.FrameRows.{AreSectionsBut, is_named};
-ghost use Rattle.scm_layout_index.specs.RowPieces.{piece_of_key, pieces_on};
+ghost use Rattle.scm_layout_index.specs.RowPieces.{RowsFit, piece_of_key, pieces_on};
 ghost use Rattle.scm_layout_index.specs.SharedRows.{AreRowsOfState};
 
 use crate::key_pieces::piece_of_key;
@@ -147,7 +147,8 @@ impl SharedRows {
 
     /// Returns the rows.
     pub(crate) fn layout_rows(&self) -> &StateRows
-        ensures { result.now ≡ self.now }
+        ensures rows { result.now ≡ self.now }
+        ensures fit { RowsFit result.now.files }
     {
         self.rows.as_ref()
     }

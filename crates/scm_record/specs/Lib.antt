@@ -8,6 +8,8 @@ pub mod FreePlaces
 pub mod FrameQueries
 -- the line that a row of the screen shows
 pub mod ShownLines
+-- the lines of several rows
+pub mod FrameLines
 -- the result of an event
 pub mod Change
 -- the help and the quit dialog

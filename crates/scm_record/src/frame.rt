@@ -1,5 +1,5 @@
 //! The frame last drawn: the screen, and where each component was drawn on it.
-ghost use Rattle.std.specs.Prelude.{◌≡◌, ℕ, ◌<◌, ◌≤◌, ◌+◌, ◌^◌, ◌&&◌, nat_le, nat_lt, true, false, IfErr, IfOk, IsTrue, OnOk, Some, length, min, string_bytes};
+ghost use Rattle.std.specs.Prelude.{◌≡◌, ℕ, ◌<◌, ◌≤◌, ◌+◌, ◌^◌, ◌&&◌, nat_le, nat_lt, true, false, IfErr, IfOk, IfSome, IsTrue, OnOk, Some, length, min, string_bytes};
 ghost use Rattle.scm_render.specs.Picture.{PictureInRange, part};
 ghost use Rattle.scm_errors.specs.declared.error.RecordError.TheVariants.{OutOfMemory};
 ghost use Rattle.scm_types.specs.Limits.{is_accepted_state, max_scroll};
@@ -11,16 +11,19 @@ ghost use Rattle.scm_view.specs.Window.{rows_of_box, window};
 ghost use Rattle.scm_view.specs.Frame.{frame_of_document, frame_of_view, is_plain, picture_of};
 ghost use Rattle.scm_layout.specs.Layouts.{layout_of};
 ghost use Rattle.scm_layout_index.specs.LayoutIndex.{AreRowsOf, IsInline};
+ghost use Rattle.scm_layout_index.specs.LineRows.{line_below};
 ghost use Rattle.scm_layout_index.specs.SharedRows.{AreRowsOfState};
+ghost use Rattle.scm_layout_index.specs.declared.line_rows.LineRows.{LineRows as Lines};
 ghost use Rattle.scm_record.specs.Frames.{HasSize, IsMapOf, IsSceneOf, KnowsPlaces, KnowsRow, Scene, is_indexed, scene_of};
 ghost use Rattle.scm_record.specs.Session.{Session};
+ghost use Rattle.scm_record.specs.FrameLines.{first_rows};
 ghost use Rattle.scm_record.specs.FrameQueries.{scroll_to_show, limited_scroll, hit, free_rows_above, scroll_to_rows, scroll_to_span, shot_of, top_in};
 
 use crate::free_places::FreePlaces;
 use scm_cells::{Grid, Rect};
 use scm_input::TerminalKind;
 use scm_layout::{Layout, StateRows};
-use scm_layout_index::{LayoutIndex, OwnerRun, RowOwners, SharedRows, span_of_key};
+use scm_layout_index::{LayoutIndex, LineRows, OwnerRun, RowOwners, SharedRows, span_of_key};
 use scm_render::{DrawnRects, Viewport};
 use scm_types::{LineKey, RecordError, RecordState};
 use scm_view::{AppView, CommitViewMode, ComponentId, SelectionKey, laws};
@@ -46,6 +49,19 @@ pub(crate) struct DrawnFrame {
     places: Places,
     /// The index of the menu that was open, if any.
     open_menu: Option<usize>,
+}
+
+/// Returns `lines` on the first `most` of their rows.
+fn first_rows(lines: Option<LineRows>, most: usize) -> Option<LineRows>
+    ensures { result ≡ first_rows lines most }
+{
+    match lines {
+        None => None,
+        Some(lines) => Some(LineRows {
+            first: lines.first,
+            rows: lines.rows.min(most),
+        }),
+    }
 }
 
 /// Clears `grid`, draws `view` on it and returns the box of each component. The first row of the
@@ -435,6 +451,39 @@ impl DrawnFrame {
         match &self.places {
             Places::Plain(index) => match owners {
                 Some(found) => index.line_on(found),
+                None => None,
+            },
+            Places::Free(_) => None,
+        }
+    }
+
+    /// Returns the changed line that `row` of the screen shows, if it shows one and nothing lies over it, and
+    /// how many rows of the screen from there on show it and the lines that follow, while the screen is
+    /// scrolled to row `scroll` of the document. `owners` are those of the row, if they were found. Returns
+    /// `None` if the screen has fewer than `columns` columns.
+    pub(crate) fn lines_among(
+        &self,
+        owners: &Option<RowOwners>,
+        scroll: usize,
+        row: usize,
+        columns: usize,
+    ) -> Option<LineRows>
+        requires { KnowsRow owners.now self.now.places (scroll + row) }
+        ensures some { IfSome result (λ lines. 0 < lines.rows) }
+        ensures low { IfSome result (λ lines. lines.first.line_idx + lines.rows < 2 ^ 64) }
+        ensures hits { (scene : Scene) → IsSceneOf scene self.now → (lines : Lines)
+            → result ≡ Some lines → (n : ℕ) → n < lines.rows → (x : ℕ) → x < columns
+            → hit scene scroll (row + n) x ≡ Some (line_owner (line_below lines.first n) x) }
+    {
+        if self.grid.width() < columns {
+            return None;
+        }
+        if !self.has_row(scroll, row) {
+            return None;
+        }
+        match &self.places {
+            Places::Plain(index) => match owners {
+                Some(found) => first_rows(index.lines_on(found), self.grid.height() - row),
                 None => None,
             },
             Places::Free(_) => None,

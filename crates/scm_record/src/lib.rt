@@ -16,6 +16,7 @@ mod session;
 pub use live::Editing;
 pub use live::LiveSession;
 pub use live::Turn;
+pub use live::lines::ShownLines;
 pub use pages::Way;
 pub use recorder::Recorder;
 pub use scm_cells::Clusters;

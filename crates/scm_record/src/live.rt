@@ -25,7 +25,7 @@ ghost use Rattle.scm_types.specs.declared.state.RecordState.{RecordState};
 
 pub mod batches;
 pub mod jumps;
-mod lines;
+pub mod lines;
 mod marked;
 mod painted;
 pub mod typed;

@@ -3,7 +3,7 @@ use crate::checks::check_equal;
 use crate::sessions::{session_of, waiting_of};
 use scm_record::{
     Commit, ComponentId, Editing, Event, FileKey, LineKey, LiveSession, RecordError, RecordState,
-    SelectionKey, TerminalKind, TestingScreenshot, Turn,
+    SelectionKey, ShownLines, TerminalKind, TestingScreenshot, Turn,
 };
 use std::alloc::Global;
 use std::process::Abort;
@@ -101,28 +101,43 @@ fn a_session_is_shown_on_each_size(rt: HostRuntime) -> Result<(), RecordError> {
     Ok(())
 }
 
-/// Checks that row `row` of the screen shows `line`.
-fn check_line(rt: &impl Abort, session: &LiveSession<'_>, row: usize, line: Option<LineKey>) {
-    check_equal(rt, (row, session.line(row)), (row, line));
+/// Checks that the screen shows line `line` on row `row`, if any, and the lines that follow on the rows
+/// below it: on `rows` rows.
+fn check_lines(
+    rt: &impl Abort,
+    session: &LiveSession<'_>,
+    row: usize,
+    line: Option<usize>,
+    rows: usize,
+) {
+    let shown = session.lines_from(row);
+    let first = line.map(|line_idx| LineKey { line_idx, ..LINE });
+    check_equal(rt, (row, shown), (row, ShownLines { first, rows }));
+    let next = line.map(|line_idx| LineKey {
+        line_idx: line_idx + 1,
+        ..LINE
+    });
+    check_equal(rt, (row, shown.line(1)), (row, next));
 }
 
-/// Unfolded, the file has its header on row 1, the header of its section on row 2 and the line on row 3.
-/// The open menu `File` lies over rows 1 and 2, the menu `Edit` over the line too.
+/// Unfolded, the file has its header on row 1, the header of its section on row 2, and its lines from
+/// row 3 on; the screen shows three of them. The menu `Edit` lies over rows 1 to 5.
 #[test]
-fn a_row_shows_its_line(rt: HostRuntime) -> Result<(), RecordError> {
+fn rows_show_lines(rt: HostRuntime) -> Result<(), RecordError> {
     let alloc = rt.alloc();
-    let session = session_of(&rt, alloc, HIGH, "x", "F")?;
-    check_line(&rt, &session, 2, None);
-    check_line(&rt, &session, 3, Some(LINE));
-    check_line(&rt, &session, 4, None);
-    check_line(&rt, &session, 6, None);
-    check_line(
+    let session = session_of(&rt, alloc, HIGH, "t", "F")?;
+    check_lines(&rt, &session, 2, None, 1);
+    check_lines(&rt, &session, 3, Some(0), 3);
+    check_lines(&rt, &session, 5, Some(2), 1);
+    check_lines(&rt, &session, 6, None, 1);
+    check_lines(
         &rt,
-        &session_of(&rt, alloc, HIGH, "x", "FA")?,
+        &session_of(&rt, alloc, HIGH, "t", "FA")?,
         3,
-        Some(LINE),
+        Some(0),
+        3,
     );
-    check_line(&rt, &session_of(&rt, alloc, HIGH, "x", "FB")?, 3, None);
+    check_lines(&rt, &session_of(&rt, alloc, HIGH, "t", "FB")?, 3, None, 1);
     Ok(())
 }
 

@@ -1,8 +1,8 @@
 //! The lines that the rows of a live session's screen show.
-ghost use Rattle.std.specs.Prelude.{◌≡◌};
+ghost use Rattle.std.specs.Prelude.{◌≡◌, ℕ, ◌+◌, ◌<◌, ◌^◌, IfSome};
 ghost use Rattle.scm_record.specs.FrameQueries.{hit};
 ghost use Rattle.scm_record.specs.Frames.{IsSceneOf, Scene};
-ghost use Rattle.scm_record.specs.ShownLines.{line_of, line_of_key, line_on};
+ghost use Rattle.scm_record.specs.ShownLines.{line_after, line_of, line_of_key, line_on};
 
 use crate::frame::DrawnFrame;
 use crate::live::LiveSession;
@@ -44,25 +44,63 @@ fn line_of(id: Option<ComponentId>) -> Option<LineKey>
     }
 }
 
-/// Returns the line on row `row` of the screen, counted from 0, while the screen shows `frame`, scrolled to
-/// row `scroll` of the document.
-fn line_of_row(frame: &DrawnFrame, scroll: usize, row: usize) -> Option<LineKey>
-    ensures { (scene : Scene) → IsSceneOf scene frame.now
-        → result ≡ line_of (hit scene scroll row 8) }
+/// The lines that rows of a screen show, from a row on.
+#[derive(Clone, Copy, Debug, PartialEq, Eq)]
+pub struct ShownLines {
+    /// The line that the first of the rows shows, if any. The rows below it show those that follow in its
+    /// section.
+    pub first: Option<LineKey>,
+    /// The number of rows, at least 1.
+    pub rows: usize,
+}
+
+impl ShownLines {
+    /// Returns the line on row `below` of these rows, counted from 0, if they show lines.
+    pub fn line(self, below: usize) -> Option<LineKey>
+        requires { IfSome self.first (λ first. first.line_idx + below < 2 ^ 64) }
+        ensures { result ≡ line_after self below }
+    {
+        match self.first {
+            None => None,
+            Some(first) => Some(first.section().line(first.line_idx + below)),
+        }
+    }
+}
+
+/// Returns the lines that rows of the screen show from row `row` on, counted from 0, while the screen shows
+/// `frame`, scrolled to row `scroll` of the document.
+fn lines_of_rows(frame: &DrawnFrame, scroll: usize, row: usize) -> ShownLines
+    ensures some { 0 < result.rows }
+    ensures low { (n : ℕ) → n < result.rows
+        → IfSome result.first (λ first. first.line_idx + n < 2 ^ 64) }
+    ensures lines { (scene : Scene) → IsSceneOf scene frame.now → (n : ℕ) → n < result.rows
+        → line_of (hit scene scroll (row + n) 8) ≡ line_after result n }
 {
     let owners = frame.row_owners(scroll, row);
-    match frame.line_among(&owners, scroll, row, 9) {
-        None => line_of(frame.run_among(&owners, scroll, row, 8).owner),
-        Some(key) => Some(key),
+    match frame.lines_among(&owners, scroll, row, 9) {
+        None => ShownLines {
+            first: line_of(frame.run_among(&owners, scroll, row, 8).owner),
+            rows: 1,
+        },
+        Some(lines) => ShownLines {
+            first: Some(lines.first),
+            rows: lines.rows,
+        },
     }
 }
 
 impl<'state> LiveSession<'state> {
-    /// Returns the line that row `row` of the screen shows, counted from 0, if nothing lies over it: a click
-    /// on column 8 of the row, where the sign of a changed line stands, acts on that line.
-    pub fn line(&self, row: usize) -> Option<LineKey>
-        ensures { result ≡ line_on self.now row }
+    /// Returns the line that row `row` of the screen shows, if nothing lies over it, and how many rows from
+    /// there on show it and the lines that follow in its section. Rows are counted from 0.
+    ///
+    /// A row shows a line if a click on column 8, where the sign of a changed line stands, acts on that line.
+    pub fn lines_from(&self, row: usize) -> ShownLines
+        ensures some { 0 < result.rows }
+        ensures low { (n : ℕ) → n < result.rows
+            → IfSome result.first (λ first. first.line_idx + n < 2 ^ 64) }
+        ensures lines { (n : ℕ) → n < result.rows
+            → line_on self.now (row + n) ≡ line_after result n }
     {
-        line_of_row(&self.frame, self.session.scroll(), row)
+        lines_of_rows(&self.frame, self.session.scroll(), row)
     }
 }

@@ -14,7 +14,7 @@ use Rattle.scm_layout_index.proofs.layout_index.LayoutIndex.new.Goals as goal
 
 pub push_pinned_on-requires-clause-follow : goal.push_pinned_on-requires-clause-follow
 push_pinned_on-requires-clause-follow c =
-    rw (c.as_slice.ensures, c.layout_rows.ensures) (own-follow c.args.rows c.args.view_state.now c.requires.shown.accepted c.requires.rows)
+    rw (c.as_slice.ensures, c.layout_rows.ensures.rows) (own-follow c.args.rows c.args.view_state.now c.requires.shown.accepted c.requires.rows)
 
 pub push_rects-requires-clause-screen : goal.push_rects-requires-clause-screen
 push_rects-requires-clause-screen c =
@@ -51,7 +51,7 @@ returns-clause-ok c =
     let same = c.view_state.view_is in
     let m0 = rw c.new-rects.ensures.items at c.in_ok-message.ensures.ok in
     let e0 = m0 ∙ ap (λ (v : ViewState). message_rects 0 (is_some (commit_at 0 v.state.commits).message)) same in
-    let e1 = rw (c.from-columns.ensures, c.as_slice.ensures, c.layout_rows.ensures) at c.in_ok-push_pinned_on.ensures.ok in
+    let e1 = rw (c.from-columns.ensures, c.as_slice.ensures, c.layout_rows.ensures.rows) at c.in_ok-push_pinned_on.ensures.ok in
     let e2 = rw (c.screen-screen.ensures, c.requires.bar) at c.in_ok-bar.ensures.ok in
     let m3 = rw c.screen-screen.ensures at c.in_ok-quit.ensures.ok in
     let e3 = m3 ∙ ap (λ (v : ViewState). c.push_rects.new.rects.items ++ quit_dialog_rects (screen w h s) v.quit_dialog) same in
@@ -60,8 +60,8 @@ returns-clause-ok c =
     let run = rw (c.joined_with.ensures, c.joined.ensures, c.document_run-document.ensures, c.saturating_sub-below.ensures, c.from.ensures) at c.joined_with-run.ensures in
     let bar = rw c.requires.bar at c.in_ok-bar.ensures.rows in
     let message = c.in_ok-message.ensures.rows ∙ ap (λ (v : ViewState). message_height (commit_at 0 v.state.commits).message) same in
-    let empty = rw c.layout_rows.ensures at c.is_empty.ensures in
-    let end = rw c.layout_rows.ensures at c.end_of_files-end.ensures in
+    let empty = rw c.layout_rows.ensures.rows at c.is_empty.ensures in
+    let end = rw c.layout_rows.ensures.rows at c.end_of_files-end.ensures in
     let quit = (rw c.screen-screen.ensures at c.in_ok-quit.ensures.rows) ∙ ap (λ (v : ViewState). option_map (λ q. dialog_run (screen w h s) (quit_dialog q)) v.quit_dialog) same in
     let help = (rw c.screen-screen.ensures at c.in_ok-help.ensures.rows) ∙ ap (λ (v : ViewState). if v.is_help_open then Some (dialog_run (screen w h s) help_dialog) else None) same in
     record {

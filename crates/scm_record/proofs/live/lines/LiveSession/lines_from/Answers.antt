@@ -1,0 +1,11 @@
+use Rattle.std.proofs.Common.{ℕ, Option, ap, sym, ◌+◌, ◌∙◌}
+use Rattle.scm_record.specs.Frames.{scene_of}
+use Rattle.scm_record.specs.FrameQueries.{hit}
+use Rattle.scm_record.specs.ShownLines.{line_of}
+use Rattle.scm_record.proofs.live.lines.LiveSession.lines_from.Goals as goal
+
+pub returns-clause-lines : goal.returns-clause-lines
+returns-clause-lines c =
+    let seen = scene_of c.self.inside.kind c.self.inside.session in
+    rw (sym c.self.view_is) (λ n within.
+    ap (λ (s : ℕ). line_of (hit seen s (c.args.row + n) 8)) (sym c.scroll.ensures) ∙ c.lines_of_rows.ensures.lines seen c.self.invariant.shown n within)
