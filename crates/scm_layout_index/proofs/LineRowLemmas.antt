@@ -89,6 +89,10 @@ module _ {A : Type 0} (top end : A → ℕ) (row y : ℕ) (down : row ≤ y) whe
           both true q = q
           both false q = q
 
+  -- the first element has index 0
+  same-found : (t k : ℕ) (xs : List A) (a : A) → FollowFrom top end t xs → index_on top end row 0 xs ≡ Some k → slice_get xs k ≡ Some a → y < end a → index_on top end y 0 xs ≡ Some k
+  same-found t k xs a h e at above = let from : k ≡ 0 + k = omega arith in same-index t 0 k xs a h (e ∙ ap Some from) at above ∙ ap Some (sym from)
+
 -- ---- the pieces of a row further down in the same section
 
 module _ (selection : SelectionKey) (m : ℕ) where
@@ -130,7 +134,7 @@ module _ (selection : SelectionKey) (m : ℕ) where
       let end : s.end ≡ r.top + 1 + p.rows.end = ap (λ (q : SectionPiece). q.end) p.is in
       let under = p.below in
       let low : nat_le y r.top ≡ false = grind (arith, nat_tests) in
-      let on = same-index (λ (q : SectionRows). q.top) (λ (q : SectionRows). q.end) (row - (r.top + 1)) (y - (r.top + 1)) (omega arith) fit.follow.top 0 p.index r.sections p.rows fit.follow.follow p.on p.at (omega arith) in
+      let on = same-found (λ (q : SectionRows). q.top) (λ (q : SectionRows). q.end) (row - (r.top + 1)) (y - (r.top + 1)) (omega arith) fit.follow.top p.index r.sections p.rows fit.follow.follow p.on p.at (omega arith) in
       let at = p.at in
       rw (low, on, at) (ap Some (sym p.is))
 
@@ -164,7 +168,7 @@ module _ (selection : SelectionKey) (m : ℕ) where
       let end : p.file.end ≡ o.rows.end = ap (λ (q : RowPieces). q.file.end) o.is in
       let section : section_in selection o.index o.rows row ≡ Some s = sym (ap (λ (q : RowPieces). q.section) o.is) ∙ own in
       let below : section_in selection o.index o.rows y ≡ Some s = same-section o.index o.rows row y s (fit.sections o.index o.rows o.at) section down in_section in
-      let on = same-index (λ (r : FileRows). r.top) (λ (r : FileRows). r.end) row y down fit.follow.top 0 o.index rs o.rows fit.follow.follow o.on o.at (omega arith) in
+      let on = same-found (λ (r : FileRows). r.top) (λ (r : FileRows). r.end) row y down fit.follow.top o.index rs o.rows fit.follow.follow o.on o.at (omega arith) in
       let at = o.at in
       let same : section_in selection o.index o.rows y ≡ section_in selection o.index o.rows row = below ∙ sym section in
       rw (on, at) (ap (λ (q : Option SectionPiece). Some (record { file = file_of_rows m o.index o.rows; section = q })) same ∙ ap Some (sym o.is))

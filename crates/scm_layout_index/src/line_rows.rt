@@ -4,6 +4,7 @@ ghost use Rattle.scm_layout_index.specs.declared.line_rows.LineRows.{LineRows as
 ghost use Rattle.scm_document.specs.PieceOwners.{line_owner};
 ghost use Rattle.scm_view.specs.ViewState.{ViewState};
 ghost use Rattle.scm_view.specs.Window.{owner};
+ghost use Rattle.scm_widgets.specs.Layers.{is_within};
 ghost use Rattle.scm_widgets.specs.OverlayRects.{have_row};
 ghost use Rattle.scm_layout_index.specs.LayoutIndex.{AreRowOwners, IsLayoutIndexOf};
 ghost use Rattle.scm_layout_index.specs.OwnerRuns.{IsRun};
@@ -45,6 +46,16 @@ fn end_of_pieces(found: &Option<RowPieces>) -> usize
     }
 }
 
+/// Returns the end of a run from `row` on of the rows before `end`: `placed` lies over all of them, or over
+/// none.
+fn placed_rows_end(placed: OverlayRect, row: usize, end: usize) -> usize
+    requires row { row < end }
+    requires end { end < 2 ^ 63 }
+    ensures { IsRun (is_within placed.rect.y placed.rect.height) end row result }
+{
+    stretch_end(placed.rect.y, placed.rect.height, row, end)
+}
+
 /// Returns the end of a run from `row` on of the rows before `end`: over all of them lies one of `rects`,
 /// or over none.
 fn overlaid_end(rects: &[OverlayRect], row: usize, end: usize) -> usize
@@ -54,7 +65,7 @@ fn overlaid_end(rects: &[OverlayRect], row: usize, end: usize) -> usize
 {
     let mut left = end;
     for placed in rects {
-        left = stretch_end(placed.rect.y, placed.rect.height, row, left);
+        left = placed_rows_end(*placed, row, left);
     }
     left
 }

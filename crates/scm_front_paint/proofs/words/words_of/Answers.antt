@@ -20,10 +20,10 @@ loop-row-preserved c =
     let place : s.top + (row - s.top) ≡ row = let low = c.stretch_on.ensures.top in omega arith in
     let line : line_on l row ≡ c.line.result = subst (λ (n : ℕ). line_on l n ≡ c.line.result) place (c.stretch_on.ensures.stretch.lines (row - s.top) c.stretch_on.ensures.row ∙ sym c.line.ensures) in
     let pair : option_map pair_value c.pair_of_line-pair.result ≡ pair_on l row =
-        c.pair_of_line-pair.ensures
-        ∙ ap (λ (files : List File). pair_of_line files c.line.result) c.files_with_pairs-files.ensures
-        ∙ ap (λ (k : Option LineKey). pair_of_line _ k) (sym line)
-        ∙ pair-is l row in
+    c.pair_of_line-pair.ensures
+    ∙ ap (λ (files : List File). pair_of_line files c.line.result) c.files_with_pairs-files.ensures
+    ∙ ap (λ (k : Option LineKey). pair_of_line _ k) (sym line)
+    ∙ pair-is l row in
     record {
       many = ap length new ∙ length_push c.loop-row.words.items c.in_ok-words_with.field-0 ∙ ap (λ (n : ℕ). n + 1) c.loop-row.invariant.many;
       on = more-rows l c.loop-row.words.items c.push.new.self.items c.in_ok-words_with.field-0 row new c.loop-row.invariant.many

@@ -8,12 +8,12 @@ use Rattle.scm_layout_index.proofs.line_rows.overlaid_end.Goals as goal
 
 pub loop-placed-preserved : goal.loop-placed-preserved
 loop-placed-preserved c =
-    let run = c.stretch_end-left.ensures in
+    let run = c.placed_rows_end-left.ensures in
     let before = c.loop-placed.invariant in
     record {
       past = run.past;
       most = let fewer = run.most in omega arith;
-      same = next-steady (λ (r : OverlayRect). is_within r.rect.y r.rect.height) c.args.rects.now c.loop-placed.placed-index _ c.args.row c.loop-placed.left c.stretch_end-left.result (omega arith) run.most before.same run.same;
+      same = next-steady (λ (r : OverlayRect). is_within r.rect.y r.rect.height) c.args.rects.now c.loop-placed.placed-index _ c.args.row c.loop-placed.left c.placed_rows_end-left.result (omega arith) run.most before.same run.same;
     }
 
 pub returns : goal.returns
