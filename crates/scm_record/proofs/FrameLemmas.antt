@@ -2,7 +2,8 @@
 use Rattle.std.proofs.Common.{◌≡◌, ℕ, ◌+◌, ◌<◌, ◌≤◌, Bool, true, false, replicate, Option, Some, None, refl, sym, ap, subst, ◌∙◌, arith}
 use Rattle.std.proofs.lemmas.Bool.{and_parts}
 use Rattle.std.proofs.lemmas.Bool.Decides.{nat_tests}
-use Rattle.std.specs.Prelude.{ℤ, pos, option_map, List, ◌&&◌, nat_le, nat_lt, if◌then◌else◌}
+use Rattle.std.proofs.lemmas.Option.{same_Some}
+use Rattle.std.specs.Prelude.{ℤ, pos, min, option_map, List, ◌&&◌, nat_le, nat_lt, if◌then◌else◌}
 use Rattle.std.specs.HashMap.{HashMap, IsFromIterResult}
 use Rattle.scm_types.specs.declared.keys.LineKey.{LineKey}
 use Rattle.scm_types.specs.Limits.{max_scroll}
@@ -29,7 +30,9 @@ use Rattle.scm_widgets.specs.declared.ids.ComponentId.{ComponentId}
 use Rattle.scm_widgets.specs.declared.ids.ComponentId.TheVariants as ids
 use Rattle.scm_input.specs.declared.inputs.TerminalKind.{TerminalKind}
 use Rattle.scm_layout_index.specs.declared.layout_index.LayoutIndex.{LayoutIndex}
+use Rattle.scm_layout_index.specs.declared.line_rows.LineRows.{LineRows}
 use Rattle.scm_layout_index.specs.LayoutIndex.{IsLayoutIndexOf}
+use Rattle.scm_record.specs.FrameLines.{first_rows}
 use Rattle.scm_record.specs.declared.frame.Places.{Places}
 use Rattle.scm_record.specs.FrameQueries.{hit}
 use Rattle.scm_record.specs.Frames.{IsIndexFor, IsMapOf, KnowsPlaces, Scene, columns_of, rows_of, scene_of, frame_of}
@@ -160,3 +163,26 @@ line-hit scene index s row x y key is e there within owned =
     let inside : nat_lt x scene.width ≡ true = grind (arith, nat_tests) in
     sym (index-hit scene index s row x y (Some (line_owner key x)) is e there
     (rw inside (sym (owned scene.width is.height is.scroll is.shown is.is_index within))))
+
+-- ---- the first of some rows
+
+-- lines on the first of their rows begin with the same line
+pub record FirstOf (o : Option LineRows) (most : ℕ) (few : LineRows) : Type 0 where
+  pub lines : LineRows
+  pub is : o ≡ Some lines
+  pub first : lines.first ≡ few.first
+  pub more : few.rows ≤ lines.rows
+  pub within : few.rows ≤ most
+
+pub first-of : (o : Option LineRows) (most : ℕ) (few : LineRows) → first_rows o most ≡ Some few → FirstOf o most few
+first-of None most few e = absurd (cc e)
+first-of (Some lines) most few e =
+    let same : record lines { rows = min lines.rows most } ≡ few = same_Some _ few e in
+    let rows : min lines.rows most ≡ few.rows = ap (λ (l : LineRows). l.rows) same in
+    record {
+      lines = lines;
+      is = refl;
+      first = ap (λ (l : LineRows). l.first) same;
+      more = omega arith;
+      within = omega arith;
+    }

@@ -1,8 +1,8 @@
-use Rattle.std.proofs.Common.{ℕ, Option, ap, sym, ◌+◌, ◌∙◌}
+use Rattle.std.proofs.Common.{ℕ, ◌+◌, ◌∙◌, ap, sym}
 use Rattle.scm_record.specs.Frames.{scene_of}
 use Rattle.scm_record.specs.FrameQueries.{hit}
 use Rattle.scm_record.specs.ShownLines.{line_of}
-use Rattle.scm_record.proofs.live.lines.LiveSession.lines_from.Goals as goal
+use Rattle.scm_record.proofs.live.LiveSession.lines_from.Goals as goal
 
 pub returns-clause-lines : goal.returns-clause-lines
 returns-clause-lines c =
