@@ -101,43 +101,56 @@ fn a_session_is_shown_on_each_size(rt: HostRuntime) -> Result<(), RecordError> {
     Ok(())
 }
 
-/// Checks that the screen shows line `line` on row `row`, if any, and the lines that follow on the rows
-/// below it: on `rows` rows.
+/// Returns the key of line `line_idx` of the states.
+fn line(line_idx: usize) -> Option<LineKey> {
+    Some(LineKey { line_idx, ..LINE })
+}
+
+/// Checks that rows of the screen show `first` from row `row` on, if any, and the lines that follow: `rows`
+/// rows.
 fn check_lines(
     rt: &impl Abort,
     session: &LiveSession<'_>,
     row: usize,
-    line: Option<usize>,
+    first: Option<LineKey>,
     rows: usize,
 ) {
     let shown = session.lines_from(row);
-    let first = line.map(|line_idx| LineKey { line_idx, ..LINE });
     check_equal(rt, (row, shown), (row, ShownLines { first, rows }));
-    let next = line.map(|line_idx| LineKey {
-        line_idx: line_idx + 1,
-        ..LINE
-    });
-    check_equal(rt, (row, shown.line(1)), (row, next));
 }
 
-/// Unfolded, the file has its header on row 1, the header of its section on row 2, and its lines from
-/// row 3 on; the screen shows three of them. The menu `Edit` lies over rows 1 to 5.
+/// Checks that the third of the rows from row 3 on shows line 2.
+fn check_third(rt: &impl Abort, session: &LiveSession<'_>) {
+    let shown = session.lines_from(3);
+    if 2 < shown.rows {
+        check_equal(rt, shown.line(2), line(2));
+    } else {
+        panic!(rt; "fewer rows show lines");
+    }
+}
+
+/// Checks the rows of an unfolded file: its header is on row 1, the header of its section on row 2, and its
+/// lines begin on row 3. The screen shows three of them.
+fn check_rows(rt: &impl Abort, session: &LiveSession<'_>) {
+    check_lines(rt, session, 2, None, 1);
+    check_lines(rt, session, 3, line(0), 3);
+    check_third(rt, session);
+    check_lines(rt, session, 5, line(2), 1);
+    check_lines(rt, session, 6, None, 1);
+}
+
 #[test]
 fn rows_show_lines(rt: HostRuntime) -> Result<(), RecordError> {
-    let alloc = rt.alloc();
-    let session = session_of(&rt, alloc, HIGH, "t", "F")?;
-    check_lines(&rt, &session, 2, None, 1);
-    check_lines(&rt, &session, 3, Some(0), 3);
-    check_lines(&rt, &session, 5, Some(2), 1);
-    check_lines(&rt, &session, 6, None, 1);
-    check_lines(
-        &rt,
-        &session_of(&rt, alloc, HIGH, "t", "FA")?,
-        3,
-        Some(0),
-        3,
-    );
-    check_lines(&rt, &session_of(&rt, alloc, HIGH, "t", "FB")?, 3, None, 1);
+    let session = session_of(&rt, rt.alloc(), HIGH, "t", "F")?;
+    check_rows(&rt, &session);
+    Ok(())
+}
+
+/// The open menu `Edit` lies over rows 1 to 5.
+#[test]
+fn a_row_below_a_menu_shows_no_line(rt: HostRuntime) -> Result<(), RecordError> {
+    let session = session_of(&rt, rt.alloc(), HIGH, "t", "FB")?;
+    check_lines(&rt, &session, 3, None, 1);
     Ok(())
 }
 
