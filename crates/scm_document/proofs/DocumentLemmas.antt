@@ -26,7 +26,7 @@ use Rattle.scm_widgets.specs.Texts.{button_text}
 use Rattle.scm_document.specs.Texts.{divider_text, message_text, dots_text, no_files_text}
 use Rattle.scm_rows.specs.Context.{first_below, has_dots, lines_above}
 use Rattle.scm_rows.specs.Heights.{is_section_visible, message_height}
-use Rattle.scm_document.specs.Rows.{DocRow, DotsRow, BlankRow, HeaderRow, ShownSection, ShownFile, is_open, is_first_open, shown_lines, rows_below, context_rows, changed_rows, numbered_rows, rows_of, section_rows, shown_section, shown_sections, shown_file, document_of, file_rows, place_of}
+use Rattle.scm_document.specs.Rows.{DocRow, DotsRow, BlankRow, HeaderRow, ShownSection, ShownFile, is_open, is_first_open, shown_lines, rows_below, context_rows, rows_of_lines, changed_rows, numbered_rows, rows_of, section_rows, shown_section, shown_sections, shown_file, document_of, file_rows, place_of}
 use Rattle.scm_widgets.specs.Boxes.{is_fold_open}
 use Rattle.scm_document.specs.Pictures.{shown_file_picture, file_mask, mask_row, is_pinned, pinned_header, pinned_picture, one_file_picture, files_picture, edit_button, beside_button, message_picture, no_files_picture, document_picture, commit_picture, button_row_picture}
 use Rattle.scm_widgets.specs.Pictures.{button_picture, blank_rest}
@@ -218,12 +218,12 @@ inner-append [] qs p q = q
 inner-append (r ∷ rs) qs p q = (p.0, inner-append rs qs p.1 q)
 
 numbered-inner : (v : SectionView) (i : ℕ) (ls : List (List ℕ)) → AreInner (numbered_rows v i ls)
-unfolding numbered_rows
+unfolding rows_of_lines
 numbered-inner v i [] = tt
 numbered-inner v i (l ∷ ls) = (refl, numbered-inner v (suc i) ls)
 
 changed-inner : (v : SectionView) (i : ℕ) (ls : List SectionChangedLine) → AreInner (changed_rows v i ls)
-unfolding changed_rows
+unfolding rows_of_lines
 changed-inner v i [] = tt
 changed-inner v i (l ∷ ls) = (refl, changed-inner v (suc i) ls)
 

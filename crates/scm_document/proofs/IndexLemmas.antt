@@ -1,6 +1,6 @@
 -- An index of rows: what stands on a row, and where a key stands, among pieces one below another.
 use Rattle.std.proofs.Common.{◌≡◌, ℕ, zero, suc, ◌+◌, ◌-◌, ◌<◌, ◌≤◌, List, [], ◌∷◌, ◌++◌, length, drop, get_or, refl, sym, ap, ap₂, ◌∙◌, arith, add-one, drop-cons, true, false, Bool}
-use Rattle.std.specs.Prelude.{nat_eq, ◌==◌, ◌&&◌, if◌then◌else◌, Option, Some, None, IfSome, option_map, slice_get}
+use Rattle.std.specs.Prelude.{nat_eq, ◌==◌, ◌&&◌, if◌then◌else◌, Option, Some, None, IfSome, option_and_then, option_map, slice_get}
 use Rattle.std.specs.List.{flat_map}
 use Rattle.std.proofs.lemmas.Bool.Decides.{nat_tests}
 use Rattle.std.proofs.lemmas.List.{drop_all}
@@ -19,7 +19,7 @@ use Rattle.scm_document.specs.Places.{Place}
 use Rattle.scm_document.specs.DocumentRows.{rows_of_place, rows_of_key}
 use Rattle.scm_document.specs.RowIndex.{section_parts, message_parts}
 use Rattle.scm_document.specs.SectionPieces.{kind_on}
-use Rattle.scm_document.specs.Pieces.{line_list, lines_places, piece_places, piece_parts, found_in}
+use Rattle.scm_document.specs.Pieces.{line_list, lines_places, lines_in, piece_places, piece_parts, found_in, some_rows}
 
 -- ---- what stands on a row
 
@@ -87,7 +87,7 @@ line-is line k i = split-key (nat_eq line.commit_idx k.commit_idx) (nat_eq line.
 
 -- ---- where a key stands
 
-found-append : (key : SelectionKey) (ps qs : List Place) → found_in key (ps ++ qs) ≡ first_of_two (found_in key ps) (found_in key qs)
+pub found-append : (key : SelectionKey) (ps qs : List Place) → found_in key (ps ++ qs) ≡ first_of_two (found_in key ps) (found_in key qs)
 found-append key [] qs = refl
 found-append key (p ∷ ps) qs = go (is_key key p.key) (found-append key ps qs)
   where
@@ -101,14 +101,14 @@ list-other : (key : SelectionKey) (k : SectionKey) (row : ℕ) (o : Option ℕ) 
 list-other key k row None never = refl
 list-other key k row (Some i) never = rw (never i) refl
 
-lines-missed : (s : SectionPiece) (key : SelectionKey) (j n : ℕ) → ((i : ℕ) → i < j + n → found_in key (line_list s.key (s.top + i) (line_of (kind_on s i))) ≡ None) → found_in key (lines_places s j n) ≡ None
+lines-missed : (s : SectionPiece) (key : SelectionKey) (j n : ℕ) → ((i : ℕ) → i < j + n → found_in key (line_list s.key (s.top + i) (line_of (kind_on s i))) ≡ None) → found_in key (lines_places s.key s.top (kind_on s) j n) ≡ None
 unfolding lines_places
 lines-missed s key j zero missed = refl
 lines-missed s key j (suc n) missed =
-    found-append key (line_list s.key (s.top + j) (line_of (kind_on s j))) (lines_places s (suc j) n)
+    found-append key (line_list s.key (s.top + j) (line_of (kind_on s j))) (lines_places s.key s.top (kind_on s) (suc j) n)
     ∙ ap₂ (first_of_two {A = ℕ × ℕ}) (missed j (omega arith)) (lines-missed s key (suc j) n (λ i h. missed i (omega (arith, h))))
 
-pub lines-other : (s : SectionPiece) (key : SelectionKey) → ((i : ℕ) → is_key key (keys.Line (line_key_of s.key i)) ≡ false) → found_in key (lines_places s 0 (s.end - s.top)) ≡ None
+pub lines-other : (s : SectionPiece) (key : SelectionKey) → ((i : ℕ) → is_key key (keys.Line (line_key_of s.key i)) ≡ false) → found_in key (lines_in s) ≡ None
 lines-other s key never = lines-missed s key 0 (s.end - s.top) (λ i h. list-other key s.key (s.top + i) (line_of (kind_on s i)) never)
 
 pub line-other : (line : LineKey) (k : SectionKey) (i : ℕ) → is_key (keys.Section (section_of_line line)) (keys.Section k) ≡ false → is_key (keys.Line line) (keys.Line (line_key_of k i)) ≡ false
@@ -123,54 +123,49 @@ module _ (s : SectionPiece) (line : LineKey) (own : is_key (keys.Section (sectio
       one None = refl
       one (Some n) = rw (line-is line s.key n, own) refl
 
-  lines-hit : (t j n : ℕ) → ((i : ℕ) → i < j + n → holds (line_of (kind_on s i)) line.line_idx ≡ (i == t)) → j ≤ t → t < j + n → found_in (keys.Line line) (lines_places s j n) ≡ Some (s.top + t, 1)
+  lines-hit : (t j n : ℕ) → ((i : ℕ) → i < j + n → holds (line_of (kind_on s i)) line.line_idx ≡ (i == t)) → j ≤ t → t < j + n → found_in (keys.Line line) (lines_places s.key s.top (kind_on s) j n) ≡ Some (s.top + t, 1)
   unfolding lines_places
   lines-hit t j zero shows low high = absurd (omega arith)
   lines-hit t j (suc n) shows low high =
-      found-append (keys.Line line) (line_list s.key (s.top + j) (line_of (kind_on s j))) (lines_places s (suc j) n)
+      found-append (keys.Line line) (line_list s.key (s.top + j) (line_of (kind_on s j))) (lines_places s.key s.top (kind_on s) (suc j) n)
       ∙ go (j == t) refl (row-found j (j == t) (shows j (omega arith))) (lines-hit t (suc j) n (λ i h. shows i (omega (arith, h))))
     where
       go : (b : Bool) → (j == t) ≡ b → found_in (keys.Line line) (line_list s.key (s.top + j) (line_of (kind_on s j))) ≡ (if b then Some (s.top + j, 1) else None)
-          → (suc j ≤ t → t < suc j + n → found_in (keys.Line line) (lines_places s (suc j) n) ≡ Some (s.top + t, 1))
-          → first_of_two {A = ℕ × ℕ} (found_in (keys.Line line) (line_list s.key (s.top + j) (line_of (kind_on s j)))) (found_in (keys.Line line) (lines_places s (suc j) n)) ≡ Some (s.top + t, 1)
+          → (suc j ≤ t → t < suc j + n → found_in (keys.Line line) (lines_places s.key s.top (kind_on s) (suc j) n) ≡ Some (s.top + t, 1))
+          → first_of_two {A = ℕ × ℕ} (found_in (keys.Line line) (line_list s.key (s.top + j) (line_of (kind_on s j)))) (found_in (keys.Line line) (lines_places s.key s.top (kind_on s) (suc j) n)) ≡ Some (s.top + t, 1)
       go true e here rest = let same : j ≡ t = grind (arith, nat_tests) in rw here (ap (λ i. Some (s.top + i, 1)) same)
       go false e here rest = rw here (rest (grind (arith, nat_tests)) (omega (arith, high)))
 
   -- its row among the section's n rows, if it has one
   pub line-found : (row : Option ℕ) (n : ℕ) → n ≡ s.end - s.top → ((i : ℕ) → i < n → holds (line_of (kind_on s i)) line.line_idx ≡ holds row i) → IfSome row (λ t. t < n)
-      → option_map (λ t. (s.top + t, 1)) row ≡ found_in (keys.Line line) (lines_places s 0 (s.end - s.top))
+      → option_map (λ t. (s.top + t, 1)) row ≡ found_in (keys.Line line) (lines_in s)
   line-found None n size shows fits = sym (lines-missed s (keys.Line line) 0 (s.end - s.top) (λ i h. row-found i false (shows i (omega (arith, h, size)))))
   line-found (Some t) n size shows fits = sym (lines-hit t 0 (s.end - s.top) (λ i h. shows i (omega (arith, h, size))) (omega arith) (omega (arith, fits, size)))
 
 -- ---- pieces one below another
 
--- the first of two lists that has the key
-found-first : (key : SelectionKey) (ps qs : List Place) (rows : ℕ × ℕ) → found_in key ps ≡ Some rows → rows_of_key key (ps ++ qs) ≡ (if rows.1 == 0 then None else Some rows)
+-- the rows of a key are those of its place, unless there are none
+pub rows-found : (key : SelectionKey) (ps : List Place) → rows_of_key key ps ≡ option_and_then some_rows (found_in key ps)
 unfolding rows_of_key
-found-first key [] qs rows e = absurd (cc e)
-found-first key (p ∷ ps) qs rows e = go (is_key key p.key) (found-first key ps qs rows) e
+rows-found key [] = refl
+rows-found key (p ∷ ps) = go (is_key key p.key) (rows-found key ps)
   where
-    go : (b : Bool) → (found_in key ps ≡ Some rows → rows_of_key key (ps ++ qs) ≡ (if rows.1 == 0 then None else Some rows)) → (if b then Some (p.top, p.rows) else found_in key ps) ≡ Some rows
-        → (if b then rows_of_place p else rows_of_key key (ps ++ qs)) ≡ (if rows.1 == 0 then None else Some rows)
-    go true more f = let same : ◌≡◌ {A = ℕ × ℕ} (p.top, p.rows) rows = cc f in ap (λ (q : ℕ × ℕ). if q.1 == 0 then None else Some q) same
-    go false more f = more f
+    go : (b : Bool) → rows_of_key key ps ≡ option_and_then some_rows (found_in key ps)
+        → (if b then rows_of_place p else rows_of_key key ps) ≡ option_and_then some_rows (if b then Some (p.top, p.rows) else found_in key ps)
+    go true e = refl
+    go false e = e
 
-pub found-rest : (key : SelectionKey) (ps qs : List Place) → found_in key ps ≡ None → rows_of_key key (ps ++ qs) ≡ rows_of_key key qs
-unfolding rows_of_key
-found-rest key [] qs e = refl
-found-rest key (p ∷ ps) qs e = go (is_key key p.key) (found-rest key ps qs) e
-  where
-    go : (b : Bool) → (found_in key ps ≡ None → rows_of_key key (ps ++ qs) ≡ rows_of_key key qs) → (if b then Some (p.top, p.rows) else found_in key ps) ≡ None → (if b then rows_of_place p else rows_of_key key (ps ++ qs)) ≡ rows_of_key key qs
-    go true more f = absurd (cc f)
-    go false more f = more f
+-- the rows of a key among two lists
+rows-append : (key : SelectionKey) (ps qs : List Place) (o : Option (ℕ × ℕ)) → found_in key ps ≡ o → rows_of_key key (ps ++ qs) ≡ option_and_then some_rows (first_of_two o (found_in key qs))
+rows-append key ps qs o e = rows-found key (ps ++ qs) ∙ ap (option_and_then some_rows) (found-append key ps qs ∙ ap (λ p. first_of_two p (found_in key qs)) e)
 
 pub find-first : (pieces : List Piece) (i : ℕ) (d : Piece) (key : SelectionKey) (rows : ℕ × ℕ) → i < length pieces → found_in key (piece_places (get_or pieces i d)) ≡ Some rows
-    → rows_of_key key (flat_map piece_places (drop i pieces)) ≡ (if rows.1 == 0 then None else Some rows)
-find-first pieces i d key rows h e = ap (rows_of_key key) (pieces-more piece_places pieces i d h) ∙ found-first key (piece_places (get_or pieces i d)) (flat_map piece_places (drop (i + 1) pieces)) rows e
+    → rows_of_key key (flat_map piece_places (drop i pieces)) ≡ some_rows rows
+find-first pieces i d key rows h e = ap (rows_of_key key) (pieces-more piece_places pieces i d h) ∙ rows-append key (piece_places (get_or pieces i d)) (flat_map piece_places (drop (i + 1) pieces)) (Some rows) e
 
 pub find-rest : (pieces : List Piece) (i : ℕ) (d : Piece) (key : SelectionKey) → i < length pieces → found_in key (piece_places (get_or pieces i d)) ≡ None
     → rows_of_key key (flat_map piece_places (drop i pieces)) ≡ rows_of_key key (flat_map piece_places (drop (i + 1) pieces))
-find-rest pieces i d key h e = ap (rows_of_key key) (pieces-more piece_places pieces i d h) ∙ found-rest key (piece_places (get_or pieces i d)) (flat_map piece_places (drop (i + 1) pieces)) e
+find-rest pieces i d key h e = ap (rows_of_key key) (pieces-more piece_places pieces i d h) ∙ rows-append key (piece_places (get_or pieces i d)) (flat_map piece_places (drop (i + 1) pieces)) None e ∙ sym (rows-found key (flat_map piece_places (drop (i + 1) pieces)))
 
 pub find-none : (pieces : List Piece) (i : ℕ) (key : SelectionKey) → length pieces ≤ i → rows_of_key key (flat_map piece_places (drop i pieces)) ≡ None
 unfolding rows_of_key

@@ -16,7 +16,7 @@ use Rattle.scm_rows.proofs.HeightLemmas.{above-le}
 use Rattle.scm_widgets.specs.Boxes.{is_fold_open}
 use Rattle.scm_document.specs.declared.section_view.SectionView.{SectionView}
 use Rattle.scm_document.specs.Texts.{dots_text}
-use Rattle.scm_document.specs.Rows.{DocRow, SectionRow, MarkRow, DotsRow, BlankRow, changed_row, changed_rows, numbered_row, numbered_rows, context_rows, shown_lines, rows_of, section_box, section_heading, is_selected, section_height, place_of}
+use Rattle.scm_document.specs.Rows.{DocRow, SectionRow, MarkRow, DotsRow, BlankRow, changed_row, changed_rows, numbered_row, numbered_rows, rows_of_lines, context_rows, shown_lines, rows_of, section_box, section_heading, is_selected, section_height, place_of}
 use Rattle.scm_document.proofs.RowsLemmas.{length-taken}
 use Rattle.scm_document.proofs.SectionsLemmas.{one_or_none}
 
@@ -33,17 +33,12 @@ pub record IsRead {T : Type 0} (v : SectionView) (g : DocRow → T) (f : RowKind
   pub blank : g BlankRow ≡ f kinds.Blank
 
 module _ {T : Type 0} (v : SectionView) (g : DocRow → T) (f : RowKind → T) (read : IsRead v g f) where
-  changed-at : (i k : ℕ) (ls : List SectionChangedLine) → k < length ls → g (get_or (changed_rows v i ls) k BlankRow) ≡ f (kinds.Line (i + k))
-  unfolding changed_rows
-  changed-at i k [] h = absurd (omega (arith, h))
-  changed-at i zero (l ∷ ls) h = let here : i + 0 ≡ i = omega arith in rw here (read.line i l)
-  changed-at i (suc k) (l ∷ ls) h = let next : i + suc k ≡ suc i + k = omega arith in rw next (changed-at (suc i) k ls (omega (arith, h)))
-
-  numbered-at : (i k : ℕ) (ls : List (List ℕ)) → k < length ls → g (get_or (numbered_rows v i ls) k BlankRow) ≡ f (kinds.Context (i + k))
-  unfolding numbered_rows
-  numbered-at i k [] h = absurd (omega (arith, h))
-  numbered-at i zero (l ∷ ls) h = let here : i + 0 ≡ i = omega arith in rw here (read.context i l)
-  numbered-at i (suc k) (l ∷ ls) h = let next : i + suc k ≡ suc i + k = omega arith in rw next (numbered-at (suc i) k ls (omega (arith, h)))
+  lines-at : {L : Type 0} (row : ℕ → L → DocRow) (kind : ℕ → RowKind) → ((i : ℕ) (l : L) → g (row i l) ≡ f (kind i)) → (i k : ℕ) (ls : List L) → k < length ls
+      → g (get_or (rows_of_lines row i ls) k BlankRow) ≡ f (kind (i + k))
+  unfolding rows_of_lines
+  lines-at row kind is i k [] h = absurd (omega (arith, h))
+  lines-at row kind is i zero (l ∷ ls) h = let here : i + 0 ≡ i = omega arith in rw here (is i l)
+  lines-at row kind is i (suc k) (l ∷ ls) h = let next : i + suc k ≡ suc i + k = omega arith in rw next (lines-at row kind is (suc i) k ls (omega (arith, h)))
 
   dots-at : (b : Bool) (k : ℕ) → g (get_or (dots_rows v b) k BlankRow) ≡ f kinds.Blank
   dots-at true zero = read.dots (dots_text v.use_unicode)
@@ -83,8 +78,8 @@ module _ {T : Type 0} (v : SectionView) (g : DocRow → T) (f : RowKind → T) (
       let b = first_below (place_of v) n in
       let most : a ≤ n = above-le (are_all_shown (place_of v) n) (is_first (place_of v)) n in
       three-at (numbered_rows v 0 (take a ls)) (dots_rows v (has_dots (place_of v) n)) (numbered_rows v b (drop b ls)) a (dots_height (place_of v) n) b n j
-      (length-taken v a ls most) (one_or_none (has_dots (place_of v) n) (DotsRow (dots_text v.use_unicode))) within (λ k h. numbered-at 0 k (take a ls) (omega (arith, h, most, length-take a ls))) (dots-at (has_dots (place_of v) n))
-      (λ k h. numbered-at b k (drop b ls) (omega (arith, h, length-drop b ls)))
+      (length-taken v a ls most) (one_or_none (has_dots (place_of v) n) (DotsRow (dots_text v.use_unicode))) within (λ k h. lines-at (numbered_row v) kinds.Context read.context 0 k (take a ls) (omega (arith, h, most, length-take a ls))) (dots-at (has_dots (place_of v) n))
+      (λ k h. lines-at (numbered_row v) kinds.Context read.context b k (drop b ls) (omega (arith, h, length-drop b ls)))
 
   pub kind-at : (j : ℕ) (s : Section) → (shape_of s ≡ shapes.Changed → g (SectionRow (is_selected v) (section_heading v)) ≡ f kinds.Header) → j < section_height v s
       → g (get_or (rows_of v s) j BlankRow) ≡ f (row_kind (place_of v) (shape_of s) j)
@@ -105,7 +100,7 @@ module _ {T : Type 0} (v : SectionView) (g : DocRow → T) (f : RowKind → T) (
       rw (some, here) (go (is_fold_open v.expand_box) h)
     where
       go : (b : Bool) → suc j < (if b then 1 + length ls else 1) → g (get_or (if b then changed_rows v 0 ls else []) j BlankRow) ≡ f (kinds.Line j)
-      go true within = let same : 0 + j ≡ j = omega arith in changed-at 0 j ls (omega (arith, within)) ∙ ap (λ i. f (kinds.Line i)) same
+      go true within = let same : 0 + j ≡ j = omega arith in lines-at (changed_row v) kinds.Line read.line 0 j ls (omega (arith, within)) ∙ ap (λ i. f (kinds.Line i)) same
       go false within = absurd (omega (arith, within))
   kind-at (suc j) (FileMode checked mode) head h = absurd (omega (arith, h))
   kind-at (suc j) (Binary checked old new) head h = absurd (omega (arith, h))

@@ -19,14 +19,13 @@ use Rattle.scm_render.proofs.PictureLemmas.{PictureInRange-left, PictureInRange-
 use Rattle.scm_render.proofs.RowLemmas.{OneRow, not_seen, one_text, one_said}
 use Rattle.scm_render.proofs.FillLemmas.{one_blank}
 use Rattle.scm_widgets.specs.declared.ids.ComponentId.{ComponentId}
-use Rattle.scm_document.specs.Rows.{Heading, DocRow, HeaderRow, SectionRow, LineRow, MarkRow, ContextRow, DotsRow, BlankRow, changed_row, changed_rows}
+use Rattle.scm_document.specs.Rows.{Heading, DocRow, HeaderRow, SectionRow, LineRow, MarkRow, ContextRow, DotsRow, BlankRow, changed_row, changed_rows, rows_of_lines}
 use Rattle.scm_types.specs.declared.line.SectionChangedLine.{SectionChangedLine}
 use Rattle.scm_document.specs.declared.section_view.SectionView.{SectionView}
 use Rattle.scm_widgets.specs.Pictures.{box_picture, fold_column, to_end}
 use Rattle.scm_document.specs.Pictures.{heading_picture, title_picture, changed_picture, context_picture, heading_mask, heading_width, row_picture, rows_picture}
 use Rattle.scm_document.specs.Counts.{row_counts, rows_counts}
-use Rattle.scm_document.proofs.RowsLemmas.{rows_picture-append, rows-fit}
-use Rattle.scm_document.proofs.SectionsLemmas.{length-changed}
+use Rattle.scm_document.proofs.RowsLemmas.{length-lines, rows_picture-append, rows-fit}
 use Rattle.scm_document.proofs.CountLemmas.{plus-none, none-plus, rows_counts-append}
 use Rattle.scm_widgets.proofs.HiddenLemmas.{painted-same, on-screen, no-reach, on_row-hidden}
 use Rattle.scm_document.proofs.StripLemmas.{no-highlight}
@@ -132,7 +131,7 @@ passed-below-by (Some bs) v y n end e k l = absurd (omega (arith, e, l))
 -- ---- changed lines: only a range of them is drawn
 
 changed-append : (v : SectionView) (i : ℕ) (ls ms : List SectionChangedLine) → changed_rows v i (ls ++ ms) ≡ changed_rows v i ls ++ changed_rows v (i + length ls) ms
-unfolding changed_rows
+unfolding rows_of_lines
 changed-append v i [] ms = let same : i ≡ i + 0 = omega arith in ap (λ n. changed_rows v n ms) same
 changed-append v i (l ∷ ls) ms =
     let next : suc i + length ls ≡ i + suc (length ls) = omega arith in
@@ -158,14 +157,14 @@ taken ls first end a =
     (ends, length-take first (take end ls) ∙ omega (arith, ends, a.low))
 
 length-above : (v : SectionView) (ls : List SectionChangedLine) (first end : ℕ) → AreCut first end (length ls) → length (above_rows v ls first end) ≡ first
-length-above v ls first end a = length-changed v 0 (take first (take end ls)) ∙ (taken ls first end a).1
+length-above v ls first end a = length-lines (changed_row v) 0 (take first (take end ls)) ∙ (taken ls first end a).1
 
 length-seen : (v : SectionView) (ls : List SectionChangedLine) (first end : ℕ) → AreCut first end (length ls) → length (seen_rows v ls first end) ≡ end - first
 length-seen v ls first end a =
-    length-changed v first (drop first (take end ls)) ∙ length-drop first (take end ls) ∙ ap (λ n. n - first) (taken ls first end a).0
+    length-lines (changed_row v) first (drop first (take end ls)) ∙ length-drop first (take end ls) ∙ ap (λ n. n - first) (taken ls first end a).0
 
 length-below : (v : SectionView) (ls : List SectionChangedLine) (end : ℕ) → length (below_rows v ls end) ≡ length ls - end
-length-below v ls end = length-changed v end (drop end ls) ∙ length-drop end ls
+length-below v ls end = length-lines (changed_row v) end (drop end ls) ∙ length-drop end ls
 
 changed-split : (v : SectionView) (ls : List SectionChangedLine) (n : ℕ) → length (take n ls) ≡ n → changed_rows v 0 ls ≡ changed_rows v 0 (take n ls) ++ changed_rows v n (drop n ls)
 changed-split v ls n h =

@@ -1,4 +1,4 @@
--- The pieces of a document are its files and sections, its rows, and the places of its keys.
+-- The pieces of a document are its rows, and the places of its keys.
 use Rattle.std.proofs.Common.{◌≡◌, ℕ, suc, ◌+◌, ◌-◌, ◌<◌, List, [], ◌∷◌, ◌++◌, length, map, get_or, refl, sym, ap, ap₂, ◌∙◌, arith, true, false, Bool}
 use Rattle.std.specs.Prelude.{if◌then◌else◌}
 use Rattle.std.specs.List.{flat_map}
@@ -7,9 +7,7 @@ use Rattle.scm_types.specs.declared.keys.SelectionKey.TheVariants as selection
 use Rattle.scm_document.specs.declared.section_view.SectionView.{SectionView}
 use Rattle.scm_document.specs.declared.file_view.FileView.{FileView}
 use Rattle.scm_document.specs.declared.row_place.RowPlace.TheVariants as part
-use Rattle.scm_document.specs.declared.index_pieces.FilePiece.{FilePiece}
 use Rattle.scm_document.specs.declared.index_pieces.SectionPiece.{SectionPiece}
-use Rattle.scm_document.specs.declared.index_pieces.Piece.{Piece}
 use Rattle.scm_document.specs.declared.index_pieces.Piece.TheVariants as pieces
 use Rattle.scm_document.specs.Rows.{DocRow, BlankRow, section_height, rows_of, section_rows, shown_of_view, shown_sections, shown_file, file_rows}
 use Rattle.scm_widgets.specs.Boxes.{is_fold_open}
@@ -18,31 +16,11 @@ use Rattle.scm_document.specs.RowIndex.{section_parts, sections_parts, files_par
 use Rattle.scm_document.specs.SectionWalk.{visible_views}
 use Rattle.scm_rows.specs.Kinds.{line_of}
 use Rattle.scm_document.specs.SectionPieces.{kind_on}
-use Rattle.scm_document.specs.ViewPieces.{section_piece_of, section_piece_list, file_height, sections_in_file, file_piece_of, file_piece_list, sections_in_files}
-use Rattle.scm_document.specs.Pieces.{file_pieces, files_pieces, files_of, sections_of, line_list, lines_places, section_places, piece_places, piece_parts}
+use Rattle.scm_document.specs.ViewPieces.{section_piece_of, section_piece_list, file_height, sections_in_file, file_piece_of}
+use Rattle.scm_document.specs.Pieces.{file_pieces, files_pieces, line_list, lines_places, section_places, piece_places, piece_parts}
 use Rattle.scm_document.proofs.KindLemmas.{IsRead, kind-at}
 use Rattle.scm_document.proofs.SectionsLemmas.{height-of, section-size, shown-visible}
 use Rattle.scm_document.proofs.ViewPieceLemmas.{file-height}
-
--- ---- the files and sections among them
-
-files-skip : (ss : List SectionPiece) (ps : List Piece) → files_of (map pieces.Section ss ++ ps) ≡ files_of ps
-files-skip [] ps = refl
-files-skip (s ∷ ss) ps = files-skip ss ps
-
-sections-keep : (ss : List SectionPiece) (ps : List Piece) → sections_of (map pieces.Section ss ++ ps) ≡ ss ++ sections_of ps
-sections-keep [] ps = refl
-sections-keep (s ∷ ss) ps = ap (λ w. s ∷ w) (sections-keep ss ps)
-
-pub pieces-files : (m top : ℕ) (vs : List FileView) → files_of (files_pieces m top vs) ≡ file_piece_list m top vs
-pieces-files m top [] = refl
-pieces-files m top (v ∷ vs) =
-    ap (λ (fs : List FilePiece). file_piece_of m top v ∷ fs) (files-skip (sections_in_file top v) (files_pieces m (top + file_height v) vs) ∙ pieces-files m (top + file_height v) vs)
-
-pub pieces-sections : (m top : ℕ) (vs : List FileView) → sections_of (files_pieces m top vs) ≡ sections_in_files top vs
-pieces-sections m top [] = refl
-pieces-sections m top (v ∷ vs) =
-    sections-keep (sections_in_file top v) (files_pieces m (top + file_height v) vs) ∙ ap (λ w. sections_in_file top v ++ w) (pieces-sections m (top + file_height v) vs)
 
 -- ---- the rows of a section
 
@@ -50,7 +28,7 @@ places-read : (v : SectionView) (row : ℕ) → IsRead v (line_places row) (λ k
 places-read v row = record { line = λ i l. refl; mark = λ b t. refl; context = λ i l. refl; dots = λ t. refl; blank = refl }
 
 rows-read : (s : SectionPiece) (j : ℕ) (rs : List DocRow) → ((i row : ℕ) → i < length rs → line_places row (get_or rs i BlankRow) ≡ line_list s.key row (line_of (kind_on s (j + i))))
-    → rows_places (s.top + j) rs ≡ lines_places s j (length rs)
+    → rows_places (s.top + j) rs ≡ lines_places s.key s.top (kind_on s) j (length rs)
 unfolding rows_places lines_places
 rows-read s j [] h = refl
 rows-read s j (r ∷ rs) h =
@@ -68,11 +46,11 @@ section-is v top =
     let s = section_piece_of v top in
     let first : top + 0 ≡ top = omega arith in
     let size : top + section_height v section - top ≡ length (rows_of v section) = omega (arith, height-of v section) in
-    let read : rows_places (top + 0) (rows_of v section) ≡ lines_places s 0 (length (rows_of v section)) =
+    let read : rows_places (top + 0) (rows_of v section) ≡ lines_places s.key s.top (kind_on s) 0 (length (rows_of v section)) =
     rows-read s 0 (rows_of v section) (λ i row h. let same : 0 + i ≡ i = omega arith in
     rw same (kind-at v (line_places row) (λ kind. line_list v.section_key row (line_of kind)) (places-read v row) i section (λ e. refl) (omega (arith, h, height-of v section)))) in
     ap₂ (λ (r : ℕ) (ps : List Place). record { key = selection.Section v.section_key; top = top; rows = r } ∷ ps) size
-    (ap (lines_places s 0) size ∙ sym read ∙ ap (λ t. rows_places t (rows_of v section)) first)
+    (ap (lines_places s.key s.top (kind_on s) 0) size ∙ sym read ∙ ap (λ t. rows_places t (rows_of v section)) first)
 
 sections-places : (top : ℕ) (vs : List SectionView) → flat_map piece_places (map pieces.Section (section_piece_list top vs)) ≡ sections_places top (map shown_of_view vs)
 unfolding sections_places

@@ -4,7 +4,6 @@ use Rattle.std.proofs.lemmas.List.{drop_all, take_all, length-drop, length-take}
 use Rattle.std.specs.Prelude.{Result, Ok, Err, OnOk, take, ◌-◌}
 use Rattle.std.proofs.lemmas.Int.{ints}
 use Rattle.scm_cells.specs.Rect.{InRange}
-use Rattle.scm_types.specs.declared.line.SectionChangedLine.{SectionChangedLine}
 use Rattle.scm_render.specs.Picture.{PictureInRange, nothing, followed_by, covering, part, Picture}
 use Rattle.scm_render.specs.Canvas.{Sight, Canvas, with_picture}
 use Rattle.scm_render.proofs.PictureLemmas.{PictureInRange-left, PictureInRange-right, PictureInRange-part, RectInRange-covering}
@@ -17,7 +16,7 @@ use Rattle.scm_document.specs.declared.section_line_view.SectionLineView.{Sectio
 use Rattle.scm_document.specs.declared.section_line_view.SectionLineViewInner.{SectionLineViewInner}
 use Rattle.scm_document.specs.declared.section_line_view.SectionLineViewInner.TheVariants as inner
 use Rattle.scm_widgets.specs.Boxes.{IdBox}
-use Rattle.scm_document.specs.Rows.{DocRow, HeaderRow, SectionRow, BlankRow, changed_row, changed_rows, numbered_row, numbered_rows, lines_count, line_rows, rows_from, view_row, line_id}
+use Rattle.scm_document.specs.Rows.{DocRow, HeaderRow, SectionRow, BlankRow, changed_row, changed_rows, numbered_row, numbered_rows, rows_of_lines, lines_count, line_rows, rows_from, view_row, line_id}
 use Rattle.scm_widgets.specs.Pictures.{IdPicture, rest_of_row, box_picture}
 use Rattle.scm_document.specs.Pictures.{inner_picture, line_picture, row_picture, rows_picture, changed_picture, context_picture}
 use Rattle.scm_render.proofs.StepLemmas.{step, rest, span-place, text-place, InRange-fits}
@@ -40,27 +39,22 @@ pub rows_picture-end : (rows : List DocRow) (s : Sight) (x y : ℤ) → rows ≡
 unfolding rows_picture
 rows_picture-end rows s x y e = rw e refl
 
-pub changed_rows-more : (v : SectionView) (first : ℕ) (ls : List SectionChangedLine) (i : ℕ) (d : SectionChangedLine) → i < length ls
-    → changed_rows v (first + i) (drop i ls) ≡ changed_row v (first + i) (get_or ls i d) ∷ changed_rows v (first + (i + 1)) (drop (i + 1) ls)
-unfolding changed_rows
-changed_rows-more v first ls i d h =
-    let next : suc (first + i) ≡ first + suc i = omega arith in
-    rw (add-one, drop-cons ls i d h) (ap (λ n. changed_row v (first + i) (get_or ls i d) ∷ changed_rows v n (drop (suc i) ls)) next)
+module _ {L : Type 0} (row : ℕ → L → DocRow) where
+  pub lines-more : (first : ℕ) (ls : List L) (i : ℕ) (d : L) → i < length ls
+      → rows_of_lines row (first + i) (drop i ls) ≡ row (first + i) (get_or ls i d) ∷ rows_of_lines row (first + (i + 1)) (drop (i + 1) ls)
+  unfolding rows_of_lines
+  lines-more first ls i d h =
+      let next : suc (first + i) ≡ first + suc i = omega arith in
+      rw (add-one, drop-cons ls i d h) (ap (λ n. row (first + i) (get_or ls i d) ∷ rows_of_lines row n (drop (suc i) ls)) next)
 
-pub changed_rows-end : (v : SectionView) (first : ℕ) (ls : List SectionChangedLine) (i : ℕ) → length ls ≤ i → changed_rows v (first + i) (drop i ls) ≡ []
-unfolding changed_rows
-changed_rows-end v first ls i h = rw (drop_all i ls h) refl
+  lines-end : (first : ℕ) (ls : List L) (i : ℕ) → length ls ≤ i → rows_of_lines row (first + i) (drop i ls) ≡ []
+  unfolding rows_of_lines
+  lines-end first ls i h = rw (drop_all i ls h) refl
 
-pub numbered_rows-more : (v : SectionView) (first : ℕ) (ls : List (List ℕ)) (i : ℕ) (d : List ℕ) → i < length ls
-    → numbered_rows v (first + i) (drop i ls) ≡ numbered_row v (first + i) (get_or ls i d) ∷ numbered_rows v (first + (i + 1)) (drop (i + 1) ls)
-unfolding numbered_rows
-numbered_rows-more v first ls i d h =
-    let next : suc (first + i) ≡ first + suc i = omega arith in
-    rw (add-one, drop-cons ls i d h) (ap (λ n. numbered_row v (first + i) (get_or ls i d) ∷ numbered_rows v n (drop (suc i) ls)) next)
-
-pub numbered_rows-end : (v : SectionView) (first : ℕ) (ls : List (List ℕ)) (i : ℕ) → length ls ≤ i → numbered_rows v (first + i) (drop i ls) ≡ []
-unfolding numbered_rows
-numbered_rows-end v first ls i h = rw (drop_all i ls h) refl
+  pub length-lines : (i : ℕ) (ls : List L) → length (rows_of_lines row i ls) ≡ length ls
+  unfolding rows_of_lines
+  length-lines i [] = refl
+  length-lines i (l ∷ ls) = ap suc (length-lines (suc i) ls)
 
 -- the place of a line that is in range is too
 pub changed-place : (b : IdBox) (ts : List (List ℕ)) (s : Sight) (x y : ℤ) → PictureInRange (changed_picture b ts s x y) → InRange x
@@ -78,8 +72,8 @@ from-first v first (lines.Context ls) = let same : first + 0 ≡ first = omega a
 from-first v first (lines.Changed ls) = let same : first + 0 ≡ first = omega arith in ap (λ n. changed_rows v n ls.now) same
 
 pub from-end : (v : SectionView) (first : ℕ) (ls : Lines) (i : ℕ) → lines_count ls ≤ i → rows_from v first ls i ≡ []
-from-end v first (lines.Context ls) i h = numbered_rows-end v first ls.now i h
-from-end v first (lines.Changed ls) i h = changed_rows-end v first ls.now i h
+from-end v first (lines.Context ls) i h = lines-end (numbered_row v) first ls.now i h
+from-end v first (lines.Changed ls) i h = lines-end (changed_row v) first ls.now i h
 
 inner-picture : (k : LineKey) (i : SectionLineViewInner) (s : Sight) (x y : ℤ)
     → row_picture (view_row (record { line_key = k; inner = i })) s x y ≡ followed_by (covering (rest_of_row s x y)) (part (line_id k) (inner_picture i s (x +ℤ pos 2) y))
@@ -136,11 +130,6 @@ rows-fit (a ∷ rs) s x y f r =
     let same : (y +ℤ pos 1) +ℤ pos (length rs) ≡ y +ℤ pos (suc (length rs)) = omega (arith, ints) in
     rw same at more
 
-pub length-numbered : (v : SectionView) (i : ℕ) (ls : List (List ℕ)) → length (numbered_rows v i ls) ≡ length ls
-unfolding numbered_rows
-length-numbered v i [] = refl
-length-numbered v i (l ∷ ls) = ap suc (length-numbered v (suc i) ls)
-
 -- ---- calls that draw rows
 
 -- a row, and below it others
@@ -186,4 +175,4 @@ pub take-rest : {T : Type 0} (k : ℕ) (xs : List T) → take (length xs - k) (d
 take-rest k xs = take_all (length xs - k) (drop k xs) (omega (arith, length-drop k xs))
 
 pub length-taken : (v : SectionView) (n : ℕ) (ls : List (List ℕ)) → n ≤ length ls → length (numbered_rows v 0 (take n ls)) ≡ n
-length-taken v n ls h = length-numbered v 0 (take n ls) ∙ (length-take n ls ∙ omega arith)
+length-taken v n ls h = length-lines (numbered_row v) 0 (take n ls) ∙ (length-take n ls ∙ omega arith)

@@ -8,7 +8,6 @@ use Rattle.std.proofs.lemmas.Int.{ints}
 use Rattle.std.proofs.lemmas.List.{length-take, length-drop, length-map, get_or-map}
 use Rattle.std.proofs.lemmas.List.Folds.{list_any-append}
 use Rattle.scm_types.specs.declared.keys.SelectionKey.TheVariants as selection
-use Rattle.scm_types.specs.declared.line.SectionChangedLine.{SectionChangedLine}
 use Rattle.scm_types.specs.declared.section.Section.{Section}
 use Rattle.scm_types.specs.declared.section.Section.TheVariants.{Unchanged, Changed, FileMode, Binary}
 use Rattle.scm_render.specs.Hits.{first_of_two}
@@ -22,7 +21,7 @@ use Rattle.scm_rows.specs.declared.section_shape.SectionShape.TheVariants as sha
 use Rattle.scm_widgets.specs.Layers.{Strip, clear, owned, is_among}
 use Rattle.scm_document.specs.Owners.{AreRowsOf}
 use Rattle.scm_rows.specs.Context.{are_all_shown, dots_height, first_below, has_dots, is_first, lines_above, lines_height}
-use Rattle.scm_document.specs.Rows.{DocRow, SectionRow, BlankRow, line_id, changed_rows, numbered_rows, context_rows, shown_lines, rows_below, rows_of, section_heading, is_selected, section_height, section_rows, section_id, shown_of_view, place_of}
+use Rattle.scm_document.specs.Rows.{DocRow, SectionRow, BlankRow, line_id, changed_row, changed_rows, numbered_row, numbered_rows, rows_of_lines, context_rows, shown_lines, rows_below, rows_of, section_heading, is_selected, section_height, section_rows, section_id, shown_of_view, place_of}
 use Rattle.scm_widgets.specs.Boxes.{is_fold_open}
 use Rattle.scm_types.specs.Keys.{line_key_of}
 use Rattle.scm_document.specs.Strips.{row_strip, is_whole, is_wide, is_of_section, section_strips}
@@ -81,15 +80,13 @@ part-at w x j v section e h =
 
 -- ---- whether a section owns columns 0 and 1
 
-any-numbered : (v : SectionView) (i : ℕ) (ls : List (List ℕ)) → list_any is_whole (numbered_rows v i ls) ≡ nat_lt 0 (length ls)
-unfolding numbered_rows
-any-numbered v i [] = refl
-any-numbered v i (l ∷ ls) = let some : nat_lt 0 (suc (length ls)) ≡ true = grind (arith, nat_tests) in rw some refl
+any-lines : {L : Type 0} (row : ℕ → L → DocRow) → ((i : ℕ) (l : L) → is_whole (row i l) ≡ true) → (i : ℕ) (ls : List L) → list_any is_whole (rows_of_lines row i ls) ≡ nat_lt 0 (length ls)
+unfolding rows_of_lines
+any-lines row whole i [] = refl
+any-lines row whole i (l ∷ ls) = let some : nat_lt 0 (suc (length ls)) ≡ true = grind (arith, nat_tests) in rw (some, whole i l) refl
 
-any-changed : (v : SectionView) (i : ℕ) (ls : List SectionChangedLine) → list_any is_whole (changed_rows v i ls) ≡ nat_lt 0 (length ls)
-unfolding changed_rows
-any-changed v i [] = refl
-any-changed v i (l ∷ ls) = let some : nat_lt 0 (suc (length ls)) ≡ true = grind (arith, nat_tests) in rw some refl
+any-numbered : (v : SectionView) (i : ℕ) (ls : List (List ℕ)) → list_any is_whole (numbered_rows v i ls) ≡ nat_lt 0 (length ls)
+any-numbered v i ls = any-lines (numbered_row v) (λ j l. refl) i ls
 
 any-dots : (v : SectionView) (b : Bool) → list_any is_whole (dots_rows v b) ≡ false
 any-dots v true = refl
@@ -136,7 +133,7 @@ wide-is v (Unchanged ls) = go (length ls == 0)
 wide-is v (Changed ls) = ap (λ b. is_selected v || b) (go (is_fold_open v.expand_box))
   where
     go : (b : Bool) → list_any is_whole (if b then changed_rows v 0 ls else []) ≡ nat_lt 1 (if b then 1 + length ls else 1)
-    go true = let more : nat_lt 0 (length ls) ≡ nat_lt 1 (1 + length ls) = grind (arith, nat_tests) in any-changed v 0 ls ∙ more
+    go true = let more : nat_lt 0 (length ls) ≡ nat_lt 1 (1 + length ls) = grind (arith, nat_tests) in any-lines (changed_row v) (λ i l. refl) 0 ls ∙ more
     go false = refl
 wide-is v (FileMode checked mode) = or-false (is_selected v)
 wide-is v (Binary checked old new) = or-false (is_selected v)

@@ -1,9 +1,8 @@
 -- Sections below one another.
-use Rattle.std.proofs.Common.{◌≡◌, ℕ, ◌+◌, ◌-◌, ◌<◌, ◌≤◌, Bool, true, false, ◌==◌, ℤ, pos, ◌+ℤ◌, List, [], ◌∷◌, ◌++◌, length, length-append, map, drop, take, get_or, refl, ap, ◌∙◌, sym, arith, add-one, drop-cons, suc}
+use Rattle.std.proofs.Common.{◌≡◌, ℕ, ◌+◌, ◌<◌, ◌≤◌, Bool, true, false, ◌==◌, ℤ, pos, ◌+ℤ◌, List, [], ◌∷◌, ◌++◌, length, length-append, map, drop, take, get_or, refl, ap, ◌∙◌, sym, arith, add-one, drop-cons, suc}
 use Rattle.std.specs.Prelude.{if◌then◌else◌}
 use Rattle.std.proofs.lemmas.List.{drop_all, length-drop}
 use Rattle.std.proofs.lemmas.Int.{ints}
-use Rattle.scm_types.specs.declared.line.SectionChangedLine.{SectionChangedLine}
 use Rattle.scm_types.specs.declared.section.Section.{Section}
 use Rattle.scm_types.specs.declared.section.Section.TheVariants.{Unchanged, Changed}
 use Rattle.scm_cells.specs.Rect.{InRange}
@@ -14,12 +13,12 @@ use Rattle.scm_document.specs.declared.section_view.SectionView.{SectionView}
 use Rattle.scm_rows.specs.Context.{are_all_shown, first_below, has_dots, is_first, lines_above, lines_height}
 use Rattle.scm_rows.specs.Heights.{is_section_visible}
 use Rattle.scm_rows.proofs.HeightLemmas.{above-le}
-use Rattle.scm_document.specs.Rows.{DocRow, DotsRow, BlankRow, HeaderRow, ShownSection, ShownFile, file_rows, section_id, is_open, is_first_open, rows_below, shown_lines, context_rows, section_height, changed_rows, numbered_rows, rows_of, section_rows, shown_of_view, shown_section, shown_sections, sections_rows, place_of}
+use Rattle.scm_document.specs.Rows.{DocRow, DotsRow, BlankRow, HeaderRow, ShownSection, ShownFile, file_rows, section_id, is_open, is_first_open, rows_below, shown_lines, context_rows, section_height, changed_row, changed_rows, numbered_row, numbered_rows, rows_of, section_rows, shown_of_view, shown_section, shown_sections, sections_rows, place_of}
 use Rattle.scm_document.specs.SectionWalk.{visible_views}
 use Rattle.scm_widgets.specs.Boxes.{is_fold_open}
 use Rattle.scm_document.specs.Pictures.{row_picture, rows_picture, section_picture, sections_picture, shown_file_picture}
 use Rattle.scm_document.proofs.HeadingLemmas.{heading-rect}
-use Rattle.scm_document.proofs.RowsLemmas.{row-end, length-numbered, length-taken}
+use Rattle.scm_document.proofs.RowsLemmas.{row-end, length-lines, length-taken}
 
 -- ---- heights
 
@@ -38,17 +37,12 @@ lines-height v ls =
     let dots = if has_dots (place_of v) n then DotsRow _ ∷ [] else [] in
     length-append (numbered_rows v 0 (take (lines_above (place_of v) n) ls)) (rows_below v ls)
     ∙ ap (λ k. length (numbered_rows v 0 (take (lines_above (place_of v) n) ls)) + k) (length-append dots below)
-    ∙ sum-of _ _ _ _ _ _ (length-taken v (lines_above (place_of v) n) ls (above-le (are_all_shown (place_of v) n) (is_first (place_of v)) n)) (one_or_none (has_dots (place_of v) n) _) (length-numbered v f (drop f ls) ∙ length-drop f ls)
-
-pub length-changed : (v : SectionView) (i : ℕ) (ls : List SectionChangedLine) → length (changed_rows v i ls) ≡ length ls
-unfolding changed_rows
-length-changed v i [] = refl
-length-changed v i (l ∷ ls) = ap suc (length-changed v (suc i) ls)
+    ∙ sum-of _ _ _ _ _ _ (length-taken v (lines_above (place_of v) n) ls (above-le (are_all_shown (place_of v) n) (is_first (place_of v)) n)) (one_or_none (has_dots (place_of v) n) _) (length-lines (numbered_row v) f (drop f ls) ∙ length-drop f ls)
 
 pub height-of : (v : SectionView) (s : Section) → length (rows_of v s) ≡ section_height v s
 unfolding context_rows
 height-of v (Unchanged ls) = elim (length ls == 0) as (λ b. length (if b then BlankRow ∷ [] else shown_lines v ls) ≡ (if b then 1 else lines_height (place_of v) (length ls))) [ true ↦ refl | false ↦ lines-height v ls ]
-height-of v (Changed ls) = elim (is_fold_open v.expand_box) as (λ b. suc (length (if b then changed_rows v 0 ls else [])) ≡ (if b then 1 + length ls else 1)) [ true ↦ omega (arith, length-changed v 0 ls) | false ↦ refl ]
+height-of v (Changed ls) = elim (is_fold_open v.expand_box) as (λ b. suc (length (if b then changed_rows v 0 ls else [])) ≡ (if b then 1 + length ls else 1)) [ true ↦ omega (arith, length-lines (changed_row v) 0 ls) | false ↦ refl ]
 height-of v _ = refl
 
 pub section-size : (v : SectionView) → length (section_rows v) ≡ section_height v v.section.now

@@ -16,15 +16,18 @@ use Rattle.scm_document.specs.declared.section_view.SectionView.{SectionView}
 use Rattle.scm_document.specs.declared.file_view.FileView.{FileView}
 use Rattle.scm_document.specs.declared.index_pieces.FilePiece.{FilePiece}
 use Rattle.scm_document.specs.declared.index_pieces.SectionPiece.{SectionPiece}
+use Rattle.scm_document.specs.declared.index_pieces.Piece.{Piece}
+use Rattle.scm_document.specs.declared.index_pieces.Piece.TheVariants as pieces
 use Rattle.scm_widgets.specs.Layers.{Strip, clear, owned, is_among}
 use Rattle.scm_document.specs.Owners.{AreRowsOf, AreSectionsOf}
 use Rattle.scm_document.specs.Rows.{file_id, section_height, section_rows, ShownFile, shown_of_view, shown_sections, sections_rows, shown_file, file_rows}
 use Rattle.scm_widgets.specs.Boxes.{is_fold_open}
 use Rattle.scm_document.specs.Strips.{everywhere, row_strip, section_strips, sections_strips, header_strip, file_strips, is_over, files_strips}
 use Rattle.scm_widgets.specs.OverlayRects.{is_from}
-use Rattle.scm_document.specs.PieceOwners.{section_owner, sections_owner, header_owner, file_owner, files_owner, rows_owner}
+use Rattle.scm_document.specs.PieceOwners.{section_owner, header_owner, owner_in_section, row_owner, found_owner}
+use Rattle.scm_document.specs.Pieces.{files_pieces, pieces_among, section_among, section_below}
 use Rattle.scm_document.specs.SectionWalk.{visible_views}
-use Rattle.scm_document.specs.ViewPieces.{section_piece_of, sections_height, section_piece_list, file_height, sections_in_file, file_piece_of, file_piece_list, sections_in_files}
+use Rattle.scm_document.specs.ViewPieces.{section_piece_of, sections_height, section_piece_list, file_height, sections_in_file, file_piece_of}
 use Rattle.scm_widgets.proofs.DrawsStrips.{line-owned}
 use Rattle.scm_document.proofs.FilesOf.{IsHeadingOf, IsFileOf, AreFilesOf}
 use Rattle.scm_document.proofs.SectionsLemmas.{section-size, shown-visible}
@@ -51,7 +54,7 @@ file-height v = go (is_fold_open v.expand_box)
 unfoldable pub owner_of : List (Strip ComponentId) → ℕ → ℕ → ℕ → Option ComponentId
 owner_of ss top y x = (line clear ss (pos top) (pos y)).owner x
 
-from-true : (top end y : ℕ) → is_from top end y ≡ true → (top ≤ y) × (y < end)
+pub from-true : (top end y : ℕ) → is_from top end y ≡ true → (top ≤ y) × (y < end)
 from-true top end y e = (grind (arith, nat_tests), grind (arith, nat_tests))
 
 from-false : (top end y : ℕ) → is_from top end y ≡ false → top ≤ y → end ≤ y
@@ -83,17 +86,22 @@ section-there w x top y v e low high =
     ap (λ z. (line clear (section_strips w (shown_of_view v)) (pos top) (pos z)).owner x) (sym there)
     ∙ section-owner w x top (y - top) v e (omega (arith, low, high))
 
-sections-owned : (w x y : ℕ) (f : FileKey) (n top : ℕ) (vs : List SectionView) → AreSectionsOf f n (map shown_of_view vs) → top ≤ y
-    → owner_of (sections_strips w (map shown_of_view vs)) top y x ≡ sections_owner w (section_piece_list top vs) y x
+-- the pieces of sections, and those of the files below
+abbrev pieces_from : List SectionPiece → List Piece → List Piece
+pieces_from ss rest = map pieces.Section ss ++ rest
+
+sections-owned : (w x y : ℕ) (f : FileKey) (n top : ℕ) (vs : List SectionView) (rest : List Piece) → AreSectionsOf f n (map shown_of_view vs) → section_among y rest ≡ None → top ≤ y
+    → owner_of (sections_strips w (map shown_of_view vs)) top y x ≡ owner_in_section w (section_among y (pieces_from (section_piece_list top vs) rest)) y x
 unfolding sections_strips
-sections-owned w x y f n top [] e h = no-strips top y x
-sections-owned w x y f n top (v ∷ vs) e h =
-    go (λ m next q p. sections-owned w x y f m next vs q p) e (is_from top (top + section_height v v.section.now) y) refl
+sections-owned w x y f n top [] rest e none h = rw none (no-strips top y x)
+sections-owned w x y f n top (v ∷ vs) rest e none h =
+    go (λ m next q p. sections-owned w x y f m next vs rest q none p) e (is_from top (top + section_height v v.section.now) y) refl
   where
-    go : ((m next : ℕ) → AreSectionsOf f m (map shown_of_view vs) → next ≤ y → owner_of (sections_strips w (map shown_of_view vs)) next y x ≡ sections_owner w (section_piece_list next vs) y x)
+    go : ((m next : ℕ) → AreSectionsOf f m (map shown_of_view vs) → next ≤ y
+        → owner_of (sections_strips w (map shown_of_view vs)) next y x ≡ owner_in_section w (section_among y (pieces_from (section_piece_list next vs) rest)) y x)
         → AreSectionsOf f n (shown_of_view v ∷ map shown_of_view vs) → (t : Bool) → is_from top (top + section_height v v.section.now) y ≡ t
         → owner_of (section_strips w (shown_of_view v) ++ sections_strips w (map shown_of_view vs)) top y x
-        ≡ (if t then section_owner w (section_piece_of v top) (y - top) x else sections_owner w (section_piece_list (top + section_height v v.section.now) vs) y x)
+        ≡ owner_in_section w (if t then Some (section_piece_of v top) else section_among y (pieces_from (section_piece_list (top + section_height v v.section.now) vs) rest)) y x
     go more e true q =
         let in_it = from-true top (top + section_height v v.section.now) y q in
         let size = length-section w v in
@@ -104,27 +112,6 @@ sections-owned w x y f n top (v ∷ vs) e h =
         let past = from-false top (top + section_height v v.section.now) y q h in
         lower (section_strips w (shown_of_view v)) (sections_strips w (map shown_of_view vs)) top (top + section_height v v.section.now) y x (omega (arith, size)) past
         ∙ more (suc v.section_key.section_idx) (top + section_height v v.section.now) e.3 past
-
--- the sections of a file are above those of the files below it
-sections-past : (w x y top : ℕ) (vs : List SectionView) (rest : List SectionPiece) → top + sections_height vs ≤ y → sections_owner w (section_piece_list top vs ++ rest) y x ≡ sections_owner w rest y x
-sections-past w x y top [] rest h = refl
-sections-past w x y top (v ∷ vs) rest h =
-    let p : top + (section_height v v.section.now + sections_height vs) ≤ y = h in
-    let out : is_from top (top + section_height v v.section.now) y ≡ false = grind (arith, nat_tests, p) in
-    rw out (sections-past w x y (top + section_height v v.section.now) vs rest (omega (arith, p)))
-
-sections-within : (w x y top : ℕ) (vs : List SectionView) (rest : List SectionPiece) → top ≤ y → y < top + sections_height vs
-    → sections_owner w (section_piece_list top vs ++ rest) y x ≡ sections_owner w (section_piece_list top vs) y x
-sections-within w x y top [] rest low h = absurd (omega (arith, low, h))
-sections-within w x y top (v ∷ vs) rest low h = go h (λ next q p. sections-within w x y next vs rest q p) (is_from top (top + section_height v v.section.now) y) refl
-  where
-    go : y < top + (section_height v v.section.now + sections_height vs)
-        → ((next : ℕ) → next ≤ y → y < next + sections_height vs → sections_owner w (section_piece_list next vs ++ rest) y x ≡ sections_owner w (section_piece_list next vs) y x)
-        → (t : Bool) → is_from top (top + section_height v v.section.now) y ≡ t
-        → (if t then section_owner w (section_piece_of v top) (y - top) x else sections_owner w (section_piece_list (top + section_height v v.section.now) vs ++ rest) y x)
-        ≡ (if t then section_owner w (section_piece_of v top) (y - top) x else sections_owner w (section_piece_list (top + section_height v v.section.now) vs) y x)
-    go p more true q = refl
-    go p more false q = more (top + section_height v v.section.now) (from-false top (top + section_height v v.section.now) y q low) (omega (arith, p))
 
 -- ---- who owns a point among files
 
@@ -141,23 +128,24 @@ header-strip-owner w x f t e ids_are false q =
     rw (sym q, e, ids_are.toggle, ids_are.fold)
     (ap (λ o. first_of_two o (Some (ids.FileViewHeader f.key))) (two_boxes (is_among 0 3 x) (is_among (w - 3) 3 x) (ids.ToggleBox (selection.File f.key)) (ids.ExpandBox (selection.File f.key))))
 
-file-parts : (w x y m top : ℕ) (v : FileView) (b : Bool) → IsHeadingOf v.file_key (shown_file v).heading → AreSectionsOf v.file_key 0 (shown_file v).sections → b ≡ (file_piece_of m top v).is_pinned → top ≤ y
+file-parts : (w x y m top : ℕ) (v : FileView) (b : Bool) (rest : List Piece) → IsHeadingOf v.file_key (shown_file v).heading → AreSectionsOf v.file_key 0 (shown_file v).sections
+    → b ≡ (file_piece_of m top v).is_pinned → section_among y rest ≡ None → top ≤ y
     → owner_of (header_strip w b (shown_file v) ∷ sections_strips w (shown_file v).sections) top y x
-    ≡ (if y == top then header_owner w (file_piece_of m top v) x else sections_owner w (sections_in_file top v) y x)
+    ≡ (if y == top then header_owner w (file_piece_of m top v) x else owner_in_section w (section_below (file_piece_of m top v) y (pieces_from (sections_in_file top v) rest)) y x)
 unfolding owner_of line shown_file
-file-parts w x y m top v b heading sections pinned h = go (y == top) refl
+file-parts w x y m top v b rest heading sections pinned none h = go (y == top) refl
   where
     below : (c : Bool) → AreSectionsOf v.file_key 0 (if c then shown_sections false v.section_views else []) → suc top ≤ y
         → (line clear (sections_strips w (if c then shown_sections false v.section_views else [])) (pos (top + 1)) (pos y)).owner x
-        ≡ sections_owner w (if c then section_piece_list (top + 1) (visible_views false v.section_views) else []) y x
+        ≡ owner_in_section w (section_among y (pieces_from (if c then section_piece_list (top + 1) (visible_views false v.section_views) else []) rest)) y x
     below true e p =
         let all = shown-visible false v.section_views in
-        rw all (sections-owned w x y v.file_key 0 (top + 1) (visible_views false v.section_views) (rw all at e) (omega (arith, p)))
-    below false e p = no-sections w (pos (top + 1)) (pos y) x
+        rw all (sections-owned w x y v.file_key 0 (top + 1) (visible_views false v.section_views) rest (rw all at e) none (omega (arith, p)))
+    below false e p = rw none (no-sections w (pos (top + 1)) (pos y) x)
 
     go : (t : Bool) → (y == top) ≡ t
         → (cond (int_eq (pos y) (pos top)) (header_strip w b (shown_file v)) (line clear (sections_strips w (shown_file v).sections) (pos top +ℤ pos 1) (pos y))).owner x
-        ≡ (if t then header_owner w (file_piece_of m top v) x else sections_owner w (sections_in_file top v) y x)
+        ≡ (if t then header_owner w (file_piece_of m top v) x else owner_in_section w (if t then None else section_among y (pieces_from (sections_in_file top v) rest)) y x)
     go true e = rw (same-row top y true e) (header-strip-owner w x (shown_file v) (file_piece_of m top v) refl heading b pinned)
     go false e =
         let differ : y ≡ top → ⊥ = λ q. grind (arith, e, q) in
@@ -169,10 +157,12 @@ file-strips-length w b v = length-file_strips w b (shown_file v) ∙ file-height
 own-file : (o : Option ComponentId) (t : Bool) (i : ComponentId) → t ≡ true → first_of_two o (cond (t && true) (Some i) None) ≡ first_of_two o (Some i)
 own-file o t i e = rw e refl
 
-file-owned : (w x y m commit n top : ℕ) (v : FileView) (b : Bool) → IsFileOf commit n (shown_file v) → b ≡ (file_piece_of m top v).is_pinned → top ≤ y → y < top + file_height v
-    → owner_of (file_strips w b (shown_file v)) top y x ≡ file_owner w (file_piece_of m top v) (sections_owner w (sections_in_file top v) y x) y x
+file-owned : (w x y m commit n top : ℕ) (v : FileView) (b : Bool) (rest : List Piece) → IsFileOf commit n (shown_file v) → b ≡ (file_piece_of m top v).is_pinned → section_among y rest ≡ None
+    → top ≤ y → y < top + file_height v
+    → owner_of (file_strips w b (shown_file v)) top y x
+    ≡ row_owner w (record { file = file_piece_of m top v; section = section_below (file_piece_of m top v) y (pieces_from (sections_in_file top v) rest) }) y x
 unfolding owner_of file_strips shown_file
-file-owned w x y m commit n top v b is pinned low high =
+file-owned w x y m commit n top v b rest is pinned none low high =
     let inner : List (Strip ComponentId) = header_strip w b (shown_file v) ∷ sections_strips w (shown_file v).sections in
     let size : length inner ≡ file_height v = sym (length-map inner (owned (file_id v.file_key) everywhere)) ∙ file-strips-length w b v in
     let there : top + (y - top) ≡ y = omega (arith, low) in
@@ -180,64 +170,53 @@ file-owned w x y m commit n top v b is pinned low high =
     subst (λ z. (int_le (pos top) (pos z) && int_lt (pos z) (pos top +ℤ pos (length inner))) ≡ true) there (row-within top (y - top) (length inner) (omega (arith, low, high, size))) in
     sym (line-owned (file_id v.file_key) everywhere inner (pos top) (pos y) x)
     ∙ own-file ((line clear inner (pos top) (pos y)).owner x) _ (file_id v.file_key) seen
-    ∙ ap (λ o. first_of_two o (Some (file_id v.file_key))) (file-parts w x y m top v b is.heading is.sections pinned low)
+    ∙ ap (λ o. first_of_two o (Some (file_id v.file_key))) (file-parts w x y m top v b rest is.heading is.sections pinned none low)
 
 pinned-is : (m top : ℕ) (v : FileView) → is_over m top (shown_file v) ≡ (file_piece_of m top v).is_pinned
 pinned-is m top v = ap (λ n. nat_lt top m && nat_lt m (top + n)) (file-height v)
 
--- of the sections of a file and of files below it
-tops-within : (w x y top : ℕ) (v : FileView) (rest : List SectionPiece) → (y == top) ≡ false → top ≤ y → y < top + file_height v
-    → sections_owner w (sections_in_file top v ++ rest) y x ≡ sections_owner w (sections_in_file top v) y x
-tops-within w x y top v rest e low high = go (is_fold_open v.expand_box) high
-  where
-    differ : y ≡ top → ⊥
-    differ q = grind (arith, e, q)
+-- among the pieces of files there is no section before the first file, and none that has a row of a file above
+pub none-below : (y m top : ℕ) (vs : List FileView) → section_among y (files_pieces m top vs) ≡ None
+none-below y m top [] = refl
+none-below y m top (v ∷ vs) = refl
 
-    go : (b : Bool) → y < top + (1 + (if b then sections_height (visible_views false v.section_views) else 0))
-        → sections_owner w ((if b then section_piece_list (top + 1) (visible_views false v.section_views) else []) ++ rest) y x ≡ sections_owner w (if b then section_piece_list (top + 1) (visible_views false v.section_views) else []) y x
-    go true h = sections-within w x y (top + 1) (visible_views false v.section_views) rest (grind (arith, differ, low)) (omega (arith, h))
-    go false h = absurd (differ (omega (arith, h, low)))
+pub past-sections : (y : ℕ) (ss : List SectionPiece) (ps : List Piece) → pieces_among y (pieces_from ss ps) ≡ pieces_among y ps
+past-sections y [] ps = refl
+past-sections y (s ∷ ss) ps = past-sections y ss ps
 
-tops-past : (w x y top : ℕ) (v : FileView) (rest : List SectionPiece) → top + file_height v ≤ y → sections_owner w (sections_in_file top v ++ rest) y x ≡ sections_owner w rest y x
-tops-past w x y top v rest high = go (is_fold_open v.expand_box) high
-  where
-    go : (b : Bool) → top + (1 + (if b then sections_height (visible_views false v.section_views) else 0)) ≤ y
-        → sections_owner w ((if b then section_piece_list (top + 1) (visible_views false v.section_views) else []) ++ rest) y x ≡ sections_owner w rest y x
-    go true h = sections-past w x y (top + 1) (visible_views false v.section_views) rest (omega (arith, h))
-    go false h = refl
-
--- the header's row asks no section
-file-alone : (w x y : ℕ) (t : FilePiece) (a b : Option ComponentId) → ((y == t.top) ≡ false → a ≡ b) → file_owner w t a y x ≡ file_owner w t b y x
-file-alone w x y t a b h = go (y == t.top) refl
-  where
-    go : (s : Bool) → (y == t.top) ≡ s → first_of_two (if s then header_owner w t x else a) (Some (file_id t.key)) ≡ first_of_two (if s then header_owner w t x else b) (Some (file_id t.key))
-    go true e = refl
-    go false e = ap (λ o. first_of_two o (Some (file_id t.key))) (h e)
+-- no file has a row above the first
+pub files-above : (m top y : ℕ) (vs : List FileView) → y < top → pieces_among y (files_pieces m top vs) ≡ None
+files-above m top y [] h = refl
+files-above m top y (v ∷ vs) h =
+    let out : is_from top (top + file_height v) y ≡ false = grind (arith, nat_tests, h) in
+    rw out (past-sections y (sections_in_file top v) (files_pieces m (top + file_height v) vs) ∙ files-above m (top + file_height v) y vs (omega (arith, h)))
 
 pub files-owned : (w x y m commit n top : ℕ) (vs : List FileView) → AreFilesOf commit n (map shown_file vs) → top ≤ y
-    → owner_of (files_strips w m top (map shown_file vs)) top y x ≡ rows_owner w (file_piece_list m top vs) (sections_in_files top vs) y x
+    → owner_of (files_strips w m top (map shown_file vs)) top y x ≡ found_owner w (pieces_among y (files_pieces m top vs)) y x
 unfolding files_strips
 files-owned w x y m commit n top [] e h = no-strips top y x
 files-owned w x y m commit n top (v ∷ vs) e h =
     let more = λ (p : top + file_height v ≤ y). files-owned w x y m commit (suc (shown_file v).key.file_idx) (top + file_height v) vs e.1 p in
     subst (λ k. owner_of (file_strips w (is_over m top (shown_file v)) (shown_file v) ++ files_strips w m (top + k) (map shown_file vs)) top y x
-    ≡ rows_owner w (file_piece_list m top (v ∷ vs)) (sections_in_files top (v ∷ vs)) y x) (sym (file-height v))
+    ≡ found_owner w (pieces_among y (files_pieces m top (v ∷ vs))) y x) (sym (file-height v))
     (go more (is_from top (top + file_height v) y) refl)
   where
-    go : (top + file_height v ≤ y → owner_of (files_strips w m (top + file_height v) (map shown_file vs)) (top + file_height v) y x ≡ rows_owner w (file_piece_list m (top + file_height v) vs) (sections_in_files (top + file_height v) vs) y x)
+    rest : List Piece
+    rest = files_pieces m (top + file_height v) vs
+
+    go : (top + file_height v ≤ y → owner_of (files_strips w m (top + file_height v) (map shown_file vs)) (top + file_height v) y x ≡ found_owner w (pieces_among y rest) y x)
         → (t : Bool) → is_from top (top + file_height v) y ≡ t
         → owner_of (file_strips w (is_over m top (shown_file v)) (shown_file v) ++ files_strips w m (top + file_height v) (map shown_file vs)) top y x
-        ≡ (if t then file_owner w (file_piece_of m top v) (sections_owner w (sections_in_file top v ++ sections_in_files (top + file_height v) vs) y x) y x
-        else files_owner w (file_piece_list m (top + file_height v) vs) (sections_owner w (sections_in_file top v ++ sections_in_files (top + file_height v) vs) y x) y x)
+        ≡ found_owner w (if t then Some (record { file = file_piece_of m top v; section = section_below (file_piece_of m top v) y (pieces_from (sections_in_file top v) rest) })
+        else pieces_among y (pieces_from (sections_in_file top v) rest)) y x
     go more true q =
         let in_it = from-true top (top + file_height v) y q in
         let size = file-strips-length w (is_over m top (shown_file v)) v in
         upper (file_strips w (is_over m top (shown_file v)) (shown_file v)) (files_strips w m (top + file_height v) (map shown_file vs)) top y x (omega (arith, in_it.1, size))
-        ∙ file-owned w x y m commit n top v (is_over m top (shown_file v)) e.0 (pinned-is m top v) in_it.0 in_it.1
-        ∙ file-alone w x y (file_piece_of m top v) _ _ (λ other. sym (tops-within w x y top v (sections_in_files (top + file_height v) vs) other in_it.0 in_it.1))
+        ∙ file-owned w x y m commit n top v (is_over m top (shown_file v)) rest e.0 (pinned-is m top v) (none-below y m (top + file_height v) vs) in_it.0 in_it.1
     go more false q =
         let past = from-false top (top + file_height v) y q h in
         let size = file-strips-length w (is_over m top (shown_file v)) v in
         lower (file_strips w (is_over m top (shown_file v)) (shown_file v)) (files_strips w m (top + file_height v) (map shown_file vs)) top (top + file_height v) y x (omega (arith, size)) past
         ∙ more past
-        ∙ ap (λ o. files_owner w (file_piece_list m (top + file_height v) vs) o y x) (sym (tops-past w x y top v (sections_in_files (top + file_height v) vs) past))
+        ∙ ap (λ o. found_owner w o y x) (sym (past-sections y (sections_in_file top v) rest))

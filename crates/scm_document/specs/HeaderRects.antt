@@ -1,10 +1,10 @@
 -- The overlay rectangles of a message's button and of the headers of files.
-use Rattle.std.specs.Prelude.{ℕ, ◌-◌, List, [], ◌∷◌, if◌then◌else◌, Bool, true, false}
+use Rattle.std.specs.Prelude.{ℕ, ◌-◌, List, [], ◌∷◌, if◌then◌else◌, Bool, true, false, Option, Some, None}
 use Rattle.scm_types.specs.declared.keys.FileKey.{FileKey}
 use Rattle.scm_types.specs.declared.keys.SelectionKey.TheVariants as selection
 use Rattle.scm_widgets.specs.declared.ids.ComponentId.TheVariants as ids
 use Rattle.scm_widgets.specs.declared.overlay_rects.OverlayRect.{OverlayRect}
-use Rattle.scm_document.specs.declared.index_pieces.FilePiece.{FilePiece}
+use Rattle.scm_document.specs.declared.index_pieces.RowPieces.{RowPieces}
 use Rattle.scm_widgets.specs.OverlayRects.{row_overlay_rect}
 
 -- The button of the commit's message, if there is a message.
@@ -20,7 +20,7 @@ header_rects w m k =
     ∷ (row_overlay_rect (ids.ToggleBox (selection.File k)) m 0 3
     ∷ []))
 
--- The header that is pinned on row `m`, if any.
-abbrev pub pinned_rects : ℕ → ℕ → List FilePiece → List OverlayRect
-pinned_rects w m [] = []
-pinned_rects w m (f ∷ fs) = if f.is_pinned then header_rects w m f.key else pinned_rects w m fs
+-- The header that is pinned to row `m`, if there is one, by the pieces that have the row.
+abbrev pub pinned_rects : ℕ → ℕ → Option RowPieces → List OverlayRect
+pinned_rects w m None = []
+pinned_rects w m (Some p) = if p.file.is_pinned then header_rects w m p.file.key else []

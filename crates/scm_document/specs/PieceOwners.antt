@@ -1,5 +1,5 @@
 -- The owners of the columns of a document's rows, by its pieces alone.
-use Rattle.std.specs.Prelude.{ℕ, ◌-◌, ◌==◌, nat_le, ◌||◌, if◌then◌else◌, List, [], ◌∷◌, Option, Some, None}
+use Rattle.std.specs.Prelude.{ℕ, ◌-◌, ◌==◌, nat_le, ◌||◌, if◌then◌else◌, Option, Some, None}
 use Rattle.scm_render.specs.Hits.{first_of_two}
 use Rattle.scm_types.specs.declared.keys.SectionKey.{SectionKey}
 use Rattle.scm_types.specs.declared.keys.LineKey.{LineKey}
@@ -8,6 +8,7 @@ use Rattle.scm_types.specs.declared.keys.SelectionKey.TheVariants as selection
 use Rattle.scm_widgets.specs.declared.ids.ComponentId.{ComponentId}
 use Rattle.scm_widgets.specs.declared.ids.ComponentId.TheVariants as ids
 use Rattle.scm_document.specs.declared.index_pieces.FilePiece.{FilePiece}
+use Rattle.scm_document.specs.declared.index_pieces.RowPieces.{RowPieces}
 use Rattle.scm_document.specs.declared.index_pieces.SectionPiece.{SectionPiece}
 use Rattle.scm_rows.specs.declared.row_kind.RowKind.{RowKind}
 use Rattle.scm_rows.specs.declared.row_kind.RowKind.TheVariants.{Header, Line, Mark, Context, Blank}
@@ -15,7 +16,6 @@ use Rattle.scm_document.specs.SectionPieces.{kind_on}
 use Rattle.scm_document.specs.Rows.{file_id, section_id, line_id}
 use Rattle.scm_types.specs.Keys.{line_key_of}
 use Rattle.scm_widgets.specs.Layers.{is_among}
-use Rattle.scm_widgets.specs.OverlayRects.{is_from}
 
 -- ---- the rows of a section
 
@@ -42,11 +42,6 @@ section_owner w s j x =
     first_of_two (part_owner w (kind_on s j) s.key x)
     (if s.is_wide || nat_le 2 x then Some (section_id s.key) else None)
 
--- the owner of row y and column x among sections, if any
-abbrev pub sections_owner : ℕ → List SectionPiece → ℕ → ℕ → Option ComponentId
-sections_owner w [] y x = None
-sections_owner w (s ∷ ss) y x = if is_from s.top s.end y then section_owner w s (y - s.top) x else sections_owner w ss y x
-
 -- ---- the rows of files
 
 -- the owner of column x of file f's header row; none if the header is pinned elsewhere
@@ -55,15 +50,17 @@ header_owner w f x =
     if f.is_pinned then None
     else first_of_two (box_owner w 0 (selection.File f.key) x) (Some (ids.FileViewHeader f.key))
 
--- the owner of row y and column x of file f: a part of its header, o (the owner among sections), or else the file
-abbrev pub file_owner : ℕ → FilePiece → Option ComponentId → ℕ → ℕ → Option ComponentId
-file_owner w f o y x = first_of_two (if y == f.top then header_owner w f x else o) (Some (file_id f.key))
+-- the owner of column x of row y in the section that has the row, if there is one
+abbrev pub owner_in_section : ℕ → Option SectionPiece → ℕ → ℕ → Option ComponentId
+owner_in_section w None y x = None
+owner_in_section w (Some s) y x = section_owner w s (y - s.top) x
 
--- the owner of row y and column x among files, if any; o is the owner among sections
-abbrev pub files_owner : ℕ → List FilePiece → Option ComponentId → ℕ → ℕ → Option ComponentId
-files_owner w [] o y x = None
-files_owner w (f ∷ fs) o y x = if is_from f.top f.end y then file_owner w f o y x else files_owner w fs o y x
+-- the owner of column x of row y, which the pieces have: a part of the file's header or of the section, or else the file
+abbrev pub row_owner : ℕ → RowPieces → ℕ → ℕ → Option ComponentId
+row_owner w p y x =
+    first_of_two (if y == p.file.top then header_owner w p.file x else owner_in_section w p.section y x) (Some (file_id p.file.key))
 
--- the owner of row y and column x among files and their sections, if any
-abbrev pub rows_owner : ℕ → List FilePiece → List SectionPiece → ℕ → ℕ → Option ComponentId
-rows_owner w fs ss y x = files_owner w fs (sections_owner w ss y x) y x
+-- the owner of column x of row y among the pieces that have the row, if there are any
+abbrev pub found_owner : ℕ → Option RowPieces → ℕ → ℕ → Option ComponentId
+found_owner w None y x = None
+found_owner w (Some p) y x = row_owner w p y x

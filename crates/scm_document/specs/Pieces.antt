@@ -1,21 +1,24 @@
 -- Pieces: the files of a document and their sections that have rows, each with its row range. They say what each row shows and which
 -- rows each key has. Only contracts within this crate cite these definitions.
-use Rattle.std.specs.Prelude.{ℕ, zero, suc, ◌+◌, ◌-◌, List, [], ◌∷◌, ◌++◌, map, if◌then◌else◌, Option, Some, None}
+use Rattle.std.specs.Prelude.{ℕ, zero, suc, ◌+◌, ◌-◌, ◌==◌, List, [], ◌∷◌, ◌++◌, map, if◌then◌else◌, Option, Some, None}
 use Rattle.scm_types.specs.declared.keys.SectionKey.{SectionKey}
 use Rattle.scm_types.specs.declared.keys.SelectionKey.{SelectionKey}
 use Rattle.scm_types.specs.declared.keys.SelectionKey.TheVariants as selection
 use Rattle.scm_types.specs.Keys.{is_key, line_key_of}
+use Rattle.scm_rows.specs.declared.row_kind.RowKind.{RowKind}
 use Rattle.scm_rows.specs.Kinds.{line_of}
 use Rattle.scm_document.specs.declared.row_place.RowPlace.{RowPlace}
 use Rattle.scm_document.specs.declared.row_place.RowPlace.TheVariants as part
 use Rattle.scm_document.specs.declared.index_pieces.FilePiece.{FilePiece}
 use Rattle.scm_document.specs.declared.index_pieces.SectionPiece.{SectionPiece}
+use Rattle.scm_document.specs.declared.index_pieces.RowPieces.{RowPieces}
 use Rattle.scm_document.specs.declared.index_pieces.Piece.{Piece}
 use Rattle.scm_document.specs.declared.index_pieces.Piece.TheVariants.{File, Section}
 use Rattle.scm_document.specs.declared.file_view.FileView.{FileView}
 use Rattle.scm_document.specs.Places.{Place}
 use Rattle.scm_document.specs.RowIndex.{section_parts}
 use Rattle.scm_document.specs.SectionPieces.{kind_on}
+use Rattle.scm_widgets.specs.OverlayRects.{is_from}
 use Rattle.scm_document.specs.ViewPieces.{file_height, file_piece_of, sections_in_file}
 
 -- ---- the pieces of a document
@@ -29,17 +32,24 @@ abbrev pub files_pieces : ℕ → ℕ → List FileView → List Piece
 files_pieces m top [] = []
 files_pieces m top (v ∷ vs) = file_pieces m top v ++ files_pieces m (top + file_height v) vs
 
--- the files among pieces
-abbrev pub files_of : List Piece → List FilePiece
-files_of [] = []
-files_of (File f ∷ ps) = f ∷ files_of ps
-files_of (Section s ∷ ps) = files_of ps
+-- ---- the pieces that have a row
 
--- the sections among pieces
-abbrev pub sections_of : List Piece → List SectionPiece
-sections_of [] = []
-sections_of (File f ∷ ps) = sections_of ps
-sections_of (Section s ∷ ps) = s ∷ sections_of ps
+-- the section that has row y, if any, of those at the front of the pieces
+abbrev pub section_among : ℕ → List Piece → Option SectionPiece
+section_among y [] = None
+section_among y (File f ∷ ps) = None
+section_among y (Section s ∷ ps) = if is_from s.top s.end y then Some s else section_among y ps
+
+-- the section that has row y of file f, whose sections are at the front of the pieces, if the row is not the header's
+abbrev pub section_below : FilePiece → ℕ → List Piece → Option SectionPiece
+section_below f y ps = if y == f.top then None else section_among y ps
+
+-- the pieces that have row y, if any
+abbrev pub pieces_among : ℕ → List Piece → Option RowPieces
+pieces_among y [] = None
+pieces_among y (File f ∷ ps) =
+    if is_from f.top f.end y then Some (record { file = f; section = section_below f y ps }) else pieces_among y ps
+pieces_among y (Section s ∷ ps) = pieces_among y ps
 
 -- ---- what the rows show
 
@@ -55,18 +65,20 @@ abbrev pub line_list : SectionKey → ℕ → Option ℕ → List Place
 line_list k row None = []
 line_list k row (Some i) = record { key = selection.Line (line_key_of k i); top = row; rows = 1 } ∷ []
 
--- the places of the lines on n rows of section s, from its row j on
-unfoldable pub lines_places : SectionPiece → ℕ → ℕ → List Place
-lines_places s j zero = []
-lines_places s j (suc n) = line_list s.key (s.top + j) (line_of (kind_on s j)) ++ lines_places s (suc j) n
+-- the places of the lines on n rows of section k, from its row j on; the section begins on row `top`, and `kind` says what its rows show
+unfoldable pub lines_places : SectionKey → ℕ → (ℕ → RowKind) → ℕ → ℕ → List Place
+lines_places k top kind j zero = []
+lines_places k top kind j (suc n) = line_list k (top + j) (line_of (kind j)) ++ lines_places k top kind (suc j) n
+
+-- the places of the lines of section s
+abbrev pub lines_in : SectionPiece → List Place
+lines_in s = lines_places s.key s.top (kind_on s) 0 (s.end - s.top)
 
 -- ---- the places of the keys
 
 -- the places of section s and its lines
 abbrev pub section_places : SectionPiece → List Place
-section_places s =
-    record { key = selection.Section s.key; top = s.top; rows = s.end - s.top }
-    ∷ lines_places s 0 (s.end - s.top)
+section_places s = record { key = selection.Section s.key; top = s.top; rows = s.end - s.top } ∷ lines_in s
 
 -- the places of a file, or of a section and its lines
 abbrev pub piece_places : Piece → List Place
@@ -77,3 +89,7 @@ piece_places (Section s) = section_places s
 abbrev pub found_in : SelectionKey → List Place → Option (ℕ × ℕ)
 found_in key [] = None
 found_in key (p ∷ ps) = if is_key key p.key then Some (p.top, p.rows) else found_in key ps
+
+-- a first row and a number of rows, unless that is 0
+abbrev pub some_rows : ℕ × ℕ → Option (ℕ × ℕ)
+some_rows r = if r.1 == 0 then None else Some r

@@ -118,14 +118,18 @@ line_box v line checked = record {
   icon_style = style.Check;
 }
 
+-- the rows of lines, the first of which has index i; `row` makes a line's row of its index and the line
+unfoldable pub rows_of_lines : {L : Type 0} → (ℕ → L → DocRow) → ℕ → List L → List DocRow
+rows_of_lines row i [] = []
+rows_of_lines row i (l ∷ ls) = row i l ∷ rows_of_lines row (suc i) ls
+
 -- the row of changed line l, which has index i
 abbrev pub changed_row : SectionView → ℕ → SectionChangedLine → DocRow
 changed_row v i l = LineRow (line_key_of v.section_key i) (line_box v i l.is_checked) (line_texts (sign_text l.change_type) l.line)
 
 -- the rows of changed lines, the first of which has index i
-unfoldable pub changed_rows : SectionView → ℕ → List SectionChangedLine → List DocRow
-changed_rows v i [] = []
-changed_rows v i (l ∷ ls) = changed_row v i l ∷ changed_rows v (suc i) ls
+abbrev pub changed_rows : SectionView → ℕ → List SectionChangedLine → List DocRow
+changed_rows v i ls = rows_of_lines (changed_row v) i ls
 
 -- the number of the line of context at `index`, if the first line has number `start`; it saturates at 2^64 - 1
 abbrev pub line_number : ℕ → ℕ → ℕ
@@ -136,9 +140,8 @@ abbrev pub numbered_row : SectionView → ℕ → List ℕ → DocRow
 numbered_row v i l = ContextRow (line_key_of v.section_key i) (line_texts (number_text (line_number v.line_start_num i)) l)
 
 -- the rows of lines of context, the first of which has index i
-unfoldable pub numbered_rows : SectionView → ℕ → List (List ℕ) → List DocRow
-numbered_rows v i [] = []
-numbered_rows v i (l ∷ ls) = numbered_row v i l ∷ numbered_rows v (suc i) ls
+abbrev pub numbered_rows : SectionView → ℕ → List (List ℕ) → List DocRow
+numbered_rows v i ls = rows_of_lines (numbered_row v) i ls
 
 -- the number of lines of either kind
 abbrev pub lines_count : Lines → ℕ

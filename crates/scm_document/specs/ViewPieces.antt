@@ -1,5 +1,5 @@
 -- The pieces of files and sections, from the views that show them.
-use Rattle.std.specs.Prelude.{ℕ, ◌+◌, List, [], ◌∷◌, ◌++◌, false, if◌then◌else◌}
+use Rattle.std.specs.Prelude.{ℕ, ◌+◌, List, [], ◌∷◌, false, if◌then◌else◌}
 use Rattle.scm_document.specs.declared.section_view.SectionView.{SectionView}
 use Rattle.scm_document.specs.declared.file_view.FileView.{FileView}
 use Rattle.scm_document.specs.declared.index_pieces.FilePiece.{FilePiece}
@@ -41,13 +41,3 @@ file_piece_of m top v = file_piece m v.file_key top (top + file_height v)
 abbrev pub files_height : List FileView → ℕ
 files_height [] = 0
 files_height (v ∷ vs) = file_height v + files_height vs
-
--- the pieces of files from row `top` on, without those of their sections
-abbrev pub file_piece_list : ℕ → ℕ → List FileView → List FilePiece
-file_piece_list m top [] = []
-file_piece_list m top (v ∷ vs) = file_piece_of m top v ∷ file_piece_list m (top + file_height v) vs
-
--- the pieces of the sections of files from row `top` on
-abbrev pub sections_in_files : ℕ → List FileView → List SectionPiece
-sections_in_files top [] = []
-sections_in_files top (v ∷ vs) = sections_in_file top v ++ sections_in_files (top + file_height v) vs

@@ -5,8 +5,8 @@ ghost use Rattle.scm_document.specs.HeaderRects.{header_rects, pinned_rects};
 ghost use Rattle.scm_render.specs.Hits.{first_of_two};
 ghost use Rattle.scm_document.specs.Rows.{line_id as id_of_line, section_id};
 ghost use Rattle.scm_widgets.specs.Layers.{is_among as among};
-ghost use Rattle.scm_document.specs.PieceOwners.{box_owner, file_owner, files_owner, header_owner, line_owner, part_owner, rows_owner, section_owner, sections_owner};
-ghost use Rattle.scm_document.specs.Pieces.{files_of, sections_of};
+ghost use Rattle.scm_document.specs.PieceOwners.{box_owner, header_owner, line_owner, owner_in_section, part_owner, row_owner, section_owner};
+ghost use Rattle.scm_document.specs.Pieces.{pieces_among, section_among, section_below};
 ghost use Rattle.scm_document.specs.SectionPieces.{kind_on};
 
 use scm_rows::row_kind::row_kind;
@@ -53,6 +53,15 @@ pub enum Piece {
     File(FilePiece),
     /// A visible section.
     Section(SectionPiece),
+}
+
+/// The pieces that have a row.
+#[derive(Clone, Copy)]
+pub struct RowPieces {
+    /// The file that has the row.
+    pub file: FilePiece,
+    /// Its section that has the row, if the row is not the file's header.
+    pub section: Option<SectionPiece>,
 }
 
 /// Returns `first`, or `second` if `first` is `None`.
@@ -159,23 +168,6 @@ impl SectionPiece {
     }
 }
 
-/// Returns the owner of `row` and `column` among the sections, if any.
-fn sections_owner(width: usize, pieces: &[Piece], row: usize, column: usize) -> Option<ComponentId>
-    ensures { result ≡ sections_owner width (sections_of pieces.now) row column }
-{
-    for piece in pieces {
-        match piece {
-            Piece::File(_) => {}
-            Piece::Section(section) => {
-                if is_from(section.top, section.end, row) {
-                    return section.owner(width, row - section.top, column);
-                }
-            }
-        }
-    }
-    None
-}
-
 impl FilePiece {
     /// Returns the part of the header that owns `column`; none if the header is pinned elsewhere.
     fn header_owner(self, width: usize, column: usize) -> Option<ComponentId>
@@ -187,57 +179,80 @@ impl FilePiece {
         let part = box_owner(width, 0, SelectionKey::File(self.key), column);
         first_of_two(part, Some(ComponentId::FileViewHeader(self.key)))
     }
+}
 
-    /// Returns the owner of `row` and `column` of the file; `owner` is the owner among sections.
-    fn owner(
-        self,
-        width: usize,
-        owner: Option<ComponentId>,
-        row: usize,
-        column: usize,
-    ) -> Option<ComponentId>
-        ensures { result ≡ file_owner width self owner row column }
+impl RowPieces {
+    /// Returns the owner of `row` and `column` in the section, if it has one there.
+    fn owner_in_section(&self, width: usize, row: usize, column: usize) -> Option<ComponentId>
+        ensures { result ≡ owner_in_section width self.now.section row column }
     {
-        let part = if row == self.top {
-            self.header_owner(width, column)
+        match &self.section {
+            None => None,
+            Some(section) => section.owner(width, row.saturating_sub(section.top), column),
+        }
+    }
+
+    /// Returns the owner of `row`, which the pieces have, and `column`. The screen has `width` columns.
+    pub fn owner(&self, width: usize, row: usize, column: usize) -> Option<ComponentId>
+        ensures { result ≡ row_owner width self.now row column }
+    {
+        let part = if row == self.file.top {
+            self.file.header_owner(width, column)
         } else {
-            owner
+            self.owner_in_section(width, row, column)
         };
-        let id = ComponentId::SelectableItem(SelectionKey::File(self.key));
+        let id = ComponentId::SelectableItem(SelectionKey::File(self.file.key));
         first_of_two(part, Some(id))
     }
 }
 
-/// Returns the owner of `row` and `column` among files; `owner` is the owner among sections.
-fn files_owner(
-    width: usize,
-    pieces: &[Piece],
-    owner: Option<ComponentId>,
-    row: usize,
-    column: usize,
-) -> Option<ComponentId>
-    ensures { result ≡ files_owner width (files_of pieces.now) owner row column }
+/// Returns the section that has row `row`, if any, of those at the front of `pieces`.
+fn section_among(pieces: &[Piece], row: usize) -> Option<SectionPiece>
+    ensures { result ≡ section_among row pieces.now }
 {
     for piece in pieces {
         match piece {
+            Piece::File(_) => return None,
+            Piece::Section(section) => {
+                if is_from(section.top, section.end, row) {
+                    return Some(*section);
+                }
+            }
+        }
+    }
+    None
+}
+
+/// Returns the section that has row `row` of `file`, whose sections are at the front of `pieces`, if
+/// the row is not the header's.
+fn section_below(file: FilePiece, pieces: &[Piece], row: usize) -> Option<SectionPiece>
+    ensures { result ≡ section_below file row pieces.now }
+{
+    if row == file.top {
+        None
+    } else {
+        section_among(pieces, row)
+    }
+}
+
+/// Returns the pieces that have row `row`, if any.
+pub fn pieces_among(pieces: &[Piece], row: usize) -> Option<RowPieces>
+    ensures { result ≡ pieces_among row pieces.now }
+{
+    for (index, piece) in pieces.iter().enumerate() {
+        match piece {
             Piece::File(file) => {
                 if is_from(file.top, file.end, row) {
-                    return file.owner(width, owner, row, column);
+                    return Some(RowPieces {
+                        file: *file,
+                        section: section_below(*file, &pieces[index + 1..], row),
+                    });
                 }
             }
             Piece::Section(_) => {}
         }
     }
     None
-}
-
-/// Returns the owner of `row` and `column` among the files and sections of `pieces`, if any. The
-/// screen has `width` columns.
-pub fn rows_owner(width: usize, pieces: &[Piece], row: usize, column: usize) -> Option<ComponentId>
-    ensures { result ≡ rows_owner width (files_of pieces.now) (sections_of pieces.now) row column }
-{
-    let owner = sections_owner(width, pieces, row, column);
-    files_owner(width, pieces, owner, row, column)
 }
 
 /// Adds the overlay rectangles of the header of file `key` on `row`.
@@ -259,8 +274,8 @@ fn push_header(
     Ok(())
 }
 
-/// Adds to `rects` the overlay rectangles of the header that `pieces` has pinned to row `row`, if
-/// there is one. The screen has `width` columns.
+/// Adds to `rects` the overlay rectangles of the header that is pinned to row `row`, if there is one.
+/// The pieces `found` have the row, and the screen has `width` columns.
 ///
 /// # Errors
 /// `AllocError`: an allocation failed.
@@ -268,22 +283,21 @@ pub fn push_pinned(
     rects: &mut Vec<OverlayRect>,
     width: usize,
     row: usize,
-    pieces: &[Piece],
+    found: Option<RowPieces>,
 ) -> Result<(), AllocError>
     requires width { width < 2 ^ 63 }
     requires row { row < 2 ^ 63 }
     ensures ok { OnOk result
-        (rects.new.items ≡ rects.old.items ++ pinned_rects width row (files_of pieces.now)) }
+        (rects.new.items ≡ rects.old.items ++ pinned_rects width row found) }
 {
-    for piece in pieces {
-        match piece {
-            Piece::File(file) => {
-                if file.is_pinned {
-                    return push_header(rects, width, row, file.key);
-                }
+    match found {
+        None => Ok(()),
+        Some(found) => {
+            if found.file.is_pinned {
+                push_header(rects, width, row, found.file.key)
+            } else {
+                Ok(())
             }
-            Piece::Section(_) => {}
         }
     }
-    Ok(())
 }

@@ -1,9 +1,9 @@
 //! The rows of a key among the pieces of an index.
-ghost use Rattle.std.specs.Prelude.{◌≡◌, ◌-◌, ◌==◌, if◌then◌else◌, Some, None};
+ghost use Rattle.std.specs.Prelude.{◌≡◌};
 ghost use Rattle.std.specs.List.{flat_map};
 ghost use Rattle.scm_types.specs.declared.keys.SelectionKey.TheVariants.{Line};
 ghost use Rattle.scm_document.specs.DocumentRows.{rows_of_key};
-ghost use Rattle.scm_document.specs.Pieces.{found_in, lines_places, piece_places, section_places};
+ghost use Rattle.scm_document.specs.Pieces.{found_in, lines_in, piece_places, section_places, some_rows};
 
 use crate::index_pieces::{Piece, SectionPiece};
 use scm_rows::row_kind::row_of_line;
@@ -11,8 +11,8 @@ use scm_types::keys::is_key;
 use scm_types::{LineKey, SelectionKey};
 
 /// Returns `rows`, a first row and a number of rows, or `None` if that number is 0.
-fn some_rows(rows: (usize, usize)) -> Option<(usize, usize)>
-    ensures { result ≡ (if rows.1 == 0 then None else Some rows) }
+pub fn some_rows(rows: (usize, usize)) -> Option<(usize, usize)>
+    ensures { result ≡ some_rows rows }
 {
     if rows.1 == 0 { None } else { Some(rows) }
 }
@@ -20,7 +20,7 @@ fn some_rows(rows: (usize, usize)) -> Option<(usize, usize)>
 impl SectionPiece {
     /// Returns the row of `line` and the number 1, if it is a line of this section that has a row.
     fn find_line(&self, line: LineKey) -> Option<(usize, usize)>
-        ensures { result ≡ found_in (Line line) (lines_places self.now 0 (self.now.end - self.now.top)) }
+        ensures { result ≡ found_in (Line line) (lines_in self.now) }
     {
         if !is_key(
             SelectionKey::Section(line.section()),
@@ -37,7 +37,7 @@ impl SectionPiece {
 
     /// Returns the first row of `key` and how many rows it has, if it is the section's key or that of a
     /// line that has a row.
-    fn find(&self, key: SelectionKey) -> Option<(usize, usize)>
+    pub fn find(&self, key: SelectionKey) -> Option<(usize, usize)>
         ensures { result ≡ found_in key (section_places self.now) }
     {
         if is_key(key, SelectionKey::Section(self.key)) {

@@ -20,6 +20,13 @@ last-rows ks k total i top before (s ∷ ss) =
     let height = visible_height ks k total i before s (is_first_open ks k (suc i) ss) in
     omega (arith, last-rows ks k total (suc i) (top + height) (is_open ks k i s) ss)
 
+-- as many rows, if the rows are the same
+pub same-rows : (ks ls : List SelectionKey) (k : FileKey) (total i top : ℕ) (before before' : Bool) (ss ts : List Section)
+    → sections_rows ks k total i top before ss ≡ sections_rows ls k total i top before' ts → sections_height ks k total i before ss ≡ sections_height ls k total i before' ts
+same-rows ks ls k total i top before before' ss ts e =
+    let ends = ap (λ rs. last_end top rs) e in
+    omega (arith, ends, last-rows ks k total i top before ss, last-rows ls k total i top before' ts)
+
 module _ (ks ls : List SelectionKey) (k : FileKey) where
   open-agree : (i : ℕ) (s : Section) → is_expanded ks k i ≡ is_expanded ls k i → is_open ks k i s ≡ is_open ls k i s
   open-agree i s h = ap (λ b. is_editable_section s && b) h
@@ -54,10 +61,10 @@ module _ (ks ls : List SelectionKey) (k : FileKey) where
 
     pub first-heights : sections_height ks k total i before (s ∷ ss)
         ≡ visible_height ls k total i before s (is_first_open ls k (suc i) ss) + sections_height ks k total (suc i) (is_open ls k i s) ss
-    unfolding sections_height
     first-heights =
-        ap (λ n. n + sections_height ks k total (suc i) (is_open ks k i s) ss) first-height
-        ∙ ap (λ b. visible_height ls k total i before s (is_first_open ls k (suc i) ss) + sections_height ks k total (suc i) b ss) (open-agree i s here)
+        let height = visible_height ls k total i before s (is_first_open ls k (suc i) ss) in
+        let ends = ap (λ rs. last_end 0 rs) (first-rows 0) in
+        omega (arith, ends, last-rows ks k total i 0 before (s ∷ ss), last-rows ks k total (suc i) (0 + height) (is_open ls k i s) ss)
 
   pub rows-agree : (total i top : ℕ) (before : Bool) (ss : List Section) → ((m : ℕ) → i ≤ m → m < i + length ss → is_expanded ks k m ≡ is_expanded ls k m)
       → sections_rows ks k total i top before ss ≡ sections_rows ls k total i top before ss
@@ -67,12 +74,6 @@ module _ (ks ls : List SelectionKey) (k : FileKey) where
       let height = visible_height ls k total i before s (is_first_open ls k (suc i) ss) in
       first-rows total i before s ss (h i (omega arith) (omega arith)) (λ some. h (suc i) (omega arith) (omega arith)) top
       ∙ ap (λ rs. rows_at top height (shape_of s) ∷ rs) (rows-agree total (suc i) (top + height) (is_open ls k i s) ss (λ m low high. h m (omega arith) (omega arith)))
-
-  pub heights-agree : (total i : ℕ) (before : Bool) (ss : List Section) → ((m : ℕ) → i ≤ m → m < i + length ss → is_expanded ks k m ≡ is_expanded ls k m)
-      → sections_height ks k total i before ss ≡ sections_height ls k total i before ss
-  heights-agree total i before ss h =
-      let ends : last_end 0 (sections_rows ks k total i 0 before ss) ≡ last_end 0 (sections_rows ls k total i 0 before ss) = ap (λ rs. last_end 0 rs) (rows-agree total i 0 before ss h) in
-      omega (arith, ends, last-rows ks k total i 0 before ss, last-rows ls k total i 0 before ss)
 
   count-agree : (i : ℕ) (s : Section) → is_expanded ks k i ≡ is_expanded ls k i → fold_count ks k i s ≡ fold_count ls k i s
   count-agree i s h = ap (λ b. if is_changed s && not b then 1 else 0) h

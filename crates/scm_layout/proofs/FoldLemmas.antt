@@ -5,7 +5,7 @@ use Rattle.std.specs.declared.cmp.Ordering.{Ordering}
 use Rattle.std.specs.declared.cmp.Ordering.TheVariants.{Less, Equal, Greater}
 use Rattle.std.specs.Ordering.{match_ordering}
 use Rattle.std.proofs.lemmas.List.Sums.{sum_by-cons}
-use Rattle.std.proofs.lemmas.Bool.{eqb-true, and_right, and_left, or_right, ne_eqb}
+use Rattle.std.proofs.lemmas.Bool.{eqb-true, and_right, and_left, ne_eqb}
 use Rattle.std.proofs.lemmas.Bool.Decides.{nat_tests}
 use Rattle.scm_types.specs.declared.file.File.{File}
 use Rattle.scm_types.specs.declared.keys.FileKey.{FileKey}
@@ -19,7 +19,8 @@ use Rattle.scm_layout.specs.declared.file_rows.FileRows.{FileRows}
 use Rattle.scm_layout.specs.declared.section_rows.SectionRows.{SectionRows}
 use Rattle.scm_layout.specs.Rows.{each_file_rows, file_height, file_key_of, file_rows, folded_count, is_expanded, moved_to, sections_height, sections_rows, stacked}
 use Rattle.scm_layout.specs.Refolds.{AreFilesButKey, AreRowsButKey, DifferIn, file_index, total_height}
-use Rattle.scm_layout.proofs.AgreeLemmas.{folds-agree, heights-agree, rows-agree}
+use Rattle.scm_selection.proofs.KeyOrderLemmas.{with-keeps}
+use Rattle.scm_layout.proofs.AgreeLemmas.{folds-agree, rows-agree, same-rows}
 
 -- ---- sets that agree on a file
 
@@ -34,7 +35,7 @@ rows_with height folded sections = record { top = 0; end = height; folded = fold
 
 file-agree : (ks ls : List SelectionKey) (k : FileKey) (f : File) → AgreeOn ks ls k → file_rows ks k f ≡ file_rows ls k f
 file-agree ks ls k f h =
-    ap (λ n. rows_with (1 + (if has_key ks (keys.File k) then n else 0)) (folded_count ks k 0 f.sections) (sections_rows ks k (length f.sections) 0 0 false f.sections)) (heights-agree ks ls k (length f.sections) 0 false f.sections (λ m low high. h.sections m))
+    ap (λ n. rows_with (1 + (if has_key ks (keys.File k) then n else 0)) (folded_count ks k 0 f.sections) (sections_rows ks k (length f.sections) 0 0 false f.sections)) (same-rows ks ls k (length f.sections) 0 0 false false f.sections f.sections (rows-agree ks ls k (length f.sections) 0 0 false f.sections (λ m low high. h.sections m)))
     ∙ ap (λ b. rows_with (1 + (if b then sections_height ls k (length f.sections) 0 false f.sections else 0)) (folded_count ks k 0 f.sections) (sections_rows ks k (length f.sections) 0 0 false f.sections)) h.file
     ∙ ap (λ n. rows_with (file_height ls k f) n (sections_rows ks k (length f.sections) 0 0 false f.sections)) (folds-agree ks ls k 0 f.sections (λ m low high. h.sections m))
     ∙ ap (λ rs. rows_with (file_height ls k f) (folded_count ls k 0 f.sections) rs) (rows-agree ks ls k (length f.sections) 0 0 false f.sections (λ m low high. h.sections m))
@@ -226,19 +227,6 @@ file-found commit index _ e = absurd cc
 
 -- ---- a key that is added again
 
-or-still : (a b c : Bool) → (b ≡ true → c ≡ true) → (a || b) ≡ true → (a || c) ≡ true
-or-still true b c h e = refl
-or-still false b c h e = h e
-
-pub still-has : (ks : List SelectionKey) (key x : SelectionKey) → has_key ks x ≡ true → has_key (with_key ks key) x ≡ true
-still-has [] key x e = absurd cc
-still-has (k ∷ ks) key x e = go (key_cmp key k) (still-has ks key x)
-  where
-    go : (o : Ordering) → (has_key ks x ≡ true → has_key (with_key ks key) x ≡ true) → has_key (match_ordering o (key ∷ k ∷ ks) (k ∷ ks) (k ∷ with_key ks key)) x ≡ true
-    go Less h = or_right (is_key x key) (is_key x k || has_key ks x) e
-    go Equal h = e
-    go Greater h = or-still (is_key x k) (has_key ks x) (has_key (with_key ks key) x) h e
-
 -- sets that agree on all other keys agree on all keys if they agree on this one
 pub same-keys : (ks ls : List SelectionKey) (key x : SelectionKey) → has_key ks key ≡ has_key ls key → ((y : SelectionKey) → is_key y key ≡ false → has_key ks y ≡ has_key ls y) → has_key ks x ≡ has_key ls x
 same-keys ks ls key x at others = go (is_key x key) refl
@@ -257,7 +245,7 @@ same-agree ks ls key k at others = record {
 
 -- a set stays the same for each file
 pub again-agrees : (ks : List SelectionKey) (key : SelectionKey) → has_key ks key ≡ true → (k : FileKey) → AgreeOn (with_key ks key) ks k
-again-agrees ks key h k = same-agree (with_key ks key) ks key k (still-has ks key key h ∙ sym h) (λ y other. other-added ks key y other)
+again-agrees ks key h k = same-agree (with_key ks key) ks key k (with-keeps ks key key h ∙ sym h) (λ y other. other-added ks key y other)
 
 -- ---- the rows of one file, found anew
 

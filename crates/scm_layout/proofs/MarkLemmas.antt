@@ -20,6 +20,7 @@ use Rattle.scm_layout.specs.Counts.{counts_of}
 use Rattle.scm_layout.specs.Layouts.{files_top, layout_of}
 use Rattle.scm_rows.specs.Context.{place}
 use Rattle.scm_rows.specs.Heights.{height_of, shape_of}
+use Rattle.scm_layout.proofs.AgreeLemmas.{same-rows}
 use Rattle.scm_layout.specs.Rows.{each_file_rows, file_height, file_key_of, file_rows, fold_count, folded_count, is_expanded, is_first_open, is_open, rows_at, sections_height, sections_rows, stacked, visible_height}
 use Rattle.scm_layout.proofs.BareLemmas.{bare, bare_file, bare_section, editable-bare, sum-mapped}
 use Rattle.scm_layout.proofs.CountLemmas.{file_size-bare}
@@ -62,13 +63,7 @@ module _ (ks : List SelectionKey) (k : FileKey) where
       ∙ ap (λ rs. rows_at top h (shape_of s) ∷ rs) (rows-bare total (suc i) (top + h) (is_open ks k i s) ss)
 
   heights-bare : (total i : ℕ) (before : Bool) (ss : List Section) → sections_height ks k total i before (bare ss) ≡ sections_height ks k total i before ss
-  unfolding sections_height
-  heights-bare total i before [] = refl
-  heights-bare total i before (s ∷ ss) =
-      let h = visible_height ks k total i before s (is_first_open ks k (suc i) ss) in
-      ap (λ n. n + sections_height ks k total (suc i) (is_open ks k i (bare_section s)) (bare ss)) (visible-bare total i before s ss)
-      ∙ ap (λ b. h + sections_height ks k total (suc i) (b && is_expanded ks k i) (bare ss)) (editable-bare s)
-      ∙ ap (λ n. h + n) (heights-bare total (suc i) (is_open ks k i s) ss)
+  heights-bare total i before ss = same-rows ks ks k total i 0 before before (bare ss) ss (rows-bare total i 0 before ss)
 
   folds-bare : (i : ℕ) (ss : List Section) → folded_count ks k i (bare ss) ≡ folded_count ks k i ss
   unfolding folded_count

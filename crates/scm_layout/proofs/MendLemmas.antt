@@ -13,7 +13,7 @@ use Rattle.scm_layout.specs.Rows.{is_expanded, is_first_open, is_open, rows_at, 
 use Rattle.scm_layout.specs.Refolds.{AreBetween, height_from, is_open_above, moved_rows, rows_from}
 use Rattle.scm_layout.specs.SectionStack.{first_or, moved_row, rows_by, shapes_of, tops_of}
 use Rattle.scm_layout.proofs.ZipLemmas.{cut-at}
-use Rattle.scm_layout.proofs.AgreeLemmas.{above-agree, first-heights, first-rows, heights-agree, rows-agree}
+use Rattle.scm_layout.proofs.AgreeLemmas.{above-agree, first-heights, first-rows, rows-agree, same-rows}
 
 no-more : (i : ℕ) → i ≡ i + 0
 no-more i = omega arith
@@ -72,13 +72,6 @@ module _ (ks : List SelectionKey) (k : FileKey) (total : ℕ) where
       let height = visible_height ks k total i before s (is_first_open ks k (suc i) ss) in
       drop-rows n (suc i) (top + height) (is_open ks k i s) ss
       ∙ ap (λ j. sections_rows ks k total j (row_at n (suc i) (top + height) (is_open ks k i s) ss) (open_at n (suc i) (is_open ks k i s) ss) (drop n ss)) (one-more i n)
-
-  pub row-top : (n i top : ℕ) (before : Bool) (ss : List Section) (d : SectionRows) → n < length ss
-      → (get_or (sections_rows ks k total i top before ss) n d).top ≡ row_at n i top before ss
-  unfolding sections_rows
-  row-top n i top before [] d h = absurd (omega arith)
-  row-top zero i top before (s ∷ ss) d h = refl
-  row-top (suc n) i top before (s ∷ ss) d h = row-top n (suc i) (top + visible_height ks k total i before s (is_first_open ks k (suc i) ss)) (is_open ks k i s) ss d (omega arith)
 
   pub tops-at : (n i top : ℕ) (before : Bool) (ss : List Section) (d : ℕ) → n < length ss
       → get_or (tops_of (sections_rows ks k total i top before ss)) n d ≡ row_at n i top before ss
@@ -218,16 +211,6 @@ tail-agree ks ls k total end top j above below (x ∷ xs) h some =
     ap (λ b. sections_rows ls k total end top b (x ∷ xs)) facts.1
     ∙ sym (rows-agree ks ls k total end top above (x ∷ xs) (λ m low high. h m (omega arith)))
 
-tail-height : (ks ls : List SelectionKey) (k : FileKey) (total end j : ℕ) (above below : Bool) (xs : List Section) → ((m : ℕ) → m ≢ j → is_expanded ks k m ≡ is_expanded ls k m)
-    → (0 < length xs → (j < end) × (below ≡ above)) → sections_height ls k total end below xs ≡ sections_height ks k total end above xs
-unfolding sections_height
-tail-height ks ls k total end j above below [] h some = refl
-tail-height ks ls k total end j above below (x ∷ xs) h some =
-    let facts : (j < end) × (below ≡ above) = some (omega arith) in
-    let past : j < end = facts.0 in
-    ap (λ b. sections_height ls k total end b (x ∷ xs)) facts.1
-    ∙ sym (heights-agree ks ls k total end above (x ∷ xs) (λ m low high. h m (omega arith)))
-
 -- ---- the rows after the fold of section j
 
 module _ (ks ls : List SelectionKey) (k : FileKey) (ss : List Section) (j : ℕ) (h : (m : ℕ) → m ≢ j → is_expanded ks k m ≡ is_expanded ls k m) where
@@ -270,24 +253,26 @@ module _ (ks ls : List SelectionKey) (k : FileKey) (ss : List Section) (j : ℕ)
         subst (λ rs. AreBetween from until (tops_of rs)) (sym rest)
         (between-tops ls k (length ss) from until end from (is_open_above ls k end ss) (drop end ss) (omega arith) (omega (arith, rest-height)))
 
+    tail-same : (to : ℕ) → (end < length ss → j + 2 ≤ end)
+        → sections_rows ls k (length ss) end to (is_open_above ls k end ss) (drop end ss) ≡ sections_rows ks k (length ss) end to (is_open_above ks k end ss) (drop end ss)
+    tail-same to past =
+        tail-agree ks ls k (length ss) end to j (is_open_above ks k end ss) (is_open_above ls k end ss) (drop end ss) h
+        (λ some. let more : end < length ss = omega (arith, length-drop end ss) in
+        let beyond : j + 2 ≤ end = past more in
+        (omega arith, sym (above-agree ks ls k end ss (λ _. h (end - 1) (omega arith)))))
+
     -- they have as many rows as before
     pub rest-tall : (end < length ss → j + 2 ≤ end) → from + height_from ks k end ss ≡ sections_height ls k (length ss) 0 false ss
     rest-tall past =
         ap (λ n. from + n)
-        (sym (tail-height ks ls k (length ss) end j (is_open_above ks k end ss) (is_open_above ls k end ss) (drop end ss) h
-        (λ some. let more : end < length ss = omega (arith, length-drop end ss) in
-        let beyond : j + 2 ≤ end = past more in
-        (omega arith, sym (above-agree ks ls k end ss (λ _. h (end - 1) (omega arith)))))))
+        (same-rows ks ls k (length ss) end 0 (is_open_above ks k end ss) (is_open_above ls k end ss) (drop end ss) (drop end ss) (sym (tail-same 0 past)))
         ∙ rest-height
 
     pub rest-moved : (to : ℕ) → (end < length ss → j + 2 ≤ end) → map (moved_rows from to) (drop end (sections_rows ls k (length ss) 0 0 false ss)) ≡ rows_from ks k end to ss
     rest-moved to past =
         ap (λ rs. map (moved_rows from to) rs) rest
         ∙ moved ls k (length ss) from to 0 end from to (is_open_above ls k end ss) (drop end ss) (omega arith) (omega arith)
-        ∙ tail-agree ks ls k (length ss) end to j (is_open_above ks k end ss) (is_open_above ls k end ss) (drop end ss) h
-        (λ some. let more : end < length ss = omega (arith, length-drop end ss) in
-        let beyond : j + 2 ≤ end = past more in
-        (omega arith, sym (above-agree ks ls k end ss (λ _. h (end - 1) (omega arith)))))
+        ∙ tail-same to past
 
   -- where sections begin after those around section j were found anew, and those below them moved
   pub mended : (tops mid new : List ℕ) (first end top from to : ℕ) → tops ≡ tops_of (sections_rows ls k (length ss) 0 0 false ss)

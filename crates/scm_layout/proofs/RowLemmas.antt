@@ -1,6 +1,6 @@
 -- The rows of sections and files: how many there are at most, and the loops that find them.
 use Rattle.std.proofs.Common.{◌≡◌, ℕ, suc, ◌+◌, ◌*◌, ◌<◌, ◌≤◌, ◌^◌, Bool, true, false, ◌||◌, List, [], ◌∷◌, ◌++◌, length, take, drop, get_or, set, refl, sym, ap, ap₂, ◌∙◌, append_assoc, arith, Some}
-use Rattle.std.specs.Prelude.{not, ◌&&◌, min, nat_eq, slice_get, sum_by, if◌then◌else◌}
+use Rattle.std.specs.Prelude.{not, ◌&&◌, slice_get, sum_by, if◌then◌else◌}
 use Rattle.std.proofs.lemmas.List.{drop_all, take_more_set}
 use Rattle.std.proofs.lemmas.List.Sums.{sum_by-cons}
 use Rattle.scm_types.specs.declared.file.File.{File}
@@ -13,10 +13,10 @@ use Rattle.scm_types.specs.Keys.{has_key}
 use Rattle.scm_types.specs.Limits.{file_size, max_items, section_size}
 use Rattle.scm_types.specs.Marks.{is_editable_section}
 use Rattle.scm_layout.proofs.ZipLemmas.{cut-at}
+use Rattle.scm_rows.proofs.HeightLemmas.{height-le}
 use Rattle.scm_rows.specs.declared.section_place.SectionPlace.{SectionPlace}
-use Rattle.scm_rows.specs.Context.{are_all_shown, context_height, dots_height, has_dots, is_first, lines_above, lines_height, place}
+use Rattle.scm_rows.specs.Context.{place}
 use Rattle.scm_rows.specs.Heights.{height_of, shape_of, shown_height}
-use Rattle.scm_rows.specs.Lines.{is_changed}
 use Rattle.scm_layout.specs.Rows.{file_height, fold_count, folded_count, is_expanded, is_first_open, is_open, rows_at, sections_height, sections_rows, visible_height}
 
 -- ---- how many rows there are at most
@@ -25,35 +25,6 @@ use Rattle.scm_layout.specs.Rows.{file_height, fold_count, folded_count, is_expa
 pub rows_room : 4 * max_items < 2 ^ 32
 unfolding max_items
 rows_room = omega arith
-
-above-le : (b c : Bool) (n : ℕ) → (if b then n else if c then 0 else min n 3) ≤ n
-above-le true c n = omega arith
-above-le false true n = omega arith
-above-le false false n = omega arith
-
-one-le : (b : Bool) → (if b then 1 else 0) ≤ 1
-one-le true = omega arith
-one-le false = omega arith
-
-blank-le : (b : Bool) (n m : ℕ) → m ≤ n → 1 ≤ n → (if b then 1 else m) ≤ n
-blank-le true n m h k = k
-blank-le false n m h k = h
-
-context-le : (p : SectionPlace) (n : ℕ) → context_height p n ≤ 1 + 2 * n
-context-le p n =
-    let above : lines_above p n ≤ n = above-le (are_all_shown p n) (is_first p) n in
-    let dots : dots_height p n ≤ 1 = one-le (has_dots p n) in
-    blank-le (nat_eq n 0) (1 + 2 * n) (lines_height p n) (omega arith) (omega arith)
-
-changed-le : (b : Bool) (n : ℕ) → (if b then 1 + n else 1) ≤ 1 + 2 * n
-changed-le true n = omega arith
-changed-le false n = omega arith
-
-pub height-le : (p : SectionPlace) (b : Bool) (s : Section) → height_of p b s ≤ 1 + 2 * section_size s
-height-le p b (Unchanged lines) = context-le p (length lines)
-height-le p b (Changed lines) = changed-le b (length lines)
-height-le p b (FileMode is_checked mode) = omega arith
-height-le p b (Binary is_checked old new) = omega arith
 
 none-le : (b : Bool) (n m : ℕ) → m ≤ n → (if b then m else 0) ≤ n
 none-le true n m h = h
@@ -163,9 +134,3 @@ open-height p b before (Unchanged lines) after = refl
 open-height p b before (Changed lines) after = refl
 open-height p b before (FileMode is_checked mode) after = refl
 open-height p b before (Binary is_checked old new) after = refl
-
-pub open-count : (b : Bool) (s : Section) → (is_changed s && not (is_editable_section s && b)) ≡ (is_changed s && not b)
-open-count b (Unchanged lines) = refl
-open-count b (Changed lines) = refl
-open-count b (FileMode is_checked mode) = refl
-open-count b (Binary is_checked old new) = refl

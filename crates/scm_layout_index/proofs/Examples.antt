@@ -5,14 +5,14 @@ use Rattle.scm_types.specs.declared.keys.SelectionKey.TheVariants as keys
 use Rattle.scm_types.specs.Keys.{section_key_of}
 use Rattle.scm_document.specs.declared.index_pieces.FilePiece.{FilePiece}
 use Rattle.scm_document.specs.declared.index_pieces.SectionPiece.{SectionPiece}
-use Rattle.scm_document.specs.declared.index_pieces.Piece.TheVariants as pieces
 use Rattle.scm_layout.specs.declared.file_rows.FileRows.{FileRows}
 use Rattle.scm_rows.specs.declared.section_shape.SectionShape.{SectionShape}
 use Rattle.scm_rows.specs.declared.section_shape.SectionShape.TheVariants as shapes
 use Rattle.scm_rows.specs.Context.{place}
 use Rattle.scm_layout.specs.Rows.{file_key_of, rows_at}
-use Rattle.scm_layout_index.specs.declared.row_pieces.RowPieces.{RowPieces}
-use Rattle.scm_layout_index.specs.RowPieces.{end_of_files, piece_of_key, pieces_on, pinned_piece}
+use Rattle.scm_document.specs.declared.index_pieces.RowPieces.{RowPieces}
+use Rattle.scm_document.specs.HeaderRects.{header_rects, pinned_rects}
+use Rattle.scm_layout_index.specs.RowPieces.{end_of_files, pieces_on, rows_by_key, section_of_key}
 
 -- unfolded, with unfolded changes: the header, 2 lines of context, 3 rows of changes and the mode
 abbrev open_rows : FileRows
@@ -53,20 +53,23 @@ selected-row-10 : pieces_on (keys.Section (section_key_of (file_key_of 0 0) 2)) 
 selected-row-10 = refl
 
 -- the header is pinned to row 8, not to its own row
-pinned-to-8 : pinned_piece 8 (open_rows ∷ []) ≡ Some (pieces.File (file true))
+pinned-to-8 : pinned_rects 20 8 (pieces_on keys.None 8 8 (open_rows ∷ [])) ≡ header_rects 20 8 (file_key_of 0 0)
 pinned-to-8 = refl
 
-pinned-to-4 : pinned_piece 4 (open_rows ∷ []) ≡ Some (pieces.File (file false))
+pinned-to-4 : pinned_rects 20 4 (pieces_on keys.None 4 4 (open_rows ∷ [])) ≡ []
 pinned-to-4 = refl
 
--- a section of a folded file has no piece, nor has one of another commit
-of-changes : piece_of_key (open_rows ∷ []) (keys.Section (section_key_of (file_key_of 0 0) 1)) ≡ Some (pieces.Section (section 1 7 10 true shapes.Changed))
+-- a section of a folded file has no piece, nor has a file of another commit rows
+of-changes : section_of_key (open_rows ∷ []) (section_key_of (file_key_of 0 0) 1) ≡ Some (section 1 7 10 true shapes.Changed)
 of-changes = refl
 
-of-folded : piece_of_key (folded_rows ∷ []) (keys.Section (section_key_of (file_key_of 0 0) 1)) ≡ None
+of-folded : section_of_key (folded_rows ∷ []) (section_key_of (file_key_of 0 0) 1) ≡ None
 of-folded = refl
 
-of-other : piece_of_key (open_rows ∷ []) (keys.File (file_key_of 1 0)) ≡ None
+of-file : rows_by_key (open_rows ∷ []) (keys.File (file_key_of 0 0)) ≡ Some (4, 7)
+of-file = refl
+
+of-other : rows_by_key (open_rows ∷ []) (keys.File (file_key_of 1 0)) ≡ None
 of-other = refl
 
 below-them : end_of_files 4 (open_rows ∷ []) ≡ 11

@@ -1,291 +1,179 @@
--- The pieces of the files of a session by their rows, and a search that finds those that have a row.
-use Rattle.std.proofs.Common.{◌≡◌, ℕ, suc, ◌+◌, ◌-◌, ◌<◌, ◌≤◌, Bool, true, false, ◌&&◌, List, [], ◌∷◌, ◌++◌, length, map, Option, Some, None, refl, ap, sym, subst, ◌∙◌, arith}
-use Rattle.std.specs.Prelude.{nat_eq, nat_le, nat_lt, if◌then◌else◌}
+-- The pieces and the places of the files of a session by their rows are those of its views.
+use Rattle.std.proofs.Common.{◌≡◌, ℕ, suc, ◌+◌, ◌-◌, ◌<◌, ◌≤◌, ◌==◌, Bool, true, false, ◌&&◌, List, [], ◌∷◌, ◌++◌, length, map, Option, Some, None, refl, ap, ap₂, sym, subst, ◌∙◌, arith}
+use Rattle.std.specs.Prelude.{nat_le, nat_lt, if◌then◌else◌, option_and_then}
+use Rattle.std.specs.List.{flat_map}
 use Rattle.std.proofs.lemmas.Bool.Decides.{nat_tests}
+use Rattle.std.proofs.lemmas.List.Concat.{flat_map-append, flat_map-cons}
 use Rattle.scm_types.specs.declared.file.File.{File}
 use Rattle.scm_types.specs.declared.section.Section.{Section}
 use Rattle.scm_types.specs.declared.keys.FileKey.{FileKey}
-use Rattle.scm_render.specs.Hits.{first_of_two}
-use Rattle.scm_widgets.specs.declared.ids.ComponentId.{ComponentId}
+use Rattle.scm_types.specs.declared.keys.SelectionKey.TheVariants as keys
 use Rattle.scm_widgets.specs.Boxes.{is_fold_open}
 use Rattle.scm_widgets.specs.OverlayRects.{is_from}
 use Rattle.scm_document.specs.declared.index_pieces.FilePiece.{FilePiece}
 use Rattle.scm_document.specs.declared.index_pieces.SectionPiece.{SectionPiece}
+use Rattle.scm_document.specs.declared.index_pieces.Piece.{Piece}
+use Rattle.scm_document.specs.declared.index_pieces.Piece.TheVariants as piece
 use Rattle.scm_document.specs.declared.file_view.FileView.{FileView}
 use Rattle.scm_document.specs.declared.section_view.SectionView.{SectionView}
-use Rattle.scm_document.specs.PieceOwners.{file_owner, files_owner, header_owner, rows_owner, section_owner, sections_owner}
-use Rattle.scm_document.specs.Pieces.{files_of, sections_of}
-use Rattle.scm_document.specs.HeaderRects.{header_rects, pinned_rects}
-use Rattle.scm_document.specs.Rows.{file_id, section_height, shown_file, shown_of_view, shown_sections}
+use Rattle.scm_document.specs.Places.{Place}
+use Rattle.scm_document.specs.Pieces.{file_pieces, files_pieces, piece_places, pieces_among, section_among, section_below}
+use Rattle.scm_document.specs.Rows.{shown_file, shown_of_view, shown_sections}
 use Rattle.scm_document.specs.SectionWalk.{visible_views}
-use Rattle.scm_document.specs.ViewPieces.{file_height, file_piece_list, file_piece_of, files_height, section_piece_list, sections_height, sections_in_file, sections_in_files}
+use Rattle.scm_document.specs.ViewPieces.{file_height, file_piece_of, files_height, section_piece_list, sections_height, sections_in_file}
 use Rattle.scm_document.proofs.FilesOf.{AreFilesOf, HaveRows}
 use Rattle.scm_document.proofs.SectionsLemmas.{section-size, shown-visible}
+use Rattle.scm_document.proofs.ViewPieceLemmas.{from-true, none-below, past-sections}
 use Rattle.scm_view.specs.ViewState.{Totals, ViewState, file_view_of, file_views_of, section_views_of, totals_of}
 use Rattle.scm_layout.specs.declared.file_rows.FileRows.{FileRows}
 use Rattle.scm_layout.specs.declared.section_rows.SectionRows.{SectionRows}
 use Rattle.scm_layout.specs.Rows.{file_key_of}
+use Rattle.scm_layout.specs.Searches.{section_on}
 use Rattle.scm_view_state.specs.ViewRows.{HaveRowsOf, section_views_rows}
-use Rattle.scm_layout_index.specs.declared.row_pieces.RowPieces.{RowPieces}
-use Rattle.scm_layout_index.specs.RowPieces.{end_of_files, file_of_rows, found_list, section_in, section_list}
-use Rattle.scm_layout_index.proofs.PieceLists.{section_pieces}
-use Rattle.scm_layout_index.proofs.SectionLemmas.{owner-on, pieces_from, pinned_from, section-found, section_from}
-use Rattle.scm_layout_index.proofs.SectionViewLemmas.{HaveHeights, pieces-are}
-
--- ---- sections above and below a row
-
-from-true : (top end y : ℕ) → is_from top end y ≡ true → (top ≤ y) × (y < end)
-from-true top end y e = (grind (arith, nat_tests), grind (arith, nat_tests))
-
-from-false : (top end y : ℕ) → is_from top end y ≡ false → top ≤ y → end ≤ y
-from-false top end y e h = grind (arith, nat_tests, h)
-
-above : (top end y : ℕ) → y < top → is_from top end y ≡ false
-above top end y h = grind (arith, nat_tests, h)
-
-list-above : (w y c top : ℕ) (vs : List SectionView) (rest : List SectionPiece) → y < top → sections_owner w (section_piece_list top vs ++ rest) y c ≡ sections_owner w rest y c
-list-above w y c top [] rest h = refl
-list-above w y c top (v ∷ vs) rest h = rw (above top (top + section_height v v.section.now) y h) (list-above w y c (top + section_height v v.section.now) vs rest (omega (arith, h)))
-
-list-past : (w y c top : ℕ) (vs : List SectionView) (rest : List SectionPiece) → top + sections_height vs ≤ y → sections_owner w (section_piece_list top vs ++ rest) y c ≡ sections_owner w rest y c
-list-past w y c top [] rest h = refl
-list-past w y c top (v ∷ vs) rest h =
-    let p : top + (section_height v v.section.now + sections_height vs) ≤ y = h in
-    let out : is_from top (top + section_height v v.section.now) y ≡ false = grind (arith, nat_tests, p) in
-    rw out (list-past w y c (top + section_height v v.section.now) vs rest (omega (arith, p)))
-
-file-above : (w y c top : ℕ) (v : FileView) (rest : List SectionPiece) → y < top → sections_owner w (sections_in_file top v ++ rest) y c ≡ sections_owner w rest y c
-file-above w y c top v rest h = go (is_fold_open v.expand_box)
-  where
-    go : (b : Bool) → sections_owner w ((if b then section_piece_list (top + 1) (visible_views false v.section_views) else []) ++ rest) y c ≡ sections_owner w rest y c
-    go true = list-above w y c (top + 1) (visible_views false v.section_views) rest (omega (arith, h))
-    go false = refl
-
-file-past : (w y c top : ℕ) (v : FileView) (rest : List SectionPiece) → top + file_height v ≤ y → sections_owner w (sections_in_file top v ++ rest) y c ≡ sections_owner w rest y c
-file-past w y c top v rest high = go (is_fold_open v.expand_box) high
-  where
-    go : (b : Bool) → top + (1 + (if b then sections_height (visible_views false v.section_views) else 0)) ≤ y
-        → sections_owner w ((if b then section_piece_list (top + 1) (visible_views false v.section_views) else []) ++ rest) y c ≡ sections_owner w rest y c
-    go true h = list-past w y c (top + 1) (visible_views false v.section_views) rest (omega (arith, h))
-    go false h = refl
-
-files-above : (w y c top : ℕ) (vs : List FileView) → y < top → sections_owner w (sections_in_files top vs) y c ≡ None
-files-above w y c top [] h = refl
-files-above w y c top (v ∷ vs) h = file-above w y c top v (sections_in_files (top + file_height v) vs) h ∙ files-above w y c (top + file_height v) vs (omega (arith, h))
-
-no-more : (w y c : ℕ) (ps qs : List SectionPiece) → sections_owner w qs y c ≡ None → sections_owner w (ps ++ qs) y c ≡ sections_owner w ps y c
-no-more w y c [] qs h = h
-no-more w y c (p ∷ ps) qs h = ap (λ (o : Option ComponentId). if is_from p.top p.end y then section_owner w p (y - p.top) c else o) (no-more w y c ps qs h)
-
--- no file stands above the first
-none-above : (w m top y c : ℕ) (o : Option ComponentId) (vs : List FileView) → y < top → files_owner w (file_piece_list m top vs) o y c ≡ None
-none-above w m top y c o [] h = refl
-none-above w m top y c o (v ∷ vs) h = rw (above top (top + file_height v) y h) (none-above w m (top + file_height v) y c o vs (omega (arith, h)))
-
--- ---- the sections of an unfolded file
-
-have-heights : (vs : List SectionView) → HaveRows (map shown_of_view vs) → HaveHeights vs
-have-heights [] h = tt
-have-heights (v ∷ vs) h = (omega (arith, h.0, section-size v), have-heights vs h.1)
-
-heights-of : (b : Bool) (vs : List SectionView) → b ≡ true → HaveRows (if b then shown_sections false vs else []) → HaveHeights (visible_views false vs)
-heights-of true vs e h = have-heights (visible_views false vs) (subst HaveRows (shown-visible false vs) h)
-heights-of false vs e h = absurd (cc e)
-
-rows-of-shown : (v : FileView) → HaveRows (shown_file v).sections → HaveRows (if is_fold_open v.expand_box then shown_sections false v.section_views else [])
-unfolding shown_file
-rows-of-shown v h = h
-
-pub file-heights : (v : FileView) → is_fold_open v.expand_box ≡ true → HaveRows (shown_file v).sections → HaveHeights (visible_views false v.section_views)
-file-heights v e h = heights-of (is_fold_open v.expand_box) v.section_views e (rows-of-shown v h)
+use Rattle.scm_layout_index.specs.RowPieces.{end_of_files, file_of_rows, piece_at, section_in}
+use Rattle.scm_layout_index.proofs.SpanLemmas.{file_places_by, places_from, section_places_by, sections_places_by}
+use Rattle.scm_layout_index.proofs.SectionLemmas.{pieces_from, section-found, section_from}
+use Rattle.scm_layout_index.proofs.SectionViewLemmas.{found-are, places-are}
 
 rows-count : (s : ViewState) (t : Totals) (k : FileKey) (i editable line top : ℕ) (before : Bool) (xs : List Section) → length (section_views_rows top before (section_views_of s t k i editable line xs)) ≡ length xs
 unfolding section_views_of section_views_rows
 rows-count s t k i editable line top before [] = refl
 rows-count s t k i editable line top before (x ∷ xs) = ap suc (rows-count s t k (suc i) _ _ _ _ xs)
 
--- their pieces by their rows
-pub unfolded-pieces : (s : ViewState) (i top : ℕ) (f : File) (rs : List SectionRows) → HaveHeights (visible_views false (section_views_of s (totals_of f.sections) (file_key_of 0 i) 0 0 0 f.sections))
-    → rs ≡ section_views_rows 0 false (section_views_of s (totals_of f.sections) (file_key_of 0 i) 0 0 0 f.sections)
-    → section_piece_list (top + 1) (visible_views false (section_views_of s (totals_of f.sections) (file_key_of 0 i) 0 0 0 f.sections))
-    ≡ section_pieces s.selection (length rs) (file_key_of 0 i) (top + 1) 0 rs
-unfolded-pieces s i top f rs h e =
-    let k = file_key_of 0 i in
-    let vs = section_views_of s (totals_of f.sections) k 0 0 0 f.sections in
-    let same : top + 1 ≡ top + 1 + 0 = omega arith in
-    let many : length rs ≡ length f.sections = ap (λ (q : List SectionRows). length q) e ∙ rows-count s (totals_of f.sections) k 0 0 0 0 false f.sections in
-    ap (λ n. section_piece_list n (visible_views false vs)) same
-    ∙ pieces-are s (totals_of f.sections) k (top + 1) 0 0 0 0 false f.sections h
-    ∙ ap (λ (q : List SectionRows). section_pieces s.selection (length f.sections) k (top + 1) 0 q) (sym e)
-    ∙ ap (λ n. section_pieces s.selection n k (top + 1) 0 rs) (sym many)
+-- ---- the pieces that have a row
 
--- ---- the file that has a row
-
-module _ (s : ViewState) (m w y c : ℕ) where
-  -- the owners of a list of pieces
-  abbrev list_owner : Option RowPieces → Option ComponentId
-  list_owner found = rows_owner w (files_of (found_list found)) (sections_of (found_list found)) y c
-
-  -- the header's row asks no section
-  file-alone : (t : FilePiece) (a b : Option ComponentId) → (nat_eq y t.top ≡ false → a ≡ b) → file_owner w t a y c ≡ file_owner w t b y c
-  file-alone t a b h = go (nat_eq y t.top) refl
+module _ (s : ViewState) (m y : ℕ) where
+  -- the section that has it
+  section-is : (i top : ℕ) (f : File) (r : FileRows) (rest : List Piece) → let v = file_view_of s (file_key_of 0 i) f in
+      r.top ≡ top → r.sections ≡ section_views_rows 0 false v.section_views → section_among y rest ≡ None → top ≤ y → y < top + file_height v
+      → section_below (file_piece_of m top v) y (map piece.Section (sections_in_file top v) ++ rest) ≡ section_in s.selection i r y
+  section-is i top f r rest at is none low high = go (y == top) refl
     where
-      go : (d : Bool) → nat_eq y t.top ≡ d → first_of_two (if d then header_owner w t c else a) (Some (file_id t.key)) ≡ first_of_two (if d then header_owner w t c else b) (Some (file_id t.key))
-      go true e = refl
-      go false e = ap (λ o. first_of_two o (Some (file_id t.key))) (h e)
+      k : FileKey
+      k = file_key_of 0 i
 
-  -- a row of an unfolded file below its header
-  section-owner : (i top : ℕ) (f : File) (r : FileRows) → let v = file_view_of s (file_key_of 0 i) f in
-      HaveRows (shown_file v).sections → r.top ≡ top → r.sections ≡ section_views_rows 0 false v.section_views → top ≤ y → y < top + file_height v → nat_eq y top ≡ false
-      → sections_owner w (sections_in_file top v) y c ≡ sections_owner w (sections_of (section_list (section_in s.selection i r y))) y c
-  section-owner i top f r some at is low high other =
-      go (is_fold_open v.expand_box) refl high
-    where
       v : FileView
-      v = file_view_of s (file_key_of 0 i) f
+      v = file_view_of s k f
 
-      differ : y ≡ top → ⊥
-      differ q = grind (arith, other, q)
+      found : (y == top) ≡ false → (b : Bool) → y < top + (1 + (if b then sections_height (visible_views false v.section_views) else 0))
+          → section_among y (map piece.Section (if b then section_piece_list (top + 1) (visible_views false v.section_views) else []) ++ rest)
+          ≡ option_and_then (piece_at s.selection i r) (section_on (y - (r.top + 1)) r.sections)
+      found other true h =
+          let differ : y ≡ top → ⊥ = λ q. grind (arith, other, q) in
+          let there : (top + 1) + (y - (top + 1)) ≡ y = grind (arith, differ, low) in
+          let first : (top + 1) + 0 ≡ top + 1 = omega arith in
+          let many : length r.sections ≡ length f.sections = ap (λ (q : List SectionRows). length q) is ∙ rows-count s (totals_of f.sections) k 0 0 0 0 false f.sections in
+          (rw (there, first) at (found-are s (totals_of f.sections) k (top + 1) (y - (top + 1)) 0 0 0 0 false f.sections rest (rw there none)))
+          ∙ ap₂ (λ (n : ℕ) (q : List SectionRows). section_from s.selection n k (top + 1) (y - (top + 1)) 0 q) (sym many) (sym is)
+          ∙ ap (λ n. section_from s.selection (length r.sections) k (n + 1) (y - (n + 1)) 0 r.sections) (sym at)
+          ∙ sym (section-found s.selection i r (y - (r.top + 1)))
+      found other false h =
+          let differ : y ≡ top → ⊥ = λ q. grind (arith, other, q) in
+          absurd (differ (omega (arith, h, low)))
 
-      below : top + 1 ≤ y
-      below = grind (arith, differ, low)
+      go : (b : Bool) → (y == top) ≡ b → (if b then None else section_among y (map piece.Section (sections_in_file top v) ++ rest)) ≡ section_in s.selection i r y
+      go true e = let early : nat_le y r.top ≡ true = grind (arith, nat_tests, e, at) in rw early refl
+      go false e = let late : nat_le y r.top ≡ false = grind (arith, nat_tests, e, at, low) in rw late (found e (is_fold_open v.expand_box) high)
 
-      search : sections_owner w (sections_of (section_list (section_from s.selection (length r.sections) (file_key_of 0 i) (r.top + 1) (y - (r.top + 1)) 0 r.sections))) y c
-          ≡ sections_owner w (sections_of (section_list (section_in s.selection i r y))) y c
-      search =
-          let late : nat_le y r.top ≡ false = grind (arith, nat_tests, below, at) in
-          rw late (ap (λ (o : Option SectionPiece). sections_owner w (sections_of (section_list o)) y c) (sym (section-found s.selection i r (y - (r.top + 1)))))
-
-      go : (b : Bool) → is_fold_open v.expand_box ≡ b → y < top + (1 + (if b then sections_height (visible_views false v.section_views) else 0))
-          → sections_owner w (if b then section_piece_list (top + 1) (visible_views false v.section_views) else []) y c
-          ≡ sections_owner w (sections_of (section_list (section_in s.selection i r y))) y c
-      go true e h =
-          ap (λ (ps : List SectionPiece). sections_owner w ps y c) (unfolded-pieces s i top f r.sections (file-heights v e some) is)
-          ∙ ap (λ (n : ℕ). sections_owner w (section_pieces s.selection (length r.sections) (file_key_of 0 i) (n + 1) 0 r.sections) y c) (sym at)
-          ∙ owner-on s.selection (length r.sections) (file_key_of 0 i) (r.top + 1) w y c 0 r.sections (omega (arith, below, at))
-          ∙ search
-      go false e h = absurd (differ (omega (arith, h, low)))
-
-  piece-is : (i top : ℕ) (f : File) (r : FileRows) → let v = file_view_of s (file_key_of 0 i) f in
-      r.top ≡ top → r.end ≡ top + file_height v → file_piece_of m top v ≡ file_of_rows m i r
-  piece-is i top f r at to = rw (at, to) refl
-
-  -- a file that has the row
-  here : (i top : ℕ) (f : File) (r : FileRows) (rest : List SectionPiece) → let v = file_view_of s (file_key_of 0 i) f in
-      HaveRows (shown_file v).sections → r.top ≡ top → r.end ≡ top + file_height v → r.sections ≡ section_views_rows 0 false v.section_views → sections_owner w rest y c ≡ None
-      → is_from top (top + file_height v) y ≡ true
-      → file_owner w (file_piece_of m top v) (sections_owner w (sections_in_file top v ++ rest) y c) y c
-      ≡ list_owner (Some (record { file = file_of_rows m i r; section = section_in s.selection i r y }))
-  here i top f r rest some at to is none e =
-      let v = file_view_of s (file_key_of 0 i) f in
-      let within = from-true top (top + file_height v) y e in
-      let same = piece-is i top f r at to in
-      let found : is_from r.top r.end y ≡ true = rw (at, to) e in
-      file-alone (file_piece_of m top v) (sections_owner w (sections_in_file top v ++ rest) y c) (sections_owner w (sections_of (section_list (section_in s.selection i r y))) y c)
-      (λ other. no-more w y c (sections_in_file top v) rest none ∙ section-owner i top f r some at is within.0 within.1 other)
-      ∙ ap (λ (p : FilePiece). file_owner w p (sections_owner w (sections_of (section_list (section_in s.selection i r y))) y c) y c) same
-      ∙ rw found refl
-
-  pub owners-on : (i n top : ℕ) (fs : List File) (rs : List FileRows) → AreFilesOf 0 n (map shown_file (file_views_of s 0 i fs)) → HaveRowsOf top rs (file_views_of s 0 i fs) → top ≤ y
-      → rows_owner w (file_piece_list m top (file_views_of s 0 i fs)) (sections_in_files top (file_views_of s 0 i fs)) y c ≡ list_owner (pieces_from s.selection m y i rs)
+  pub found-files : (i top : ℕ) (fs : List File) (rs : List FileRows) → HaveRowsOf top rs (file_views_of s 0 i fs)
+      → pieces_among y (files_pieces m top (file_views_of s 0 i fs)) ≡ pieces_from s.selection m y i rs
   unfolding file_views_of
-  owners-on i n top [] [] ids h low = refl
-  owners-on i n top [] (r ∷ rs) ids h low = absurd h
-  owners-on i n top (f ∷ fs) [] ids h low = absurd h
-  owners-on i n top (f ∷ fs) (r ∷ rs) ids h low =
-      go (is_from top (top + file_height v) y) refl (λ past. owners-on (suc i) (suc (shown_file v).key.file_idx) (top + file_height v) fs rs ids.1 h.3 past)
+  found-files i top [] [] h = refl
+  found-files i top [] (r ∷ rs) h = absurd h
+  found-files i top (f ∷ fs) [] h = absurd h
+  found-files i top (f ∷ fs) (r ∷ rs) h = go (found-files (suc i) (top + file_height v) fs rs h.3) (is_from top (top + file_height v) y) refl
     where
       v : FileView
       v = file_view_of s (file_key_of 0 i) f
 
-      vs : List FileView
-      vs = file_views_of s 0 (suc i) fs
-
-      rest : List SectionPiece
-      rest = sections_in_files (top + file_height v) vs
+      rest : List Piece
+      rest = files_pieces m (top + file_height v) (file_views_of s 0 (suc i) fs)
 
       same : (nat_le r.top y && nat_lt y r.end) ≡ is_from top (top + file_height v) y
       same = rw (h.0, h.1) refl
 
-      go : (b : Bool) → is_from top (top + file_height v) y ≡ b
-          → (top + file_height v ≤ y → rows_owner w (file_piece_list m (top + file_height v) vs) rest y c ≡ list_owner (pieces_from s.selection m y (suc i) rs))
-          → (if b then file_owner w (file_piece_of m top v) (sections_owner w (sections_in_file top v ++ rest) y c) y c
-          else files_owner w (file_piece_list m (top + file_height v) vs) (sections_owner w (sections_in_file top v ++ rest) y c) y c)
-          ≡ list_owner (if nat_le r.top y && nat_lt y r.end then Some (record { file = file_of_rows m i r; section = section_in s.selection i r y }) else pieces_from s.selection m y (suc i) rs)
-      go true e more =
+      file : file_piece_of m top v ≡ file_of_rows m i r
+      file = rw (h.0, h.1) refl
+
+      go : pieces_among y rest ≡ pieces_from s.selection m y (suc i) rs → (b : Bool) → is_from top (top + file_height v) y ≡ b
+          → (if b then Some (record { file = file_piece_of m top v; section = section_below (file_piece_of m top v) y (map piece.Section (sections_in_file top v) ++ rest) })
+          else pieces_among y (map piece.Section (sections_in_file top v) ++ rest))
+          ≡ (if nat_le r.top y && nat_lt y r.end then Some (record { file = file_of_rows m i r; section = section_in s.selection i r y }) else pieces_from s.selection m y (suc i) rs)
+      go more true e =
           let within = from-true top (top + file_height v) y e in
-          rw (same ∙ e) (here i top f r rest ids.0.rows h.0 h.1 h.2 (files-above w y c (top + file_height v) vs within.1) e)
-      go false e more =
-          let past = from-false top (top + file_height v) y e low in
           rw (same ∙ e)
-          (ap (λ (o : Option ComponentId). files_owner w (file_piece_list m (top + file_height v) vs) o y c) (file-past w y c top v rest past)
-          ∙ more past)
+          (ap₂ (λ (f : FilePiece) (o : Option SectionPiece). Some (record { file = f; section = o })) file
+          (section-is i top f r rest h.0 h.2 (none-below y m (top + file_height v) (file_views_of s 0 (suc i) fs)) within.0 within.1))
+      go more false e = rw (same ∙ e) (past-sections y (sections_in_file top v) rest ∙ more)
 
-  -- no file has a row above the first
-  found-above : (i top : ℕ) (fs : List File) (rs : List FileRows) → HaveRowsOf top rs (file_views_of s 0 i fs) → y < top → pieces_from s.selection m y i rs ≡ None
-  unfolding file_views_of
-  found-above i top [] [] h high = refl
-  found-above i top [] (r ∷ rs) h high = absurd h
-  found-above i top (f ∷ fs) [] h high = absurd h
-  found-above i top (f ∷ fs) (r ∷ rs) h high =
-      let v = file_view_of s (file_key_of 0 i) f in
-      let out : (nat_le r.top y && nat_lt y r.end) ≡ false = grind (arith, nat_tests, high, h.0) in
-      rw out (found-above (suc i) (top + file_height v) fs rs h.3 (omega (arith, high)))
+-- ---- the places of the keys
 
-  pub owners-are : (i n top : ℕ) (fs : List File) (rs : List FileRows) → AreFilesOf 0 n (map shown_file (file_views_of s 0 i fs)) → HaveRowsOf top rs (file_views_of s 0 i fs)
-      → rows_owner w (file_piece_list m top (file_views_of s 0 i fs)) (sections_in_files top (file_views_of s 0 i fs)) y c ≡ list_owner (pieces_from s.selection m y i rs)
-  owners-are i n top fs rs ids h = go (nat_le top y) refl
+have-rows : (v : FileView) → is_fold_open v.expand_box ≡ true → HaveRows (shown_file v).sections → HaveRows (map shown_of_view (visible_views false v.section_views))
+unfolding shown_file
+have-rows v e h = go (is_fold_open v.expand_box) e h
+  where
+    go : (b : Bool) → b ≡ true → HaveRows (if b then shown_sections false v.section_views else []) → HaveRows (map shown_of_view (visible_views false v.section_views))
+    go true q g = subst HaveRows (shown-visible false v.section_views) g
+    go false q g = absurd (cc q)
+
+no-height : (vs : List SectionView) → HaveRows (map shown_of_view vs) → sections_height vs ≡ 0 → (top : ℕ) → section_piece_list top vs ≡ []
+no-height [] h e top = refl
+no-height (v ∷ vs) h e top = absurd (omega (arith, h.0, e, section-size v))
+
+module _ (s : ViewState) (i top : ℕ) (f : File) (r : FileRows) where
+  abbrev view : FileView
+  view = file_view_of s (file_key_of 0 i) f
+
+  sections-are : HaveRows (shown_file view).sections → r.top ≡ top → r.end ≡ top + file_height view → r.sections ≡ section_views_rows 0 false view.section_views
+      → flat_map piece_places (map piece.Section (sections_in_file top view)) ≡ sections_places_by i r
+  sections-are some at to is = unfolded (is_fold_open view.expand_box) refl to
     where
-      go : (b : Bool) → nat_le top y ≡ b
-          → rows_owner w (file_piece_list m top (file_views_of s 0 i fs)) (sections_in_files top (file_views_of s 0 i fs)) y c ≡ list_owner (pieces_from s.selection m y i rs)
-      go true e = owners-on i n top fs rs ids h (grind (arith, nat_tests, e))
-      go false e =
-          let high : y < top = grind (arith, nat_tests, e) in
-          none-above w m top y c (sections_owner w (sections_in_files top (file_views_of s 0 i fs)) y c) (file_views_of s 0 i fs) high
-          ∙ ap (λ (o : Option RowPieces). list_owner o) (sym (found-above i top fs rs h high))
+      k : FileKey
+      k = file_key_of 0 i
 
--- ---- the pinned header, and the end of the files
+      vs : List SectionView
+      vs = visible_views false view.section_views
 
-module _ (s : ViewState) (w m : ℕ) where
-  -- no header is pinned to a row above the files
-  none-pinned : (i top : ℕ) (vs : List FileView) → m ≤ top → pinned_rects w m (file_piece_list m top vs) ≡ []
-  none-pinned i top [] h = refl
-  none-pinned i top (v ∷ vs) h =
-      let out : (nat_lt top m && nat_lt m (top + file_height v)) ≡ false = grind (arith, nat_tests, h) in
-      rw out (none-pinned (suc i) (top + file_height v) vs (omega (arith, h)))
+      places : List Place
+      places = places_from (section_places_by (length r.sections) k (r.top + 1)) 0 r.sections
 
-  pub pinned-are : (i top : ℕ) (fs : List File) (rs : List FileRows) → HaveRowsOf top rs (file_views_of s 0 i fs)
-      → pinned_rects w m (file_piece_list m top (file_views_of s 0 i fs)) ≡ pinned_rects w m (files_of (pinned_from m i rs))
-  unfolding file_views_of
-  pinned-are i top [] [] h = refl
-  pinned-are i top [] (r ∷ rs) h = absurd h
-  pinned-are i top (f ∷ fs) [] h = absurd h
-  pinned-are i top (f ∷ fs) (r ∷ rs) h =
-      go (is_from top (top + file_height v) m) (nat_lt top m && nat_lt m (top + file_height v)) refl refl (pinned-are (suc i) (top + file_height v) fs rs h.3)
-    where
-      v : FileView
-      v = file_view_of s (file_key_of 0 i) f
+      opened : HaveRows (map shown_of_view vs) → flat_map piece_places (map piece.Section (section_piece_list (top + 1) vs)) ≡ places
+      opened heights =
+          let first : (top + 1) + 0 ≡ top + 1 = omega arith in
+          let many : length r.sections ≡ length f.sections = ap (λ (q : List SectionRows). length q) is ∙ rows-count s (totals_of f.sections) k 0 0 0 0 false f.sections in
+          (rw first at (places-are s (totals_of f.sections) k (top + 1) 0 0 0 0 false f.sections heights))
+          ∙ ap₂ (λ (n : ℕ) (q : List SectionRows). places_from (section_places_by n k (top + 1)) 0 q) (sym many) (sym is)
+          ∙ ap (λ n. places_from (section_places_by (length r.sections) k (n + 1)) 0 r.sections) (sym at)
 
-      vs : List FileView
-      vs = file_views_of s 0 (suc i) fs
+      unfolded : (b : Bool) → is_fold_open view.expand_box ≡ b → r.end ≡ top + (1 + (if b then sections_height vs else 0))
+          → flat_map piece_places (map piece.Section (if b then section_piece_list (top + 1) vs else [])) ≡ (if nat_lt (r.top + 1) r.end then places else [])
+      unfolded true e end = go (nat_lt (r.top + 1) r.end) refl (have-rows view e some)
+        where
+          go : (d : Bool) → nat_lt (r.top + 1) r.end ≡ d → HaveRows (map shown_of_view vs) → flat_map piece_places (map piece.Section (section_piece_list (top + 1) vs)) ≡ (if d then places else [])
+          go true q heights = opened heights
+          go false q heights =
+              let none : sections_height vs ≡ 0 = grind (arith, nat_tests, q, end, at) in
+              rw (no-height vs heights none (top + 1)) refl
+      unfolded false e end = let none : nat_lt (r.top + 1) r.end ≡ false = grind (arith, nat_tests, end, at) in rw none refl
 
-      same : (nat_le r.top m && nat_lt m r.end) ≡ is_from top (top + file_height v) m
-      same = rw (h.0, h.1) refl
+pub places-of-files : (s : ViewState) (m i n top : ℕ) (fs : List File) (rs : List FileRows) → AreFilesOf 0 n (map shown_file (file_views_of s 0 i fs)) → HaveRowsOf top rs (file_views_of s 0 i fs)
+    → flat_map piece_places (files_pieces m top (file_views_of s 0 i fs)) ≡ places_from file_places_by i rs
+unfolding file_views_of
+places-of-files s m i n top [] [] ids h = refl
+places-of-files s m i n top [] (r ∷ rs) ids h = absurd h
+places-of-files s m i n top (f ∷ fs) [] ids h = absurd h
+places-of-files s m i n top (f ∷ fs) (r ∷ rs) ids h =
+    let v = file_view_of s (file_key_of 0 i) f in
+    let next = top + file_height v in
+    let size : next - top ≡ r.end - r.top = rw (h.0, h.1) refl in
+    flat_map-append piece_places (file_pieces m top v) (files_pieces m next (file_views_of s 0 (suc i) fs))
+    ∙ ap₂ (λ (ps qs : List Place). ps ++ qs)
+    (flat_map-cons piece_places (piece.File (file_piece_of m top v)) (map piece.Section (sections_in_file top v))
+    ∙ ap₂ (λ (t h : ℕ). record { key = keys.File (file_key_of 0 i); top = t; rows = h } ∷ flat_map piece_places (map piece.Section (sections_in_file top v))) (sym h.0) size
+    ∙ ap (λ (ps : List Place). record { key = keys.File (file_key_of 0 i); top = r.top; rows = r.end - r.top } ∷ ps) (sections-are s i top f r ids.0.rows h.0 h.1 h.2))
+    (places-of-files s m (suc i) (suc (shown_file v).key.file_idx) next fs rs ids.1 h.3)
 
-      pinned : (nat_lt r.top m && nat_lt m r.end) ≡ (nat_lt top m && nat_lt m (top + file_height v))
-      pinned = rw (h.0, h.1) refl
-
-      go : (b d : Bool) → is_from top (top + file_height v) m ≡ b → (nat_lt top m && nat_lt m (top + file_height v)) ≡ d
-          → pinned_rects w m (file_piece_list m (top + file_height v) vs) ≡ pinned_rects w m (files_of (pinned_from m (suc i) rs))
-          → (if d then header_rects w m v.file_key else pinned_rects w m (file_piece_list m (top + file_height v) vs))
-          ≡ pinned_rects w m (files_of (pinned_from m i (r ∷ rs)))
-      go true true e p more = rw (same ∙ e, pinned ∙ p) refl
-      go true false e p more =
-          rw (same ∙ e, pinned ∙ p) (none-pinned (suc i) (top + file_height v) vs (grind (arith, nat_tests, e)))
-      go false true e p more =
-          let none : is_from top (top + file_height v) m ≡ true = grind (arith, nat_tests, p) in
-          absurd (cc (sym e ∙ none))
-      go false false e p more = rw (same ∙ e) more
+-- ---- the end of the files
 
 pub end-is : (s : ViewState) (i top : ℕ) (fs : List File) (rs : List FileRows) → HaveRowsOf top rs (file_views_of s 0 i fs) → end_of_files top rs ≡ top + files_height (file_views_of s 0 i fs)
 unfolding file_views_of

@@ -1,15 +1,13 @@
 -- the pieces of a small file
 mod Examples
--- all pieces in lists
-pub mod PieceLists
--- searches for those that have a row
+-- searches for what has a row
 pub mod SectionLemmas
--- the pieces of sections are those of their views
-pub mod SectionViewLemmas
--- those of files are those of their views
-pub mod FileLemmas
--- the rows of a key
+-- the places of all keys, and the rows of one
 pub mod SpanLemmas
+-- sections by their rows are those of their views
+pub mod SectionViewLemmas
+-- files by their rows are those of their views
+pub mod FileLemmas
 -- what the searches ask of the rows of a session
 pub mod FitLemmas
 -- what folds change of a copy of the rows

@@ -1,5 +1,5 @@
 -- The rows from a row on to the end of its section have the same pieces, and show the lines that follow.
-use Rattle.std.proofs.Common.{◌≡◌, ℕ, zero, suc, ◌+◌, ◌-◌, ◌<◌, ◌≤◌, ◌^◌, ◌&&◌, Bool, true, false, List, [], ◌∷◌, length, take, get_or, Option, Some, None, refl, sym, ap, ap₂, subst, ◌∙◌, arith}
+use Rattle.std.proofs.Common.{◌≡◌, ℕ, zero, suc, ◌+◌, ◌-◌, ◌<◌, ◌≤◌, ◌^◌, ◌&&◌, ◌==◌, Bool, true, false, List, [], ◌∷◌, length, take, get_or, Option, Some, None, refl, sym, ap, ap₂, subst, ◌∙◌, arith}
 use Rattle.std.specs.Prelude.{nat_le, nat_lt, min, ◌||◌, if◌then◌else◌, option_and_then, slice_get}
 use Rattle.std.specs.List.{All}
 use Rattle.std.proofs.lemmas.Bool.{and_parts}
@@ -14,19 +14,25 @@ use Rattle.scm_widgets.specs.OverlayRects.{have_row}
 use Rattle.scm_widgets.specs.declared.overlay_rects.OverlayRect.{OverlayRect}
 use Rattle.scm_document.specs.declared.index_pieces.SectionPiece.{SectionPiece}
 use Rattle.scm_rows.specs.declared.section_shape.SectionShape.{SectionShape}
-use Rattle.scm_rows.specs.declared.section_shape.SectionShape.TheVariants.{Context, Changed, Mark}
+use Rattle.scm_rows.specs.declared.section_shape.SectionShape.TheVariants as shapes
+use Rattle.scm_rows.specs.declared.section_shape.SectionShape.TheVariants.{Changed}
+use Rattle.scm_rows.specs.declared.row_kind.RowKind.TheVariants.{Header, Line, Mark, Context, Blank}
+use Rattle.scm_rows.specs.Context.{dots_height, first_below, lines_above}
+use Rattle.scm_rows.specs.Kinds.{row_kind}
+use Rattle.scm_document.specs.SectionPieces.{kind_on}
+use Rattle.scm_types.specs.declared.keys.SectionKey.{SectionKey}
 use Rattle.scm_layout.specs.declared.file_rows.FileRows.{FileRows}
 use Rattle.scm_layout.specs.declared.section_rows.SectionRows.{SectionRows}
 use Rattle.scm_layout.specs.Rows.{file_key_of}
 use Rattle.scm_layout.specs.Searches.{FollowFrom, file_on, index_on, section_on}
 use Rattle.scm_layout_index.specs.declared.layout_index.LayoutIndex.{LayoutIndex}
 use Rattle.scm_layout_index.specs.declared.row_owners.RowOwners.{RowOwners}
-use Rattle.scm_layout_index.specs.declared.row_pieces.RowPieces.{RowPieces}
+use Rattle.scm_document.specs.declared.index_pieces.RowPieces.{RowPieces}
 use Rattle.scm_layout_index.specs.LayoutIndex.{AreRowOwners}
 use Rattle.scm_layout_index.specs.LineRows.{end_of_pieces, end_of_section, line_below}
 use Rattle.scm_layout_index.specs.OwnerRuns.{IsRun}
-use Rattle.scm_layout_index.specs.RowPieces.{RowsFit, SectionsFit, file_of_rows, piece_at, pieces_at, pieces_on, section_in, section_of_rows}
-use Rattle.scm_layout_index.specs.ShownLines.{is_below_top, line_among, line_in, line_of_section, line_of_shape}
+use Rattle.scm_layout_index.specs.RowPieces.{RowsFit, SectionsFit, file_of_rows, piece_at, pieces_on, section_in, section_of_rows}
+use Rattle.scm_layout_index.specs.ShownLines.{line_among, line_in, line_of_kind}
 use Rattle.scm_layout_index.proofs.OwnerRunLemmas.{IsSteady}
 
 -- ---- a search for a row further down in the same element
@@ -93,6 +99,29 @@ module _ {A : Type 0} (top end : A → ℕ) (row y : ℕ) (down : row ≤ y) whe
   same-found : (t k : ℕ) (xs : List A) (a : A) → FollowFrom top end t xs → index_on top end row 0 xs ≡ Some k → slice_get xs k ≡ Some a → y < end a → index_on top end y 0 xs ≡ Some k
   same-found t k xs a h e at above = let from : k ≡ 0 + k = omega arith in same-index t 0 k xs a h (e ∙ ap Some from) at above ∙ ap Some (sym from)
 
+module _ {A : Type 0} (top end : A → ℕ) (y : ℕ) where
+  has-from : (i k : ℕ) (xs : List A) (a : A) → index_on top end y i xs ≡ Some (i + k) → slice_get xs k ≡ Some a → (top a ≤ y) × (y < end a)
+  has-from i k [] a e at = absurd (cc e)
+  has-from i k (x ∷ xs) a e at = go (nat_le (top x) y && nat_lt y (end x)) refl k e at (λ m e' at'. has-from (suc i) m xs a e' at')
+    where
+      go : (b : Bool) → (nat_le (top x) y && nat_lt y (end x)) ≡ b → (k : ℕ) → (if b then Some i else index_on top end y (suc i) xs) ≡ Some (i + k) → slice_get (x ∷ xs) k ≡ Some a
+          → ((m : ℕ) → index_on top end y (suc i) xs ≡ Some (suc i + m) → slice_get xs m ≡ Some a → (top a ≤ y) × (y < end a)) → (top a ≤ y) × (y < end a)
+      go true p zero e' at' more =
+          let is : x ≡ a = same_Some x a at' in
+          let both = and_parts (nat_le (top x) y) (nat_lt y (end x)) p in
+          let low = both.0 in
+          let high = both.1 in
+          let below : top x ≤ y = grind (arith, nat_tests) in
+          let above : y < end x = grind (arith, nat_tests) in
+          (subst (λ (b : A). top b ≤ y) is below, subst (λ (b : A). y < end b) is above)
+      go true p (suc k) e' at' more = let same = same_Some i (i + suc k) e' in absurd (omega arith)
+      go false p zero e' at' more = let past = index-from top end y (suc i) (i + 0) xs e' in absurd (omega arith)
+      go false p (suc k) e' at' more = let step : i + suc k ≡ suc i + k = omega arith in more k (e' ∙ ap Some step) at'
+
+  -- what is found has the row
+  found-has : (k : ℕ) (xs : List A) (a : A) → index_on top end y 0 xs ≡ Some k → slice_get xs k ≡ Some a → (top a ≤ y) × (y < end a)
+  found-has k xs a e at = let from : k ≡ 0 + k = omega arith in has-from 0 k xs a (e ∙ ap Some from) at
+
 -- ---- the pieces of a row further down in the same section
 
 module _ (selection : SelectionKey) (m : ℕ) where
@@ -157,7 +186,7 @@ module _ (selection : SelectionKey) (m : ℕ) where
       of_rows i None at on q = absurd (cc q)
       of_rows i (Some r) at on q = record { index = i; rows = r; on = on; at = at; is = sym (same_Some (pieces i r) p q) }
 
-      of_index : (o : Option ℕ) → file_on y rs ≡ o → option_and_then (pieces_at selection m y rs) o ≡ Some p → AreOf rs y p
+      of_index : (o : Option ℕ) → file_on y rs ≡ o → option_and_then (λ (i : ℕ). option_and_then (λ (r : FileRows). Some (pieces i r)) (slice_get rs i)) o ≡ Some p → AreOf rs y p
       of_index None on q = absurd (cc q)
       of_index (Some i) on q = of_rows i (slice_get rs i) refl on q
 
@@ -189,56 +218,75 @@ record ShowsLine (i : LayoutIndex) (y : ℕ) (k : LineKey) : Type 0 where
   under : pieces.file.top < y
   line : k ≡ line_key_of section.key (y - section.top - 1)
 
-shows-line : (i : LayoutIndex) (y : ℕ) (k : LineKey) → line_in i y ≡ Some k → ShowsLine i y k
-shows-line i y k e = bared (have_row i.rects.items y) refl e
-  where
-    of_shape : (p : RowPieces) (s : SectionPiece) → pieces_on i.selection i.pinned y i.rows.files ≡ Some p → have_row i.rects.items y ≡ false → p.section ≡ Some s
-        → is_below_top p.file.top p.file.end y ≡ true → is_below_top s.top s.end y ≡ true → (shape : SectionShape) → s.shape ≡ shape → line_of_shape shape s.key (y - s.top) ≡ Some k → ShowsLine i y k
-    of_shape p s f b o in_file in_section (Context n) h q = absurd (cc q)
-    of_shape p s f b o in_file in_section Mark h q = absurd (cc q)
-    of_shape p s f b o in_file in_section Changed h q =
-        let file = and_parts (nat_lt p.file.top y) (nat_lt y p.file.end) in_file in
-        let own = and_parts (nat_lt s.top y) (nat_lt y s.end) in_section in
-        let f0 = file.0 in
-        let f1 = file.1 in
-        let s0 = own.0 in
-        let s1 = own.1 in
-        record {
-          pieces = p;
-          section = s;
-          found = f;
-          own = o;
-          bare = b;
-          shape = h;
-          below = grind (arith, nat_tests);
-          above = grind (arith, nat_tests);
-          inside = grind (arith, nat_tests);
-          under = grind (arith, nat_tests);
-          line = sym (same_Some (line_key_of s.key (y - s.top - 1)) k q);
-        }
+module _ (i : LayoutIndex) (y : ℕ) (k : LineKey) where
+  of-changed : (p : RowPieces) (s : SectionPiece) → pieces_on i.selection i.pinned y i.rows.files ≡ Some p → p.section ≡ Some s → have_row i.rects.items y ≡ false → s.shape ≡ Changed → ((y - s.top) == 0) ≡ false
+      → Some (line_key_of s.key (y - s.top - 1)) ≡ Some k → ShowsLine i y k
+  of-changed p s f own bare shape first q =
+      let o = pieces-of i.selection i.pinned i.rows.files y p f in
+      let file_top : p.file.top ≡ o.rows.top = ap (λ (r : RowPieces). r.file.top) o.is in
+      let file_end : p.file.end ≡ o.rows.end = ap (λ (r : RowPieces). r.file.end) o.is in
+      let section : section_in i.selection o.index o.rows y ≡ Some s = sym (ap (λ (r : RowPieces). r.section) o.is) ∙ own in
+      let d = piece-of i.selection i.pinned o.index o.rows y s section in
+      let end : s.end ≡ o.rows.top + 1 + d.rows.end = ap (λ (r : SectionPiece). r.end) d.is in
+      let in_file = found-has (λ (r : FileRows). r.top) (λ (r : FileRows). r.end) y o.index i.rows.files o.rows o.on o.at in
+      let in_section = found-has (λ (r : SectionRows). r.top) (λ (r : SectionRows). r.end) (y - (o.rows.top + 1)) d.index o.rows.sections d.rows d.on d.at in
+      let h0 = in_file.1 in
+      let h1 = in_section.1 in
+      let h2 = d.below in
+      record {
+        pieces = p;
+        section = s;
+        found = f;
+        own = own;
+        bare = bare;
+        shape = shape;
+        below = grind (arith, nat_tests);
+        above = omega arith;
+        inside = omega arith;
+        under = omega arith;
+        line = sym (same_Some (line_key_of s.key (y - s.top - 1)) k q);
+      }
 
-    of_rows : (p : RowPieces) (s : SectionPiece) → pieces_on i.selection i.pinned y i.rows.files ≡ Some p → have_row i.rects.items y ≡ false → p.section ≡ Some s
-        → is_below_top p.file.top p.file.end y ≡ true → (b : Bool) → is_below_top s.top s.end y ≡ b → (if b then line_of_shape s.shape s.key (y - s.top) else None) ≡ Some k → ShowsLine i y k
-    of_rows p s f bare o in_file true in_section q = of_shape p s f bare o in_file in_section s.shape refl q
-    of_rows p s f bare o in_file false in_section q = absurd (cc q)
+  -- a row of context shows no changed line
+  of-context : (key : SectionKey) (a b : Bool) (m n : ℕ) → line_of_kind key (if a then Context m else if b then Context n else Blank) ≡ None
+  of-context key true b m n = refl
+  of-context key false true m n = refl
+  of-context key false false m n = refl
 
-    of_section : (p : RowPieces) → pieces_on i.selection i.pinned y i.rows.files ≡ Some p → have_row i.rects.items y ≡ false → is_below_top p.file.top p.file.end y ≡ true
-        → (o : Option SectionPiece) → p.section ≡ o → option_and_then (line_of_section y) o ≡ Some k → ShowsLine i y k
-    of_section p f bare in_file None own q = absurd (cc q)
-    of_section p f bare in_file (Some s) own q = of_rows p s f bare own in_file (is_below_top s.top s.end y) refl q
+  of-shape : (p : RowPieces) (s : SectionPiece) → pieces_on i.selection i.pinned y i.rows.files ≡ Some p → p.section ≡ Some s → have_row i.rects.items y ≡ false
+      → (shape : SectionShape) → s.shape ≡ shape → line_of_kind s.key (row_kind s.place shape (y - s.top)) ≡ Some k → ShowsLine i y k
+  of-shape p s f own bare (shapes.Context n) h q =
+      let j = y - s.top in
+      let top = lines_above s.place n + dots_height s.place n in
+      let none = of-context s.key (nat_lt j (lines_above s.place n)) (nat_le top j && nat_lt (j - top) (n - first_below s.place n)) j (first_below s.place n + (j - top)) in
+      absurd (cc (none, q))
+  of-shape p s f own bare shapes.Mark h q = absurd (cc q)
+  of-shape p s f own bare shapes.Changed h q = first ((y - s.top) == 0) refl q
+    where
+      first : (b : Bool) → ((y - s.top) == 0) ≡ b → line_of_kind s.key (if b then Header else Line (y - s.top - 1)) ≡ Some k → ShowsLine i y k
+      first true e q' = absurd (cc q')
+      first false e q' = of-changed p s f own bare h e q'
 
-    of_file : (p : RowPieces) → pieces_on i.selection i.pinned y i.rows.files ≡ Some p → have_row i.rects.items y ≡ false → (b : Bool) → is_below_top p.file.top p.file.end y ≡ b
-        → (if b then option_and_then (line_of_section y) p.section else None) ≡ Some k → ShowsLine i y k
-    of_file p f bare true in_file q = of_section p f bare in_file p.section refl q
-    of_file p f bare false in_file q = absurd (cc q)
+  of-section : (p : RowPieces) → pieces_on i.selection i.pinned y i.rows.files ≡ Some p → have_row i.rects.items y ≡ false → (o : Option SectionPiece) → p.section ≡ o
+      → option_and_then (λ (s : SectionPiece). line_of_kind s.key (kind_on s (y - s.top))) o ≡ Some k → ShowsLine i y k
+  of-section p f bare None own q = absurd (cc q)
+  of-section p f bare (Some s) own q = of-shape p s f own bare s.shape refl q
 
-    of_pieces : (o : Option RowPieces) → pieces_on i.selection i.pinned y i.rows.files ≡ o → have_row i.rects.items y ≡ false → option_and_then (line_among y) o ≡ Some k → ShowsLine i y k
-    of_pieces None f bare q = absurd (cc q)
-    of_pieces (Some p) f bare q = of_file p f bare (is_below_top p.file.top p.file.end y) refl q
+  of-file : (p : RowPieces) → pieces_on i.selection i.pinned y i.rows.files ≡ Some p → have_row i.rects.items y ≡ false → (b : Bool)
+      → (if b then None else option_and_then (λ (s : SectionPiece). line_of_kind s.key (kind_on s (y - s.top))) p.section) ≡ Some k → ShowsLine i y k
+  of-file p f bare true q = absurd (cc q)
+  of-file p f bare false q = of-section p f bare p.section refl q
 
-    bared : (b : Bool) → have_row i.rects.items y ≡ b → (if b then None else option_and_then (line_among y) (pieces_on i.selection i.pinned y i.rows.files)) ≡ Some k → ShowsLine i y k
-    bared true h q = absurd (cc q)
-    bared false h q = of_pieces (pieces_on i.selection i.pinned y i.rows.files) refl h q
+  of-pieces : (o : Option RowPieces) → pieces_on i.selection i.pinned y i.rows.files ≡ o → have_row i.rects.items y ≡ false → option_and_then (line_among y) o ≡ Some k → ShowsLine i y k
+  of-pieces None f bare q = absurd (cc q)
+  of-pieces (Some p) f bare q = of-file p f bare (y == p.file.top) q
+
+  shows-line : line_in i y ≡ Some k → ShowsLine i y k
+  shows-line e = bared (have_row i.rects.items y) refl e
+    where
+      bared : (b : Bool) → have_row i.rects.items y ≡ b → (if b then None else option_and_then (line_among y) (pieces_on i.selection i.pinned y i.rows.files)) ≡ Some k → ShowsLine i y k
+      bared true h q = absurd (cc q)
+      bared false h q = of-pieces (pieces_on i.selection i.pinned y i.rows.files) refl h q
 
 -- the end of its section, on a row that shows a line
 end-is : (i : LayoutIndex) (r : RowOwners) (k : LineKey) → AreRowOwners i r → (l : ShowsLine i r.row k) → end_of_pieces r.found ≡ min l.section.end l.pieces.file.end
@@ -288,12 +336,10 @@ line-down i r k e are fit shows run n within =
     let shape = l.shape in
     let under = l.under in
     let below = l.below in
-    let f0 : nat_lt l.pieces.file.top y ≡ true = grind (arith, nat_tests) in
-    let f1 : nat_lt y l.pieces.file.end ≡ true = grind (arith, nat_tests) in
-    let s0 : nat_lt s.top y ≡ true = grind (arith, nat_tests) in
-    let s1 : nat_lt y s.end ≡ true = grind (arith, nat_tests) in
+    let not_top : (y == l.pieces.file.top) ≡ false = grind (arith, nat_tests) in
+    let not_first : ((y - s.top) == 0) ≡ false = grind (arith, nat_tests) in
     let down : y - s.top - 1 ≡ (r.row - s.top - 1) + n = omega arith in
-    rw (bare, found, f0, f1, own, s0, s1, shape)
+    rw (bare, found, not_top, own, shape, not_first)
     (ap (λ (j : ℕ). Some (line_key_of s.key j)) down ∙ ap (λ (q : LineKey). Some (line_below q n)) (sym l.line))
 
 -- ---- what lies over rows

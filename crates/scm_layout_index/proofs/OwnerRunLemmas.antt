@@ -12,14 +12,12 @@ use Rattle.scm_widgets.specs.declared.overlay_rects.OverlayRect.{OverlayRect}
 use Rattle.scm_widgets.specs.OverlayRects.{have_row, is_at, overlay_owner}
 use Rattle.scm_document.specs.declared.index_pieces.SectionPiece.{SectionPiece}
 use Rattle.scm_rows.specs.declared.row_kind.RowKind.TheVariants.{Header, Line, Mark, Context, Blank}
-use Rattle.scm_document.specs.PieceOwners.{box_owner, part_owner, rows_owner, section_owner}
-use Rattle.scm_document.specs.Pieces.{files_of, sections_of}
+use Rattle.scm_document.specs.PieceOwners.{box_owner, part_owner, row_owner, section_owner}
 use Rattle.scm_document.specs.SectionPieces.{kind_on}
 use Rattle.scm_layout_index.specs.declared.layout_index.LayoutIndex.{LayoutIndex}
-use Rattle.scm_layout_index.specs.declared.row_pieces.RowPieces.{RowPieces}
+use Rattle.scm_document.specs.declared.index_pieces.RowPieces.{RowPieces}
 use Rattle.scm_layout_index.specs.LayoutIndex.{document_owner, owner_in}
 use Rattle.scm_layout_index.specs.OwnerRuns.{IsRun, end_before}
-use Rattle.scm_layout_index.specs.RowPieces.{found_list}
 use Rattle.scm_layout_index.proofs.RowOwnerLemmas.{not-over}
 
 -- a column of a run lies on the same side of a stop as the first
@@ -117,18 +115,15 @@ one-owner (r ∷ rs) y c e x h low high =
 -- ---- rows
 
 -- a header's row
-pub header-row : (w : ℕ) (p : RowPieces) (y c e : ℕ) → y ≡ p.file.top → ((k : SelectionKey) → IsRun (box_owner w 0 k) w c e)
-    → IsRun (rows_owner w (files_of (found_list (Some p))) (sections_of (found_list (Some p))) y) w c e
+pub header-row : (w : ℕ) (p : RowPieces) (y c e : ℕ) → y ≡ p.file.top → ((k : SelectionKey) → IsRun (box_owner w 0 k) w c e) → IsRun (row_owner w p y) w c e
 header-row w p y c e is boxes = record {
   past = (boxes (keys.File p.file.key)).past;
   most = (boxes (keys.File p.file.key)).most;
-  same = λ x low high. own x (grind (arith, nat_tests)) ((boxes (keys.File p.file.key)).same x low high) p.section refl;
+  same = λ x low high.
+      let top : (y == p.file.top) ≡ true = grind (arith, nat_tests) in
+      let box = (boxes (keys.File p.file.key)).same x low high in
+      rw (top, box) refl;
 }
-  where
-    own : (x : ℕ) → (y == p.file.top) ≡ true → box_owner w 0 (keys.File p.file.key) x ≡ box_owner w 0 (keys.File p.file.key) c → (o : Option SectionPiece) → p.section ≡ o
-        → rows_owner w (files_of (found_list (Some p))) (sections_of (found_list (Some p))) y x ≡ rows_owner w (files_of (found_list (Some p))) (sections_of (found_list (Some p))) y c
-    own x top box None q = rw (q, top, box) refl
-    own x top box (Some s) q = rw (q, top, box) refl
 
 -- a row that nothing lies over
 pub bare-run : (i : LayoutIndex) (y c e : ℕ) → have_row i.rects.items y ≡ false → IsRun (document_owner i y) i.width c e → IsRun (owner_in i y) i.width c e

@@ -2,7 +2,7 @@
 use Rattle.std.specs.Prelude.{ℕ, ◌+◌, min, Option, Some, None}
 use Rattle.scm_types.specs.declared.keys.LineKey.{LineKey}
 use Rattle.scm_document.specs.declared.index_pieces.SectionPiece.{SectionPiece}
-use Rattle.scm_layout_index.specs.declared.row_pieces.RowPieces.{RowPieces}
+use Rattle.scm_document.specs.declared.index_pieces.RowPieces.{RowPieces}
 
 -- the n-th line below line k of its section
 abbrev pub line_below : LineKey → ℕ → LineKey

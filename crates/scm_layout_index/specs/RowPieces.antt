@@ -1,5 +1,5 @@
 -- The pieces of files and sections, from the rows that a layout keeps of them. Indexes count from 0; all keys are those of commit 0.
-use Rattle.std.specs.Prelude.{◌≡◌, ℕ, ◌+◌, ◌-◌, ◌<◌, ◌≤◌, ◌^◌, ◌==◌, nat_le, nat_lt, List, [], ◌∷◌, length, slice_get, if◌then◌else◌, Option, Some, None, option_and_then}
+use Rattle.std.specs.Prelude.{◌≡◌, ℕ, ◌+◌, ◌-◌, ◌<◌, ◌≤◌, ◌^◌, ◌==◌, ◌&&◌, nat_le, nat_lt, List, [], ◌∷◌, length, slice_get, if◌then◌else◌, Option, Some, None, option_and_then}
 use Rattle.scm_types.specs.declared.keys.FileKey.{FileKey}
 use Rattle.scm_types.specs.declared.keys.SectionKey.{SectionKey}
 use Rattle.scm_types.specs.declared.keys.SelectionKey.{SelectionKey}
@@ -7,14 +7,14 @@ use Rattle.scm_types.specs.declared.keys.SelectionKey.TheVariants as keys
 use Rattle.scm_types.specs.Keys.{is_key, section_key_of, section_of_line}
 use Rattle.scm_document.specs.declared.index_pieces.FilePiece.{FilePiece}
 use Rattle.scm_document.specs.declared.index_pieces.SectionPiece.{SectionPiece}
-use Rattle.scm_document.specs.declared.index_pieces.Piece.{Piece}
-use Rattle.scm_document.specs.declared.index_pieces.Piece.TheVariants as pieces
+use Rattle.scm_document.specs.declared.index_pieces.RowPieces.{RowPieces}
+use Rattle.scm_document.specs.DocumentRows.{rows_of_key}
+use Rattle.scm_document.specs.Pieces.{section_places, some_rows}
 use Rattle.scm_layout.specs.declared.file_rows.FileRows.{FileRows}
 use Rattle.scm_layout.specs.declared.section_rows.SectionRows.{SectionRows}
 use Rattle.scm_layout.specs.Rows.{file_key_of}
 use Rattle.scm_layout.specs.Searches.{FilesFollow, SectionsFollow, file_on, section_on}
 use Rattle.scm_document.specs.SectionPieces.{file_piece, section_piece}
-use Rattle.scm_layout_index.specs.declared.row_pieces.RowPieces.{RowPieces}
 
 -- ---- the piece of a section
 
@@ -38,64 +38,42 @@ section_in selection i r y =
 abbrev pub file_of_rows : ℕ → ℕ → FileRows → FilePiece
 file_of_rows m i r = file_piece m (file_key_of 0 i) r.top r.end
 
--- the pieces of file i and of its section that has row y, if there is such a file
-abbrev pub pieces_at : SelectionKey → ℕ → ℕ → List FileRows → ℕ → Option RowPieces
-pieces_at selection m y rs i =
-    option_and_then (λ r. Some (record { file = file_of_rows m i r; section = section_in selection i r y })) (slice_get rs i)
-
 -- the pieces that have row y, if any
 abbrev pub pieces_on : SelectionKey → ℕ → ℕ → List FileRows → Option RowPieces
-pieces_on selection m y rs = option_and_then (pieces_at selection m y rs) (file_on y rs)
+pieces_on selection m y rs =
+    option_and_then
+    (λ i. option_and_then (λ r. Some (record { file = file_of_rows m i r; section = section_in selection i r y })) (slice_get rs i))
+    (file_on y rs)
 
--- a section's piece in a list
-abbrev pub section_list : Option SectionPiece → List Piece
-section_list None = []
-section_list (Some s) = pieces.Section s ∷ []
+-- ---- the rows of a key
 
--- the pieces in a list
-abbrev pub found_list : Option RowPieces → List Piece
-found_list None = []
-found_list (Some p) = pieces.File p.file ∷ section_list p.section
-
--- the piece of the file that has row m, to which a header may be pinned, if there is one
-abbrev pub pinned_piece : ℕ → List FileRows → Option Piece
-pinned_piece m rs = option_and_then (λ i. option_and_then (λ r. Some (pieces.File (file_of_rows m i r))) (slice_get rs i)) (file_on m rs)
-
--- ---- the piece of a key
-
--- the piece of section k of `total`, whose rows s are counted from row `first`, if it has rows
-abbrev pub shown_piece : ℕ → SectionKey → ℕ → SectionRows → Option Piece
-shown_piece total k first s =
-    if nat_lt s.top s.end then Some (pieces.Section (section_of_rows keys.None total k first s)) else None
-
--- the piece of section k, unless its file with rows r has no more rows than its header
-abbrev pub section_at : FileRows → SectionKey → Option Piece
+-- the piece of section k, if the section has rows, and its file with rows r has some below its header
+abbrev pub section_at : FileRows → SectionKey → Option SectionPiece
 section_at r k =
-    if nat_lt (r.top + 1) r.end
-    then option_and_then (shown_piece (length r.sections) k (r.top + 1)) (slice_get r.sections k.section_idx)
-    else None
+    option_and_then
+    (λ s. if nat_lt (r.top + 1) r.end && nat_lt s.top s.end then Some (section_of_rows keys.None (length r.sections) k (r.top + 1) s) else None)
+    (slice_get r.sections k.section_idx)
 
 -- the piece of section k of files with these rows, if its file is unfolded
-abbrev pub section_of_key : List FileRows → SectionKey → Option Piece
+abbrev pub section_of_key : List FileRows → SectionKey → Option SectionPiece
 section_of_key rs k =
     if k.commit_idx == 0 then option_and_then (λ r. section_at r k) (slice_get rs k.file_idx) else None
 
--- the piece of file k
-abbrev pub file_of_key : List FileRows → FileKey → Option Piece
-file_of_key rs k =
-    if k.commit_idx == 0 then option_and_then (λ r. Some (pieces.File (file_of_rows 0 k.file_idx r))) (slice_get rs k.file_idx) else None
+-- the first row of file k and its number of rows, if there is such a file
+abbrev pub rows_of_file : List FileRows → FileKey → Option (ℕ × ℕ)
+rows_of_file rs k =
+    if k.commit_idx == 0 then option_and_then (λ r. some_rows (r.top, r.end - r.top)) (slice_get rs k.file_idx) else None
 
--- the piece that has the rows of a key, if any
-abbrev pub piece_of_key : List FileRows → SelectionKey → Option Piece
-piece_of_key rs keys.None = None
-piece_of_key rs (keys.File k) = file_of_key rs k
-piece_of_key rs (keys.Section k) = section_of_key rs k
-piece_of_key rs (keys.Line k) = section_of_key rs (section_of_line k)
+-- the first row of a key and its number of rows, if it has any, in the section if there is one
+abbrev pub rows_in_section : SelectionKey → Option SectionPiece → Option (ℕ × ℕ)
+rows_in_section key section = option_and_then (λ s. rows_of_key key (section_places s)) section
 
--- a piece in a list
-abbrev pub piece_list : Option Piece → List Piece
-piece_list None = []
-piece_list (Some p) = p ∷ []
+-- the first row of a key and its number of rows, if it has any, in files with these rows
+abbrev pub rows_by_key : List FileRows → SelectionKey → Option (ℕ × ℕ)
+rows_by_key rs keys.None = None
+rows_by_key rs (keys.File k) = rows_of_file rs k
+rows_by_key rs (keys.Section k) = rows_in_section (keys.Section k) (section_of_key rs k)
+rows_by_key rs (keys.Line k) = rows_in_section (keys.Line k) (section_of_key rs (section_of_line k))
 
 -- ---- the end of the files
 

@@ -8,12 +8,12 @@ ghost use Rattle.scm_rows.specs.Heights.{message_height};
 ghost use Rattle.scm_overlay.specs.Tables.{menus_with};
 ghost use Rattle.scm_view.specs.ViewState.{ViewState, commit_at};
 ghost use Rattle.scm_view.specs.Window.{extent, owner, span};
-ghost use Rattle.scm_layout_index.specs.LayoutIndex.{span_in, AreRowsOf, IsInline, IsLayoutIndexOf};
+ghost use Rattle.scm_layout_index.specs.LayoutIndex.{AreRowsOf, IsInline, IsLayoutIndexOf};
 
-use crate::row_pieces::{end_of_files, push_pinned_on};
+use crate::row_pieces::end_of_files;
 use crate::shared_rows::SharedRows;
 use scm_document::CommitMessageView;
-use scm_document::key_rows::find_in;
+use scm_document::index_pieces::push_pinned;
 use scm_overlay::menu_bar::MenuBar;
 use scm_types::{Commit, Items, RecordError, SelectionKey};
 use scm_view::frame_measures::{document_run, joined, joined_with, push_help, push_quit, screen};
@@ -92,7 +92,8 @@ impl LayoutIndex {
         let screen = screen(width, height, scroll);
         let mut rects = Vec::new(alloc);
         let message = push_message(&mut rects, &view_state.state.commits)?;
-        push_pinned_on(&mut rects, columns, scroll + 1, files.as_slice())?;
+        let pinned = rows.pieces_on(view_state.selection, scroll + 1, scroll + 1);
+        push_pinned(&mut rects, columns, scroll + 1, pinned)?;
         let bar = menu_bar.push_rects(alloc, &mut rects, screen)?;
         let quit = push_quit(alloc, &mut rects, screen, view_state.quit_dialog)?;
         let help = push_help(alloc, &mut rects, screen, view_state.is_help_open)?;
@@ -128,7 +129,7 @@ impl LayoutIndex {
         ensures { (w h s : ℕ) (shown : ViewState) → IsLayoutIndexOf w h s shown self.now →
             result ≡ span shown key }
     {
-        self.span_in(key)
+        self.rows.rows_by_key(key)
     }
 
     /// Returns the number of rows that the document, the menu bar and the open dialogs span.
@@ -137,15 +138,5 @@ impl LayoutIndex {
             result ≡ extent w h s shown }
     {
         self.extent
-    }
-
-    /// Returns the row range of `key` by its piece.
-    fn span_in(&self, key: SelectionKey) -> Option<(usize, usize)>
-        ensures { result ≡ span_in self.now key }
-    {
-        match self.rows.piece_of_key(key) {
-            None => None,
-            Some(piece) => find_in(&[piece], key),
-        }
     }
 }

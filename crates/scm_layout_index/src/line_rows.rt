@@ -13,7 +13,7 @@ ghost use Rattle.scm_layout_index.specs.LineRows.{end_of_pieces, end_of_section,
 use crate::layout_index::LayoutIndex;
 use crate::owner_runs::stretch_end;
 use crate::row_owners::RowOwners;
-use crate::row_pieces::RowPieces;
+use scm_document::index_pieces::RowPieces;
 use scm_types::LineKey;
 use scm_widgets::overlay_rects::OverlayRect;
 

@@ -1,7 +1,6 @@
 //! Runs of columns of a row that have the same owner, so that it is asked for once.
 ghost use Rattle.std.specs.Prelude.{◌≡◌, ℕ, ◌+◌, ◌<◌, ◌≤◌, ◌^◌, nat_le, nat_lt, if◌then◌else◌, None, Some};
-ghost use Rattle.scm_document.specs.PieceOwners.{box_owner, rows_owner, section_owner};
-ghost use Rattle.scm_document.specs.Pieces.{files_of, sections_of};
+ghost use Rattle.scm_document.specs.PieceOwners.{box_owner, found_owner, section_owner};
 ghost use Rattle.scm_types.specs.declared.keys.SelectionKey.{SelectionKey};
 ghost use Rattle.scm_view.specs.ViewState.{ViewState};
 ghost use Rattle.scm_view.specs.Window.{owner};
@@ -9,11 +8,9 @@ ghost use Rattle.scm_widgets.specs.Layers.{is_within};
 ghost use Rattle.scm_widgets.specs.OverlayRects.{is_at, overlay_owner};
 ghost use Rattle.scm_layout_index.specs.LayoutIndex.{owner_in, AreRowOwners, IsLayoutIndexOf};
 ghost use Rattle.scm_layout_index.specs.OwnerRuns.{IsRun, end_before};
-ghost use Rattle.scm_layout_index.specs.RowPieces.{found_list};
 
 use crate::layout_index::LayoutIndex;
 use crate::row_owners::RowOwners;
-use crate::row_pieces::RowPieces;
 use scm_cells::{Rect, gap};
 use scm_document::index_pieces::SectionPiece;
 use scm_rows::RowKind;
@@ -68,32 +65,29 @@ fn section_end(width: usize, section: &SectionPiece, row: usize, column: usize) 
     }
 }
 
-/// Returns the end of a run from `column` on of the columns of row `row` of the document, among the
-/// pieces that have the row. The screen has `width` columns.
-fn pieces_end(width: usize, found: &RowPieces, row: usize, column: usize) -> usize
-    requires { column < width }
-    ensures { IsRun (rows_owner width (files_of (found_list (Some found.now)))
-        (sections_of (found_list (Some found.now))) row) width column result }
-{
-    if row == found.file.top {
-        return heading_end(width, 0, column);
-    }
-    match &found.section {
-        None => width,
-        Some(section) => section_end(width, section, row.saturating_sub(section.top), column),
-    }
-}
-
 /// Returns the end of a run from `column` on of the columns of the row of `owners`, among the pieces
 /// that have the row, if any. The screen has `width` columns.
 fn found_end(width: usize, owners: &RowOwners, column: usize) -> usize
     requires { column < width }
-    ensures { IsRun (rows_owner width (files_of (found_list owners.now.found))
-        (sections_of (found_list owners.now.found)) owners.now.row) width column result }
+    ensures { IsRun (found_owner width owners.now.found owners.now.row) width column result }
 {
+    let row = owners.row;
     match &owners.found {
         None => width,
-        Some(found) => pieces_end(width, found, owners.row, column),
+        Some(found) => {
+            if row == found.file.top {
+                return heading_end(width, 0, column);
+            }
+            match &found.section {
+                None => width,
+                Some(section) => section_end(
+                    width,
+                    section,
+                    row.saturating_sub(section.top),
+                    column,
+                ),
+            }
+        }
     }
 }
 

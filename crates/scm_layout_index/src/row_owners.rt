@@ -1,15 +1,14 @@
 //! The owners of the places of one row, for which what the row has is found once.
 ghost use Rattle.std.specs.Prelude.{◌≡◌, ℕ, nat_lt, if◌then◌else◌, None};
-ghost use Rattle.scm_document.specs.PieceOwners.{rows_owner};
-ghost use Rattle.scm_document.specs.Pieces.{files_of, sections_of};
+ghost use Rattle.scm_document.specs.PieceOwners.{found_owner};
 ghost use Rattle.scm_view.specs.ViewState.{ViewState};
 ghost use Rattle.scm_view.specs.Window.{owner};
 ghost use Rattle.scm_widgets.specs.OverlayRects.{overlay_owner};
 ghost use Rattle.scm_layout_index.specs.LayoutIndex.{owner_in, AreRowOwners, IsLayoutIndexOf};
-ghost use Rattle.scm_layout_index.specs.RowPieces.{found_list};
 
 use crate::layout_index::LayoutIndex;
-use crate::row_pieces::{RowPieces, owner_among};
+use crate::shown_lines::line_among;
+use scm_document::index_pieces::{RowPieces, line_owner};
 use scm_widgets::ids::ComponentId;
 use scm_widgets::overlay_rects::{have_row, overlay_owner};
 
@@ -25,14 +24,17 @@ pub struct RowOwners {
 }
 
 /// Returns the owner of the place at `column` of the row of `owners` among the pieces that have the
-/// row, if any. The screen has `width` columns.
+/// row, if any. The screen has `width` columns. Most rows show a changed line, so that is looked for
+/// first.
 fn owner_of_found(width: usize, owners: &RowOwners, column: usize) -> Option<ComponentId>
-    ensures { result ≡ rows_owner width (files_of (found_list owners.now.found))
-        (sections_of (found_list owners.now.found)) owners.now.row column }
+    ensures { result ≡ found_owner width owners.now.found owners.now.row column }
 {
     match &owners.found {
         None => None,
-        Some(found) => owner_among(width, found, owners.row, column),
+        Some(found) => match line_among(found, owners.row) {
+            None => found.owner(width, owners.row, column),
+            Some(key) => Some(line_owner(key, column)),
+        },
     }
 }
 

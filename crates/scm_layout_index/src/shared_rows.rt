@@ -2,12 +2,12 @@
 ghost use Rattle.std.specs.Prelude.{◌≡◌, false, IfOk};
 ghost use Rattle.scm_layout.specs.SectionStack.{shapes_of};
 ghost use Rattle.scm_layout_index.specs.FrameRows.{AreSectionsBut, is_named};
-ghost use Rattle.scm_layout_index.specs.RowPieces.{RowsFit, piece_of_key, pieces_on};
+ghost use Rattle.scm_layout_index.specs.RowPieces.{RowsFit, rows_by_key, pieces_on};
 ghost use Rattle.scm_layout_index.specs.SharedRows.{AreRowsOfState};
 
-use crate::key_pieces::piece_of_key;
-use crate::row_pieces::{RowPieces, pieces_on};
-use scm_document::index_pieces::Piece;
+use crate::key_pieces::rows_by_key;
+use crate::row_pieces::pieces_on;
+use scm_document::index_pieces::RowPieces;
 use scm_layout::{FileRows, StateRows};
 use scm_types::{Items, SelectionKey};
 use std::alloc::{AllocError, Global};
@@ -164,14 +164,14 @@ impl SharedRows {
         ensures { result ≡ pieces_on selection pinned row self.now.files }
     {
         let rows = self.rows.as_ref();
-        pieces_on(selection, pinned, rows.files.as_slice(), row)
+        pieces_on(selection, pinned, &rows.files, row)
     }
 
-    /// Returns the piece that has the rows of `key`, if any.
-    pub(crate) fn piece_of_key(&self, key: SelectionKey) -> Option<Piece>
-        ensures { result ≡ piece_of_key self.now.files key }
+    /// Returns the first row of `key` and its number of rows, if it has any.
+    pub(crate) fn rows_by_key(&self, key: SelectionKey) -> Option<(usize, usize)>
+        ensures { result ≡ rows_by_key self.now.files key }
     {
         let rows = self.rows.as_ref();
-        piece_of_key(rows.files.as_slice(), key)
+        rows_by_key(&rows.files, key)
     }
 }

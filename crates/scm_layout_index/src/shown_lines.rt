@@ -6,46 +6,37 @@ ghost use Rattle.scm_types.specs.declared.keys.LineKey.{LineKey};
 ghost use Rattle.scm_view.specs.ViewState.{ViewState};
 ghost use Rattle.scm_view.specs.Window.{owner};
 ghost use Rattle.scm_layout_index.specs.LayoutIndex.{AreRowOwners, IsLayoutIndexOf};
-ghost use Rattle.scm_layout_index.specs.ShownLines.{is_below_top, line_among, line_in, shown_line, line_of_section};
+ghost use Rattle.scm_layout_index.specs.ShownLines.{line_among, line_in, line_of_kind, shown_line};
 
 use crate::layout_index::LayoutIndex;
 use crate::row_owners::RowOwners;
-use crate::row_pieces::RowPieces;
-use scm_document::index_pieces::SectionPiece;
-use scm_rows::SectionShape;
-use scm_types::LineKey;
+use scm_document::index_pieces::RowPieces;
+use scm_rows::RowKind;
+use scm_types::{LineKey, SectionKey};
 
-/// Returns whether `row` lies in `top..end`, and is not `top`.
-fn is_below_top(top: usize, end: usize, row: usize) -> bool
-    ensures { result ≡ is_below_top top end row }
+/// Returns the changed line that a row of kind `kind` in section `key` shows, if it shows one.
+fn line_of_kind(key: SectionKey, kind: RowKind) -> Option<LineKey>
+    ensures { result ≡ line_of_kind key kind }
 {
-    // `&`: one branch for the prover
-    (top < row) & (row < end)
-}
-
-/// Returns the changed line of `section` on row `row` of the document, if any.
-fn line_of_section(section: &SectionPiece, row: usize) -> Option<LineKey>
-    ensures { result ≡ line_of_section row section.now }
-{
-    if !is_below_top(section.top, section.end, row) {
-        return None;
-    }
-    match section.shape {
-        SectionShape::Changed => Some(section.key.line(row - section.top - 1)),
-        SectionShape::Context { .. } | SectionShape::Mark => None,
+    match kind {
+        RowKind::Line(line) => Some(key.line(line)),
+        RowKind::Header | RowKind::Mark | RowKind::Context(_) | RowKind::Blank => None,
     }
 }
 
-/// Returns the changed line on row `row` of the document among the pieces `found`, if any.
+/// Returns the changed line on row `row` of the document, which the pieces `found` have, if any.
 pub(crate) fn line_among(found: &RowPieces, row: usize) -> Option<LineKey>
     ensures { result ≡ line_among row found.now }
 {
-    if !is_below_top(found.file.top, found.file.end, row) {
+    if row == found.file.top {
         return None;
     }
     match &found.section {
         None => None,
-        Some(section) => line_of_section(section, row),
+        Some(section) => {
+            let kind = section.kind_on(row.saturating_sub(section.top));
+            line_of_kind(section.key, kind)
+        }
     }
 }
 

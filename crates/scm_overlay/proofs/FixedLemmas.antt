@@ -16,10 +16,10 @@ use Rattle.scm_widgets.specs.Texts.{button_text}
 use Rattle.scm_widgets.specs.Clicks.{is_clickable}
 use Rattle.scm_overlay.proofs.Parts.{Help, Leaving, part_of}
 use Rattle.scm_widgets.specs.Buttons.{button_width}
-use Rattle.scm_overlay.specs.Menus.{item_button, widest_item, headers_width, open_menu_with_column}
+use Rattle.scm_overlay.specs.Menus.{item_button, widest_item, headers_width, open_menu, open_menu_with_column}
 use Rattle.scm_overlay.proofs.OpenMenus.{IsOpenWide}
 use Rattle.scm_widgets.proofs.OwnButtons.{IsDialog}
-use Rattle.scm_overlay.specs.Tables.{item, all_menus, menus_with, quit_button, go_back_button, close_button, quit_dialog, help_dialog}
+use Rattle.scm_overlay.specs.Tables.{item, menus_with, quit_button, go_back_button, close_button, quit_dialog, help_dialog}
 use Rattle.scm_overlay.proofs.Ranges.{IsShortMenu, IsShortBar, button_columns}
 use Rattle.scm_overlay.proofs.MenuLemmas.{differ}
 
@@ -33,9 +33,9 @@ firsts : (text_width (codes "[Confirm (c)]") ≡ 13) × (text_width (codes "[Edi
 unfolding text_width clusters visible_clusters with_width visible_width has_control unicode_segmentation unicode_width
 firsts = (refl, refl, refl, refl)
 
-pub header_total : headers_width all_menus ≡ 30
+pub header_total : (k : Option ℕ) → headers_width (menus_with k).menus ≡ 30
 unfolding headers_width button_width text_width clusters visible_clusters with_width visible_width has_control unicode_segmentation unicode_width
-header_total = refl
+header_total k = refl
 
 -- ---- the open menu has a column
 
@@ -47,7 +47,7 @@ first_item : (t : MenuItem) (n : ℕ) → text_width (button_text (item_button 0
 unfolding button_width
 first_item t n e = e
 
-pub open_is_wide : (k : Option ℕ) → IsOpenWide (open_menu_with_column 0 all_menus k)
+pub open_is_wide : (k : Option ℕ) → IsOpenWide (open_menu (menus_with k))
 unfolding open_menu_with_column
 open_is_wide None = tt
 open_is_wide (Some zero) = wide_by (item (codes "Confirm (c)")) _ 12 (first_item (item (codes "Confirm (c)")) 13 firsts.0)
@@ -93,7 +93,7 @@ module _ (same_id : ComponentId → ComponentId → Bool) (law : IsLawful same_i
 
 -- ---- menus and dialogs are short
 
-short_menu : (k : Option ℕ) → IsShortMenu (open_menu_with_column 0 all_menus k)
+short_menu : (k : Option ℕ) → IsShortMenu (open_menu (menus_with k))
 unfolding open_menu_with_column widest_item button_width text_width clusters visible_clusters with_width visible_width has_control unicode_segmentation unicode_width
 short_menu None = tt
 short_menu (Some zero) = (omega arith, omega arith)
@@ -103,7 +103,7 @@ short_menu (Some (suc (suc (suc zero)))) = (omega arith, omega arith)
 short_menu (Some (suc (suc (suc (suc k))))) = tt
 
 pub short_bar : (k : Option ℕ) → IsShortBar (menus_with k)
-short_bar k = (omega (arith, header_total), short_menu k)
+short_bar k = (omega (arith, header_total k), short_menu k)
 
 two_buttons : (a b : Button ComponentId) (n m : ℕ) → text_width (button_text a) ≡ n → text_width (button_text b) ≡ m → button_columns (a ∷ (b ∷ [])) ≡ n + 1 + (m + 1 + 0)
 unfolding button_columns button_width

@@ -11,5 +11,6 @@ pub mod MenuLemmas
 pub mod DialogLemmas
 pub mod RangeLemmas
 pub mod FixedLemmas
+pub mod ClosedMenus
 pub mod OverlayLemmas
 pub mod OverlayOwnerLemmas

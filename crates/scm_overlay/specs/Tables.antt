@@ -1,5 +1,5 @@
 -- The texts of the menus, the quit dialog and the help dialog.
-use Rattle.std.specs.Prelude.{ℕ, ◌==◌, ◌&&◌, true, List, [], ◌∷◌, ◌++◌, map, Option, if◌then◌else◌, codes, decimal, encode_utf8_all}
+use Rattle.std.specs.Prelude.{ℕ, suc, ◌==◌, ◌&&◌, Bool, true, false, List, [], ◌∷◌, ◌++◌, map, Option, Some, None, if◌then◌else◌, codes, decimal, encode_utf8_all}
 use Rattle.scm_render.specs.Canvas.{Sight}
 use Rattle.scm_render.specs.Picture.{Picture, part}
 use Rattle.scm_widgets.specs.declared.ids.ComponentId.{ComponentId}
@@ -54,13 +54,27 @@ view_menu = record {
       ∷ (codes "Scroll down (ctrl-down, ctrl-e)" ∷ (codes "Previous page (ctrl-page-up, ctrl-b)" ∷ (codes "Next page (ctrl-page-down, ctrl-f)" ∷ []))))));
 }
 
--- The menus of the bar, from the left.
+-- The menus of the bar, from the left, each with all its items.
 abbrev pub all_menus : List Menu
 all_menus = file_menu ∷ (edit_menu ∷ (select_menu ∷ (view_menu ∷ [])))
 
--- The menu bar with this open menu, if any.
+-- Whether menu `k` is the open one.
+abbrev pub is_open_menu : Option ℕ → ℕ → Bool
+is_open_menu None k = false
+is_open_menu (Some n) k = n == k
+
+-- The menu `m` as it is in the bar, where it is menu `k`: a closed menu has no items.
+abbrev pub menu_in_bar : Option ℕ → ℕ → Menu → Menu
+menu_in_bar expanded k m = record { label = m.label; items = if is_open_menu expanded k then m.items else [] }
+
+-- Menus as they are in the bar, where the first of them is menu `k`.
+abbrev pub menus_in_bar : Option ℕ → ℕ → List Menu → List Menu
+menus_in_bar expanded k [] = []
+menus_in_bar expanded k (m ∷ ms) = menu_in_bar expanded k m ∷ menus_in_bar expanded (suc k) ms
+
+-- The menu bar with this open menu, if any. Only the open menu has items.
 abbrev pub menus_with : Option ℕ → MenuBar
-menus_with expanded = record { menus = all_menus; expanded_menu_idx = expanded }
+menus_with expanded = record { menus = menus_in_bar expanded 0 all_menus; expanded_menu_idx = expanded }
 
 -- ---- the quit dialog
 

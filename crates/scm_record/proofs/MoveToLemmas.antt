@@ -19,10 +19,9 @@ use Rattle.scm_record.specs.Session.{Session, with_ensure, at_key, with_keys_abo
 use Rattle.scm_record.specs.Frames.{Scene}
 use Rattle.scm_record.specs.Change.{stays}
 use Rattle.scm_record.specs.Step.{change}
-use Rattle.scm_selection.proofs.KeyOrderLemmas.{Ascends, with-same, with-has, with-ascends}
+use Rattle.scm_selection.proofs.KeyOrderLemmas.{Ascends, with-same, with-has, with-ascends, with-keeps}
 use Rattle.scm_record.proofs.WalkToLemmas.{step-next, kept-at, AllPass, filter-pass, Walks, arrived, walks, walk-down, walk-up}
 use Rattle.scm_record.proofs.InsideLemmas.{file-of-section, section-of-line}
-use Rattle.scm_layout.proofs.FoldLemmas.{still-has}
 
 -- events that lead from session to session, whatever was drawn, while the run goes on
 pub data Steps : Session → List Event → Session → Type 0 where
@@ -210,7 +209,7 @@ module _ (s : Session) (closed : is_some s.shown.quit_dialog ≡ false) (f : Fil
       let e2 = with_key e1 section in
       let asc1 = with-ascends e file asc in
       let asc2 = with-ascends e1 section asc1 in
-      let open_file : has_key e2 file ≡ true = still-has e1 section file (with-has e file) in
+      let open_file : has_key e2 file ≡ true = with-keeps e1 section file (with-has e file) in
       let open_section : has_key e2 section ≡ true = with-has e1 section in
       arrives-after s a section (keys.Line k) e e1 e2 n
       (to-section a (section_of_line k) n is_section)

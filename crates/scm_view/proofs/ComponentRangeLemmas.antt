@@ -37,7 +37,6 @@ use Rattle.scm_view.proofs.AppLemmas.{apply-columns}
 use Rattle.scm_widgets.specs.Texts.{box_text, button_text}
 use Rattle.scm_document.specs.Texts.{number_text, sign_text}
 use Rattle.scm_widgets.specs.Boxes.{IdBox}
-use Rattle.scm_rows.specs.Heights.{is_section_visible}
 use Rattle.scm_document.specs.Rows.{line_texts, lent_text, header_heading, rows_of, section_rows, sections_rows, shown_file, file_rows, document_of}
 use Rattle.scm_document.specs.FilesRows.{files_rows}
 use Rattle.scm_widgets.specs.Pictures.{box_picture, button_picture}

@@ -19,8 +19,8 @@ use Rattle.scm_document.specs.Pictures.{mask_row, is_pinned, no_files_place}
 use Rattle.scm_widgets.specs.Counts.{drawn, on_row}
 use Rattle.scm_document.specs.Counts.{row_calls, rows_counts, header_counts, sections_counts, file_counts, pinned_counts, files_counts, message_counts, document_counts}
 use Rattle.scm_overlay.specs.Counts.{open_calls, bar_calls, quit_calls, help_calls}
-use Rattle.scm_overlay.specs.Menus.{open_menu_with_column}
-use Rattle.scm_overlay.specs.Tables.{all_menus, menus_with}
+use Rattle.scm_overlay.specs.Menus.{open_menu, open_menu_with_column}
+use Rattle.scm_overlay.specs.Tables.{menus_with}
 use Rattle.scm_widgets.specs.Screens.{sight}
 use Rattle.scm_document.specs.declared.commit_view.CommitViewMode.TheVariants.{Inline}
 use Rattle.scm_document.specs.ViewColumns.{view_mask, views_counts}
@@ -189,7 +189,7 @@ document-few d s y = go (length d.files == 0) refl
 -- ---- all that is shown
 
 -- an open menu has at most nine items
-menu-few : (k : Option ℕ) → open_calls (open_menu_with_column 0 all_menus k) ≤ 18
+menu-few : (k : Option ℕ) → open_calls (open_menu (menus_with k)) ≤ 18
 unfolding open_menu_with_column
 menu-few None = omega arith
 menu-few (Some zero) = omega arith

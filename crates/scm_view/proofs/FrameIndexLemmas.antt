@@ -23,8 +23,7 @@ use Rattle.scm_document.specs.declared.file_view.FileView.{FileView}
 use Rattle.scm_widgets.specs.declared.overlay_rects.OverlayRect.{OverlayRect}
 use Rattle.scm_overlay.specs.declared.quit_dialog.QuitDialog.{QuitDialog}
 use Rattle.scm_overlay.specs.declared.help_dialog.HelpDialog.{HelpDialog}
-use Rattle.scm_document.specs.declared.index_pieces.FilePiece.{FilePiece}
-use Rattle.scm_document.specs.declared.index_pieces.SectionPiece.{SectionPiece}
+use Rattle.scm_document.specs.declared.index_pieces.RowPieces.{RowPieces}
 use Rattle.scm_widgets.specs.Layers.{Strip, Layer, clear, is_within, strip_at, owned_by, end_of, rows_around}
 use Rattle.scm_widgets.specs.Screens.{screen}
 use Rattle.scm_rows.specs.Heights.{message_height}
@@ -40,10 +39,10 @@ use Rattle.scm_document.specs.DocumentRows.{rows_layers, rows_of_key}
 use Rattle.scm_overlay.specs.Overlays.{overlays, quit_layers, help_layers}
 use Rattle.scm_overlay.specs.Menus.{menu_layer, open_menu}
 use Rattle.scm_overlay.specs.Tables.{menus_with, quit_dialog, help_dialog}
-use Rattle.scm_widgets.specs.OverlayRects.{is_from, overlay_owner}
-use Rattle.scm_document.specs.PieceOwners.{files_owner, rows_owner, sections_owner}
-use Rattle.scm_document.specs.Pieces.{files_pieces, piece_places}
-use Rattle.scm_document.specs.ViewPieces.{file_height, files_height, file_piece_list, sections_in_files}
+use Rattle.scm_widgets.specs.OverlayRects.{overlay_owner}
+use Rattle.scm_document.specs.PieceOwners.{found_owner}
+use Rattle.scm_document.specs.Pieces.{files_pieces, piece_places, pieces_among}
+use Rattle.scm_document.specs.ViewPieces.{files_height}
 use Rattle.scm_document.specs.HeaderRects.{message_rects, pinned_rects}
 use Rattle.scm_overlay.specs.OverlayRects.{menu_bar_rects, quit_dialog_rects, help_dialog_rects, dialog_run, open_menu_height}
 use Rattle.scm_render.specs.Centring.{centred_gap, centred_size}
@@ -63,7 +62,7 @@ use Rattle.scm_view.proofs.DocumentOwnerLemmas.{message-cell}
 use Rattle.scm_overlay.proofs.OverlayLemmas.{owned-append}
 use Rattle.scm_view.proofs.LimitLemmas.{few-rows}
 use Rattle.scm_view.proofs.SessionLemmas.{session-ids}
-use Rattle.scm_document.proofs.ViewPieceLemmas.{file-strips-length, owner_of, upper, lower, files-owned, file-height}
+use Rattle.scm_document.proofs.ViewPieceLemmas.{file-strips-length, owner_of, upper, lower, files-above, files-owned, file-height}
 use Rattle.scm_document.proofs.PieceLemmas.{files-places}
 use Rattle.scm_widgets.proofs.OverlayRectLemmas.{on_row, spots-append, within-among}
 use Rattle.scm_document.proofs.OverlayRectLemmas.{pinned-spots}
@@ -84,13 +83,6 @@ message-owner : (w commit y x : ℕ) (message : Option (List ℕ)) → overlay_o
 unfolding owner_of
 message-owner w commit y x None = no-message-strips w commit y x
 message-owner w commit y x (Some t) = message-button y x commit ∙ message-cell w commit t (pos 1) (pos y) x
-
--- no file stands above the first
-pub files-above : (w m top y x : ℕ) (o : Option ComponentId) (vs : List FileView) → y < top → files_owner w (file_piece_list m top vs) o y x ≡ None
-files-above w m top y x o [] h = refl
-files-above w m top y x o (v ∷ vs) h =
-    let out : is_from top (top + file_height v) y ≡ false = grind (arith, nat_tests, h) in
-    rw out (files-above w m (top + file_height v) y x o vs (omega (arith, h)))
 
 past-message : (w commit y x : ℕ) (message : Option (List ℕ)) → 1 + message_height message ≤ y → owner_of (message_strips w commit message) 1 y x ≡ None
 unfolding owner_of
@@ -113,7 +105,7 @@ no-files-owner w h y x commit (Some t) =
 
 some-files-owner : (w m y x commit : ℕ) (message : Option (List ℕ)) (vs : List FileView) → AreFilesOf commit 0 (map shown_file vs)
     → owner_of (message_strips w commit message ++ files_strips w m (1 + message_height message) (map shown_file vs)) 1 y x
-    ≡ first_of_two (overlay_owner (message_rects commit (is_some message)) y x) (rows_owner w (file_piece_list m (1 + message_height message) vs) (sections_in_files (1 + message_height message) vs) y x)
+    ≡ first_of_two (overlay_owner (message_rects commit (is_some message)) y x) (found_owner w (pieces_among y (files_pieces m (1 + message_height message) vs)) y x)
 some-files-owner w m y x commit message vs e = go (nat_lt y (1 + message_height message)) refl
   where
     top : ℕ
@@ -121,25 +113,25 @@ some-files-owner w m y x commit message vs e = go (nat_lt y (1 + message_height 
 
     go : (t : Bool) → nat_lt y (1 + message_height message) ≡ t
         → owner_of (message_strips w commit message ++ files_strips w m (1 + message_height message) (map shown_file vs)) 1 y x
-        ≡ first_of_two (overlay_owner (message_rects commit (is_some message)) y x) (rows_owner w (file_piece_list m (1 + message_height message) vs) (sections_in_files (1 + message_height message) vs) y x)
+        ≡ first_of_two (overlay_owner (message_rects commit (is_some message)) y x) (found_owner w (pieces_among y (files_pieces m (1 + message_height message) vs)) y x)
     go true q =
         let less : y < 1 + message_height message = grind (arith, nat_tests) in
         let n = length-message w commit message in
-        let none = files-above w m (1 + message_height message) y x (sections_owner w (sections_in_files (1 + message_height message) vs) y x) vs less in
+        let none = files-above m (1 + message_height message) y vs less in
         upper (message_strips w commit message) (files_strips w m (1 + message_height message) (map shown_file vs)) 1 y x (omega (arith, less, n))
         ∙ sym (message-owner w commit y x message) ∙ sym (two_none (overlay_owner (message_rects commit (is_some message)) y x))
-        ∙ ap (first_of_two (overlay_owner (message_rects commit (is_some message)) y x)) (sym none)
+        ∙ ap (λ (o : Option RowPieces). first_of_two (overlay_owner (message_rects commit (is_some message)) y x) (found_owner w o y x)) (sym none)
     go false q =
         let more : 1 + message_height message ≤ y = grind (arith, nat_tests) in
         let n = length-message w commit message in
         let none = message-owner w commit y x message ∙ past-message w commit y x message more in
         lower (message_strips w commit message) (files_strips w m (1 + message_height message) (map shown_file vs)) 1 (1 + message_height message) y x (omega (arith, n)) more
         ∙ files-owned w x y m commit 0 (1 + message_height message) vs e more
-        ∙ ap (λ o. first_of_two o (rows_owner w (file_piece_list m (1 + message_height message) vs) (sections_in_files (1 + message_height message) vs) y x)) (sym none)
+        ∙ ap (λ o. first_of_two o (found_owner w (pieces_among y (files_pieces m (1 + message_height message) vs)) y x)) (sym none)
 
 one-layer : (w h m y x commit : ℕ) (message : Option (List ℕ)) (f : FileView) (fs : List FileView) → AreFilesOf commit 0 (map shown_file (f ∷ fs))
     → owned_by (document_layers w h m 1 (record { commit = commit; message = message; files = map shown_file (f ∷ fs) })) y x
-    ≡ first_of_two (overlay_owner (message_rects commit (is_some message)) y x) (rows_owner w (file_piece_list m (1 + message_height message) (f ∷ fs)) (sections_in_files (1 + message_height message) (f ∷ fs)) y x)
+    ≡ first_of_two (overlay_owner (message_rects commit (is_some message)) y x) (found_owner w (pieces_among y (files_pieces m (1 + message_height message) (f ∷ fs))) y x)
 unfolding owned_by owner_of
 one-layer w h m y x commit message f fs e =
     let n = length-message w commit message in
@@ -150,7 +142,7 @@ one-layer w h m y x commit message f fs e =
 document-owner : (w h s y x : ℕ) (v : CommitView) → HasItsIds (document_of v)
     → let d = document_of v in
     owned_by (rows_layers w h s d) y x
-    ≡ first_of_two (overlay_owner (message_rects d.commit (is_some d.message)) y x) (rows_owner w (file_piece_list (s + 1) (1 + message_height d.message) v.file_views) (sections_in_files (1 + message_height d.message) v.file_views) y x)
+    ≡ first_of_two (overlay_owner (message_rects d.commit (is_some d.message)) y x) (found_owner w (pieces_among y (files_pieces (s + 1) (1 + message_height d.message) v.file_views)) y x)
 document-owner w h s y x v e = go v.file_views e
   where
     commit : ℕ
@@ -159,13 +151,13 @@ document-owner w h s y x v e = go v.file_views e
     go : (vs : List FileView) → AreFilesOf v.commit_message_view.commit_idx 0 (map shown_file vs)
         → owned_by (rows_layers w h s (record { commit = v.commit_message_view.commit_idx; message = v.commit_message_view.commit.now.message; files = map shown_file vs })) y x
         ≡ first_of_two (overlay_owner (message_rects v.commit_message_view.commit_idx (is_some v.commit_message_view.commit.now.message)) y x)
-        (rows_owner w (file_piece_list (s + 1) (1 + message_height v.commit_message_view.commit.now.message) vs) (sections_in_files (1 + message_height v.commit_message_view.commit.now.message) vs) y x)
+        (found_owner w (pieces_among y (files_pieces (s + 1) (1 + message_height v.commit_message_view.commit.now.message) vs)) y x)
     go [] q = no-files-owner w (h - 1) y x v.commit_message_view.commit_idx v.commit_message_view.commit.now.message
     go (f ∷ fs) q = one-layer w (h - 1) (s + 1) y x v.commit_message_view.commit_idx v.commit_message_view.commit.now.message f fs q
 
 -- the pinned header
 pinned-owner : (w m y x : ℕ) (v : CommitView) → x < w → 3 ≤ w → HasItsIds (document_of v)
-    → (strip_at y (pinned_layer w m 1 (document_of v))).owner x ≡ overlay_owner (pinned_rects w m (file_piece_list m (1 + message_height (document_of v).message) v.file_views)) y x
+    → (strip_at y (pinned_layer w m 1 (document_of v))).owner x ≡ overlay_owner (pinned_rects w m (pieces_among m (files_pieces m (1 + message_height (document_of v).message) v.file_views))) y x
 pinned-owner w m y x v within wide e =
     let d = document_of v in
     ap (λ k. (line clear (pinned_strips w m (1 + k) (map shown_file v.file_views)) (pos m) (pos y)).owner x) (length-message w d.commit d.message)
@@ -181,16 +173,16 @@ four o p m r = two_assoc (first_of_two o p) m r ∙ two_assoc o p (first_of_two 
 -- the whole of it, over one another
 all-owner : (w h s y x : ℕ) (menu : Option ℕ) (quit : Option QuitDialog) (help : Bool) (v : CommitView) → HasItsIds (document_of v) → 10 ≤ w → 2 ≤ h → x < w
     → let d = document_of v in
-    first_of_two (overlay_owner (message_rects d.commit (is_some d.message) ++ (pinned_rects w (s + 1) (file_piece_list (s + 1) (1 + message_height d.message) v.file_views)
+    first_of_two (overlay_owner (message_rects d.commit (is_some d.message) ++ (pinned_rects w (s + 1) (pieces_among (s + 1) (files_pieces (s + 1) (1 + message_height d.message) v.file_views))
     ++ (menu_bar_rects (screen w h s) (menus_with menu) ++ (quit_dialog_rects (screen w h s) quit ++ help_dialog_rects (screen w h s) help)))) y x)
-    (rows_owner w (file_piece_list (s + 1) (1 + message_height d.message) v.file_views) (sections_in_files (1 + message_height d.message) v.file_views) y x)
+    (found_owner w (pieces_among y (files_pieces (s + 1) (1 + message_height d.message) v.file_views)) y x)
     ≡ owned_by (body_layers w h s d ++ overlays w h s menu quit help) y x
 all-owner w h s y x menu quit help v e wide high within =
     let d = document_of v in
     let ms = message_rects d.commit (is_some d.message) in
-    let ps = pinned_rects w (s + 1) (file_piece_list (s + 1) (1 + message_height d.message) v.file_views) in
+    let ps = pinned_rects w (s + 1) (pieces_among (s + 1) (files_pieces (s + 1) (1 + message_height d.message) v.file_views)) in
     let os = menu_bar_rects (screen w h s) (menus_with menu) ++ (quit_dialog_rects (screen w h s) quit ++ help_dialog_rects (screen w h s) help) in
-    let r = rows_owner w (file_piece_list (s + 1) (1 + message_height d.message) v.file_views) (sections_in_files (1 + message_height d.message) v.file_views) y x in
+    let r = found_owner w (pieces_among y (files_pieces (s + 1) (1 + message_height d.message) v.file_views)) y x in
     ap (λ o. first_of_two o r) (spots-append ms (ps ++ os) y x ∙ ap (λ o. first_of_two o (overlay_owner ms y x)) (spots-append ps os y x))
     ∙ four (overlay_owner os y x) (overlay_owner ps y x) (overlay_owner ms y x) r
     ∙ ap₂ first_of_two (overlays-owner w h s y x menu quit help within (omega (arith, wide)) high)
@@ -200,9 +192,9 @@ all-owner w h s y x menu quit help v e wide high within =
 
 pub index-owner : (w h s y x : ℕ) (shown : ViewState) (v : CommitView) → Shows v shown 0 → 10 ≤ w → 2 ≤ h → x < w
     → let d = document_of v in
-    first_of_two (overlay_owner (message_rects d.commit (is_some d.message) ++ (pinned_rects w (s + 1) (file_piece_list (s + 1) (1 + message_height d.message) v.file_views)
+    first_of_two (overlay_owner (message_rects d.commit (is_some d.message) ++ (pinned_rects w (s + 1) (pieces_among (s + 1) (files_pieces (s + 1) (1 + message_height d.message) v.file_views))
     ++ (menu_bar_rects (screen w h s) (menus_with shown.open_menu) ++ (quit_dialog_rects (screen w h s) shown.quit_dialog ++ help_dialog_rects (screen w h s) shown.is_help_open)))) y x)
-    (rows_owner w (file_piece_list (s + 1) (1 + message_height d.message) v.file_views) (sections_in_files (1 + message_height d.message) v.file_views) y x)
+    (found_owner w (pieces_among y (files_pieces (s + 1) (1 + message_height d.message) v.file_views)) y x)
     ≡ owner w h s shown y x
 unfolding owner
 index-owner w h s y x shown v shows wide high within =
@@ -349,39 +341,29 @@ if-same : (t : Bool) (a b : Option ComponentId) → (t ≡ true → a ≡ b) →
 if-same true a b h = h refl
 if-same false a b h = refl
 
-pub answers-owner : (w h s y x : ℕ) (a : AppView) (shown : ViewState) (v : CommitView) (m0 m1 m2 m3 m4 : List OverlayRect) (fs : List FilePiece) (ss : List SectionPiece) → IsPlain a shown w h → Shows v shown 0
-    → m0 ≡ message_rects (document_of v).commit (is_some (document_of v).message) → m1 ≡ m0 ++ pinned_rects w (s + 1) fs → m2 ≡ m1 ++ menu_bar_rects (screen w h s) a.menu_bar
-    → m3 ≡ m2 ++ quit_dialog_rects (screen w h s) a.quit_dialog → m4 ≡ m3 ++ help_dialog_rects (screen w h s) (has_help a.help_dialog)
-    → fs ≡ file_piece_list (s + 1) (1 + message_height (document_of v).message) v.file_views → ss ≡ sections_in_files (1 + message_height (document_of v).message) v.file_views
-    → (if nat_lt x w then first_of_two (overlay_owner m4 y x) (rows_owner w fs ss y x) else None) ≡ (if nat_lt x w then owner w h s shown y x else None)
-answers-owner w h s y x a shown v m0 m1 m2 m3 m4 fs ss plain shows e0 e1 e2 e3 e4 ef es =
-    let bar : menu_bar_rects (screen w h s) a.menu_bar ≡ menu_bar_rects (screen w h s) (menus_with shown.open_menu) = ap (menu_bar_rects (screen w h s)) plain.shows.menu_bar in
-    let quit : quit_dialog_rects (screen w h s) a.quit_dialog ≡ quit_dialog_rects (screen w h s) shown.quit_dialog = ap (quit_dialog_rects (screen w h s)) plain.shows.quit_dialog in
-    let help : help_dialog_rects (screen w h s) (has_help a.help_dialog) ≡ help_dialog_rects (screen w h s) shown.is_help_open = ap (help_dialog_rects (screen w h s)) plain.shows.help_dialog in
+pub answers-owner : (w h s y x : ℕ) (shown : ViewState) (v : CommitView) (m0 m1 m2 m3 m4 : List OverlayRect) (over on : Option RowPieces) → 10 ≤ w → 2 ≤ h → Shows v shown 0
+    → m0 ≡ message_rects (document_of v).commit (is_some (document_of v).message) → m1 ≡ m0 ++ pinned_rects w (s + 1) over → m2 ≡ m1 ++ menu_bar_rects (screen w h s) (menus_with shown.open_menu)
+    → m3 ≡ m2 ++ quit_dialog_rects (screen w h s) shown.quit_dialog → m4 ≡ m3 ++ help_dialog_rects (screen w h s) shown.is_help_open
+    → over ≡ pieces_among (s + 1) (files_pieces (s + 1) (1 + message_height (document_of v).message) v.file_views)
+    → on ≡ pieces_among y (files_pieces (s + 1) (1 + message_height (document_of v).message) v.file_views)
+    → (if nat_lt x w then first_of_two (overlay_owner m4 y x) (found_owner w on y x) else None) ≡ (if nat_lt x w then owner w h s shown y x else None)
+answers-owner w h s y x shown v m0 m1 m2 m3 m4 over on wide high shows e0 e1 e2 e3 e4 eo en =
     let d = document_of v in
-    let ps = pinned_rects w (s + 1) (file_piece_list (s + 1) (1 + message_height d.message) v.file_views) in
-    let all : m4 ≡ message_rects d.commit (is_some d.message) ++ (ps ++ (menu_bar_rects (screen w h s) (menus_with shown.open_menu) ++ (quit_dialog_rects (screen w h s) shown.quit_dialog ++ help_dialog_rects (screen w h s) shown.is_help_open))) =
-    spots-all (message_rects d.commit (is_some d.message)) ps (menu_bar_rects (screen w h s) (menus_with shown.open_menu)) (quit_dialog_rects (screen w h s) shown.quit_dialog) (help_dialog_rects (screen w h s) shown.is_help_open) m1 m2 m3 m4
-    (e1 ∙ ap₂ (λ i j. i ++ j) e0 (ap (pinned_rects w (s + 1)) ef)) (e2 ∙ ap (λ k. m1 ++ k) bar) (e3 ∙ ap (λ k. m2 ++ k) quit) (e4 ∙ ap (λ k. m3 ++ k) help) in
+    let ps = pinned_rects w (s + 1) (pieces_among (s + 1) (files_pieces (s + 1) (1 + message_height d.message) v.file_views)) in
+    let all = spots-all (message_rects d.commit (is_some d.message)) ps (menu_bar_rects (screen w h s) (menus_with shown.open_menu)) (quit_dialog_rects (screen w h s) shown.quit_dialog) (help_dialog_rects (screen w h s) shown.is_help_open) m1 m2 m3 m4
+    (e1 ∙ ap₂ (λ i j. i ++ j) e0 (ap (pinned_rects w (s + 1)) eo)) e2 e3 e4 in
     if-same (nat_lt x w) _ _ (λ q.
     let within : x < w = grind (arith, nat_tests) in
-    ap₂ first_of_two (ap (λ k. overlay_owner k y x) all) (ap₂ (λ f g. rows_owner w f g y x) ef es)
-    ∙ index-owner w h s y x shown v shows plain.wide plain.high within)
+    ap₂ first_of_two (ap (λ k. overlay_owner k y x) all) (ap (λ (o : Option RowPieces). found_owner w o y x) en)
+    ∙ index-owner w h s y x shown v shows wide high within)
 
-pub answers-extent : (w h s : ℕ) (a : AppView) (shown : ViewState) (v : CommitView) (run : ℕ × ℕ) (below n e : ℕ) (none : Bool) (quit help : Option (ℕ × ℕ)) → IsPlain a shown w h → Shows v shown 0
+pub answers-extent : (w h s : ℕ) (shown : ViewState) (v : CommitView) (run : ℕ × ℕ) (below n e : ℕ) (none : Bool) (quit help : Option (ℕ × ℕ)) → 2 ≤ h → Shows v shown 0
     → run ≡ joined_with (joined_with (joined (s, below) (document_run (h - 1) n none e)) quit) help
-    → below ≡ s + (1 + open_menu_height (open_menu a.menu_bar)) → n ≡ message_height (document_of v).message → none ≡ (length v.file_views == 0)
+    → below ≡ s + (1 + open_menu_height (open_menu (menus_with shown.open_menu))) → n ≡ message_height (document_of v).message → none ≡ (length v.file_views == 0)
     → e ≡ 1 + message_height (document_of v).message + files_height v.file_views
-    → quit ≡ option_map (λ q. dialog_run (screen w h s) (quit_dialog q)) a.quit_dialog → help ≡ (if has_help a.help_dialog then Some (dialog_run (screen w h s) help_dialog) else None)
+    → quit ≡ option_map (λ q. dialog_run (screen w h s) (quit_dialog q)) shown.quit_dialog → help ≡ (if shown.is_help_open then Some (dialog_run (screen w h s) help_dialog) else None)
     → run.1 - run.0 ≡ extent w h s shown
-answers-extent w h s a shown v run below n e none quit help plain shows er eb en ez ee eq eh =
-    let bar = eb ∙ ap (λ (b : MenuBar). s + (1 + open_menu_height (open_menu b))) plain.shows.menu_bar in
-    let q = eq ∙ ap (option_map (λ q. dialog_run (screen w h s) (quit_dialog q))) plain.shows.quit_dialog in
-    let k = eh ∙ ap (λ t. if t then Some (dialog_run (screen w h s) help_dialog) else None) plain.shows.help_dialog in
-    let d = document_of v in
-    let doc : document_run (h - 1) n none e ≡ document_run (h - 1) (message_height d.message) (length v.file_views == 0) (1 + message_height d.message + files_height v.file_views) = rw (en, ez, ee) refl in
-    let b = menus_with shown.open_menu in
-    let all : run ≡ joined_with (joined_with (joined (s, s + (1 + open_menu_height (open_menu b))) (document_run (h - 1) (message_height d.message) (length v.file_views == 0) (1 + message_height d.message + files_height v.file_views)))
-    (option_map (λ q. dialog_run (screen w h s) (quit_dialog q)) shown.quit_dialog)) (if shown.is_help_open then Some (dialog_run (screen w h s) help_dialog) else None) =
-    er ∙ ap₂ joined_with (ap₂ joined_with (ap₂ joined (ap (λ z. (s, z)) bar) doc) q) k in
-    ap (λ (r : ℕ × ℕ). r.1 - r.0) all ∙ index-extent w h s shown v shows plain.high
+answers-extent w h s shown v run below n e none quit help high shows er eb en ez ee eq eh =
+    ap (λ (r : ℕ × ℕ). r.1 - r.0)
+    (er ∙ ap₂ joined_with (ap₂ joined_with (ap₂ joined (ap (λ z. (s, z)) eb) (ap (λ k. document_run (h - 1) k none e) en ∙ ap₂ (document_run (h - 1) (message_height (document_of v).message)) ez ee)) eq) eh)
+    ∙ index-extent w h s shown v shows high

@@ -41,7 +41,7 @@ use Rattle.scm_widgets.specs.Texts.{icon_text, bracketed, box_text}
 use Rattle.scm_document.specs.Texts.{path_text, section_text, mode_change_text, binary_text, number_text, sign_text, dots_text, message_text}
 use Rattle.scm_rows.specs.Context.{first_below, has_dots, lines_above}
 use Rattle.scm_rows.specs.Heights.{is_section_visible}
-use Rattle.scm_document.specs.Rows.{Document, Heading, DocRow, DotsRow, BlankRow, ShownSection, line_texts, line_box, section_box, rows_below, shown_lines, context_rows, changed_rows, numbered_rows, rows_of, section_rows, is_open, is_first_open, shown_section, shown_sections, sections_rows, shown_file, lent_text, file_rows, document_of, line_number, section_heading, place_of}
+use Rattle.scm_document.specs.Rows.{Document, Heading, DocRow, DotsRow, BlankRow, ShownSection, line_texts, line_box, section_box, rows_below, shown_lines, context_rows, rows_of_lines, changed_rows, numbered_rows, rows_of, section_rows, is_open, is_first_open, shown_section, shown_sections, sections_rows, shown_file, lent_text, file_rows, document_of, line_number, section_heading, place_of}
 use Rattle.scm_widgets.specs.Boxes.{IdBox, is_fold_open}
 use Rattle.scm_document.specs.FilesRows.{files_rows}
 use Rattle.scm_document.specs.Pictures.{commit_picture}
@@ -218,7 +218,7 @@ narrow-append [] qs p q = q
 narrow-append (r ∷ rs) qs p q = (p.0, narrow-append rs qs p.1 q)
 
 numbered-narrow : (v : SectionView) (i : ℕ) (ls : List (List ℕ)) → list_all is_short_text ls ≡ true → AreNarrow (numbered_rows v i ls)
-unfolding numbered_rows
+unfolding rows_of_lines
 numbered-narrow v i [] h = tt
 numbered-narrow v i (l ∷ ls) h = (
   line-narrow (number_text (line_number v.line_start_num i)) l (length-number (line_number v.line_start_num i)) (and_parts (is_short_text l) (list_all is_short_text ls) h).0,
@@ -226,7 +226,7 @@ numbered-narrow v i (l ∷ ls) h = (
 )
 
 changed-narrow : (v : SectionView) (i : ℕ) (ls : List SectionChangedLine) → list_all (λ (l : SectionChangedLine). is_short_text l.line) ls ≡ true → AreNarrow (changed_rows v i ls)
-unfolding changed_rows
+unfolding rows_of_lines
 changed-narrow v i [] h = tt
 changed-narrow v i (l ∷ ls) h = (
   (box-narrow (line_box v i l.is_checked), line-narrow (sign_text l.change_type) l.line (length-sign l.change_type) (and_parts (is_short_text l.line) (list_all (λ (k : SectionChangedLine). is_short_text k.line) ls) h).0),

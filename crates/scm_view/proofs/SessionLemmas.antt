@@ -1,7 +1,7 @@
 -- The documents that are shown of a session have the ids of their keys.
-use Rattle.std.proofs.Common.{◌≡◌, ℕ, suc, ◌+◌, ◌-◌, ◌<◌, ◌≤◌, ◌==◌, Bool, true, false, List, [], ◌∷◌, ◌++◌, length, length-append, map, take, drop, refl, arith, ◌⊎◌, inl, inr}
+use Rattle.std.proofs.Common.{◌≡◌, ℕ, suc, ◌+◌, ◌-◌, ◌<◌, ◌≤◌, ◌==◌, Bool, true, false, List, [], ◌∷◌, ◌++◌, length, map, take, drop, refl, arith, ◌⊎◌, inl, inr}
 use Rattle.std.specs.Prelude.{min, nat_le, not, ◌&&◌, ◌||◌, if◌then◌else◌}
-use Rattle.std.proofs.lemmas.List.{length-drop, length-take}
+use Rattle.std.proofs.lemmas.List.{length-take}
 use Rattle.std.proofs.lemmas.Bool.Decides.{nat_tests}
 use Rattle.std.proofs.lemmas.Bool.{cond_both}
 use Rattle.scm_types.specs.declared.file.File.{File}
@@ -15,13 +15,15 @@ use Rattle.scm_types.specs.declared.keys.SelectionKey.TheVariants as selection
 use Rattle.scm_widgets.specs.declared.ids.ComponentId.TheVariants as ids
 use Rattle.scm_document.specs.declared.section_view.SectionView.{SectionView}
 use Rattle.scm_document.specs.Texts.{dots_text}
-use Rattle.scm_rows.specs.Context.{first_below, has_dots, is_first, is_last, lines_above, are_all_shown}
+use Rattle.scm_rows.specs.declared.section_place.SectionPlace.{SectionPlace}
+use Rattle.scm_rows.specs.Context.{are_all_shown, context_height, dots_height, first_below, has_dots, is_first, is_last, lines_above, lines_height}
 use Rattle.scm_rows.specs.Heights.{is_section_visible}
-use Rattle.scm_document.specs.Rows.{DocRow, HeaderRow, MarkRow, ContextRow, DotsRow, BlankRow, ShownSection, is_open, is_first_open, shown_lines, rows_below, context_rows, changed_rows, numbered_rows, rows_of, section_rows, shown_section, shown_sections, shown_file, document_of, place_of}
+use Rattle.scm_document.specs.Rows.{DocRow, HeaderRow, MarkRow, ContextRow, DotsRow, BlankRow, ShownSection, is_open, is_first_open, shown_lines, rows_below, context_rows, rows_of_lines, changed_rows, numbered_rows, rows_of, section_rows, shown_section, shown_sections, shown_file, document_of, place_of}
 use Rattle.scm_widgets.specs.Boxes.{is_fold_open}
 use Rattle.scm_types.specs.Keys.{section_key_of}
 use Rattle.scm_rows.specs.Lines.{old_lines}
 use Rattle.scm_rows.proofs.HeightLemmas.{above-le}
+use Rattle.scm_document.proofs.SectionsLemmas.{height-of}
 use Rattle.scm_view.specs.ViewState.{ViewState, Totals, totals_of, section_view_of, section_views_of, file_view_of, file_views_of, commit_view_of}
 use Rattle.scm_document.specs.Owners.{IsRowOf, after_row, AreRowsOf, AreSectionsOf}
 use Rattle.scm_document.proofs.FilesOf.{HaveRows, IsFileOf, AreFilesOf, HasItsIds}
@@ -54,19 +56,19 @@ sections-earlier f n m (p ∷ ps) less e = (omega (arith, less, e.0), e.1, e.2, 
 
 -- lines of context, and rows after them
 numbered-are : (v : SectionView) (n i : ℕ) (ls : List (List ℕ)) (rest : List DocRow) → n ≤ suc i → AreRowsOf v.section_key (suc (i + length ls)) rest → AreRowsOf v.section_key n (numbered_rows v i ls ++ rest)
-unfolding numbered_rows
+unfolding rows_of_lines
 numbered-are v n i [] rest h e = rows-earlier v.section_key n (suc (i + 0)) rest (omega (arith, h)) e
 numbered-are v n i (l ∷ ls) rest h e =
     let next : suc (i + suc (length ls)) ≡ suc (suc i + length ls) = omega arith in
     ((h, refl), numbered-are v (suc (suc i)) (suc i) ls rest (omega arith) (rw next at e))
 
 numbered-alone : (v : SectionView) (n i : ℕ) (ls : List (List ℕ)) → n ≤ suc i → AreRowsOf v.section_key n (numbered_rows v i ls)
-unfolding numbered_rows
+unfolding rows_of_lines
 numbered-alone v n i [] h = tt
 numbered-alone v n i (l ∷ ls) h = ((h, refl), numbered-alone v (suc (suc i)) (suc i) ls (omega arith))
 
 changed-are : (v : SectionView) (n i : ℕ) (ls : List SectionChangedLine) → n ≤ suc i → AreRowsOf v.section_key n (changed_rows v i ls)
-unfolding changed_rows
+unfolding rows_of_lines
 changed-are v n i [] h = tt
 changed-are v n i (l ∷ ls) h = ((h, refl, refl), changed-are v (suc (suc i)) (suc i) ls (omega arith))
 
@@ -116,50 +118,24 @@ rows-are v _ h = ((refl, refl), tt)
 
 -- ---- a section has a row, but for one of context that is both the first and the last
 
-some-lines : (v : SectionView) (i : ℕ) (ls : List (List ℕ)) → 0 < length ls → 0 < length (numbered_rows v i ls)
-unfolding numbered_rows
-some-lines v i [] h = absurd (omega (arith, h))
-some-lines v i (l ∷ ls) h = omega arith
+lines-tall : (first last few : Bool) (dots n : ℕ) → 0 < n → (first ≡ true → last ≡ false)
+    → 0 < (if not first && (not last && few) then n else if first then 0 else min n 3) + (dots + (n - (if not first && (not last && few) then n else if last then n else n - 3)))
+lines-tall true true few dots n some h = absurd (cc (h refl))
+lines-tall false false true dots n some h = omega (arith, some)
+lines-tall _ _ _ dots n some h = omega (arith, some)
 
--- which of the lines are shown: some above the dots, or some below them
-lines-shown : (first last few : Bool) (n : ℕ) → nat_le n 6 ≡ few → 0 < n → (first ≡ true → last ≡ false)
-    → (0 < (if not first && (not last && few) then n else if first then 0 else min n 3)) ⊎ ((if not first && (not last && few) then n else if last then n else n - 3) < n)
-lines-shown true true few n e some h = absurd (cc (h refl))
-lines-shown true false few n e some h = inr (omega (arith, some))
-lines-shown false false true n e some h = inl some
-lines-shown _ _ _ n e some h = inl (omega (arith, some))
-
-context-some : (v : SectionView) (ls : List (List ℕ)) → (is_first (place_of v) ≡ true → is_last (place_of v) ≡ false) → 0 < length (context_rows v ls)
-unfolding context_rows
-context-some v ls h = go (length ls == 0) refl
+context-tall : (p : SectionPlace) (n : ℕ) → (is_first p ≡ true → is_last p ≡ false) → 0 < context_height p n
+context-tall p n h = go (n == 0) refl
   where
-    n : ℕ
-    n = length ls
-
-    above : ℕ
-    above = lines_above (place_of v) n
-
-    below : ℕ
-    below = first_below (place_of v) n
-
-    dots : List DocRow
-    dots = if has_dots (place_of v) n then DotsRow (dots_text v.use_unicode) ∷ [] else []
-
-    shown : (0 < above) ⊎ (below < n) → 0 < length (shown_lines v ls)
-    shown (inl p) =
-        let all = above-le (are_all_shown (place_of v) n) (is_first (place_of v)) n in
-        omega (arith, some-lines v 0 (take above ls) (omega (arith, length-take above ls, all, p)), length-append (numbered_rows v 0 (take above ls)) (rows_below v ls))
-    shown (inr p) =
-        let last = some-lines v below (drop below ls) (omega (arith, length-drop below ls, p)) in
-        omega (arith, last, length-append (numbered_rows v 0 (take above ls)) (rows_below v ls), length-append dots (numbered_rows v below (drop below ls)))
-
-    go : (b : Bool) → (length ls == 0) ≡ b → 0 < length (if b then BlankRow ∷ [] else shown_lines v ls)
+    go : (b : Bool) → (n == 0) ≡ b → 0 < (if b then 1 else lines_height p n)
     go true e = omega arith
-    go false e = shown (lines-shown (is_first (place_of v)) (is_last (place_of v)) (nat_le n 6) n refl (grind (arith, e)) h)
+    go false e = lines-tall (is_first p) (is_last p) (nat_le n 6) (dots_height p n) n (grind (arith, e)) h
 
 rows-some : (v : SectionView) (section : Section) → (is_editable_section section ≡ true) ⊎ (is_first (place_of v) ≡ true → is_last (place_of v) ≡ false) → 0 < length (rows_of v section)
 rows-some v (Unchanged ls) (inl e) = absurd (cc e)
-rows-some v (Unchanged ls) (inr h) = context-some v ls h
+rows-some v (Unchanged ls) (inr h) =
+    let size : length (rows_of v (Unchanged ls)) ≡ context_height (place_of v) (length ls) = height-of v (Unchanged ls) in
+    omega (arith, size, context-tall (place_of v) (length ls) h)
 rows-some v _ h = omega arith
 
 -- ---- the sections of a file

@@ -9,15 +9,15 @@ use Rattle.scm_view.specs.declared.frame_index.FrameIndex.{FrameIndex}
 use Rattle.scm_view.specs.ViewState.{ViewState}
 use Rattle.scm_view.specs.Window.{owner, span, extent}
 use Rattle.scm_document.specs.DocumentRows.{rows_of_key}
-use Rattle.scm_document.specs.Pieces.{files_of, sections_of, piece_places}
+use Rattle.scm_document.specs.Pieces.{piece_places, pieces_among}
 use Rattle.scm_widgets.specs.OverlayRects.{overlay_owner}
-use Rattle.scm_document.specs.PieceOwners.{rows_owner}
+use Rattle.scm_document.specs.PieceOwners.{found_owner}
 
 -- the owner of row y and column x by index i, if any
 abbrev pub owner_in : FrameIndex → ℕ → ℕ → Option ComponentId
 owner_in i y x =
     if nat_lt x i.width
-    then first_of_two (overlay_owner i.rects.items y x) (rows_owner i.width (files_of i.pieces.items) (sections_of i.pieces.items) y x)
+    then first_of_two (overlay_owner i.rects.items y x) (found_owner i.width (pieces_among y i.pieces.items) y x)
     else None
 
 -- i is the index of what a screen of w columns and h rows shows, if its first row is row s of the document

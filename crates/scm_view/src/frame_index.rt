@@ -8,7 +8,7 @@ ghost use Rattle.scm_view.specs.Index.{IsIndexOf, owner_in};
 use crate::app_view::AppView;
 use crate::frame_measures::{document_run, joined, joined_with, push_help, push_quit, screen};
 use scm_document::commit_view::push_pieces;
-use scm_document::index_pieces::{Piece, push_pinned, rows_owner};
+use scm_document::index_pieces::{Piece, pieces_among, push_pinned};
 use scm_document::key_rows::find_in;
 use scm_types::{RecordError, SelectionKey};
 use scm_widgets::ids::ComponentId;
@@ -59,7 +59,8 @@ impl FrameIndex {
         let mut pieces = Vec::new(alloc);
         let end = push_pieces(&mut pieces, scroll + 1, 1 + message, views)?;
         commit.commit_message_view.push_rects(&mut rects)?;
-        push_pinned(&mut rects, columns, scroll + 1, &pieces)?;
+        let pinned = pieces_among(&pieces, scroll + 1);
+        push_pinned(&mut rects, columns, scroll + 1, pinned)?;
         let bar = view.menu_bar.push_rects(alloc, &mut rects, screen)?;
         let quit = push_quit(alloc, &mut rects, screen, view.quit_dialog)?;
         let is_help_open = view.help_dialog.is_some();
@@ -116,7 +117,7 @@ impl FrameIndex {
         let overlay = overlay_owner(&self.rects, row, column);
         match overlay {
             Some(_) => overlay,
-            None => rows_owner(width, &self.pieces, row, column),
+            None => pieces_among(&self.pieces, row)?.owner(width, row, column),
         }
     }
 }

@@ -332,7 +332,7 @@ module _ (s : ViewState) (k : FileKey) (f : File) where
 
 -- ---- the files
 
-top-message : (cs : List Commit) → files_top cs ≡ 1 + message_height (commit_at 0 cs).message
+pub top-message : (cs : List Commit) → files_top cs ≡ 1 + message_height (commit_at 0 cs).message
 unfolding commit_at
 top-message [] = refl
 top-message (c ∷ cs) = refl

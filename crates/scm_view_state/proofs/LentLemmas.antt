@@ -1,8 +1,7 @@
 -- A document depends on what its view borrows, and not on the addresses.
-use Rattle.std.proofs.Common.{◌≡◌, ℕ, suc, Bool, true, false, List, [], ◌∷◌, refl, ap}
+use Rattle.std.proofs.Common.{◌≡◌, ℕ, Bool, true, false, List, [], ◌∷◌, refl}
 use Rattle.std.specs.Prelude.{map, Option, Some, None}
 use Rattle.std.specs.Borrow.{Bor}
-use Rattle.scm_types.specs.declared.line.SectionChangedLine.{SectionChangedLine}
 use Rattle.scm_types.specs.declared.section.Section.{Section}
 use Rattle.scm_types.specs.declared.section.Section.TheVariants.{Unchanged, Changed}
 use Rattle.scm_document.specs.declared.section_view.SectionView.{SectionView}
@@ -10,7 +9,7 @@ use Rattle.scm_document.specs.declared.file_view.FileView.{FileView}
 use Rattle.scm_document.specs.declared.commit_view.CommitView.{CommitView}
 use Rattle.scm_view.specs.ViewState.{borrow_of}
 use Rattle.scm_rows.specs.Heights.{is_section_visible}
-use Rattle.scm_document.specs.Rows.{changed_row, changed_rows, numbered_row, numbered_rows, context_rows, rows_of, section_rows, is_first_open, is_open, shown_section, shown_sections, lent_text, shown_file, document_of}
+use Rattle.scm_document.specs.Rows.{context_rows, rows_of, section_rows, is_first_open, is_open, shown_section, shown_sections, lent_text, shown_file, document_of}
 use Rattle.scm_view_state.specs.Views.{lent_section, lent_sections, lent_path, lent_file, lent_files}
 
 -- the view of a commit without the addresses of what it borrows
@@ -20,23 +19,10 @@ lent_commit v = record {
   file_views = lent_files v.file_views;
 }
 
-changed_rows-lent : (v : SectionView) (i : ℕ) (lines : List SectionChangedLine) → changed_rows (lent_section v) i lines ≡ changed_rows v i lines
-unfolding changed_rows
-changed_rows-lent v i [] = refl
-changed_rows-lent v i (l ∷ ls) = ap (λ rows. changed_row v i l ∷ rows) (changed_rows-lent v (suc i) ls)
-
-numbered_rows-lent : (v : SectionView) (i : ℕ) (lines : List (List ℕ)) → numbered_rows (lent_section v) i lines ≡ numbered_rows v i lines
-unfolding numbered_rows
-numbered_rows-lent v i [] = refl
-numbered_rows-lent v i (l ∷ ls) = ap (λ rows. numbered_row v i l ∷ rows) (numbered_rows-lent v (suc i) ls)
-
-context_rows-lent : (v : SectionView) (lines : List (List ℕ)) → context_rows (lent_section v) lines ≡ context_rows v lines
-unfolding context_rows
-context_rows-lent v lines = simp (numbered_rows-lent v)
-
 rows_of-lent : (v : SectionView) (s : Section) → rows_of (lent_section v) s ≡ rows_of v s
-rows_of-lent v (Unchanged lines) = context_rows-lent v lines
-rows_of-lent v (Changed lines) = rw (changed_rows-lent v 0 lines) refl
+unfolding context_rows
+rows_of-lent v (Unchanged lines) = refl
+rows_of-lent v (Changed lines) = refl
 rows_of-lent v _ = refl
 
 section_rows-lent : (v : SectionView) → section_rows (lent_section v) ≡ section_rows v

@@ -7,6 +7,7 @@ use Rattle.std.specs.declared.cmp.Ordering.{Ordering}
 use Rattle.std.specs.declared.cmp.Ordering.TheVariants.{Less, Equal, Greater}
 use Rattle.std.specs.Ordering.{match_ordering}
 use Rattle.std.proofs.lemmas.Bool.Decides.{nat_tests}
+use Rattle.std.proofs.lemmas.Option.{slice_get_within}
 use Rattle.std.proofs.lemmas.List.Folds.{list_any-append}
 use Rattle.scm_types.specs.declared.keys.SelectionKey.{SelectionKey}
 use Rattle.scm_types.specs.declared.keys.SelectionKey.TheVariants as keys
@@ -45,60 +46,21 @@ before-line keys.None (keys.Line m) e f = refl
 before-line (keys.File n) (keys.Line m) e f = refl
 before-line (keys.Section n) (keys.Line m) e f = refl
 before-line (keys.Line n) l e f = absurd (cc e)
-before-line keys.None keys.None e f = absurd (cc f)
-before-line keys.None (keys.File m) e f = absurd (cc f)
-before-line keys.None (keys.Section m) e f = absurd (cc f)
-before-line (keys.File n) keys.None e f = absurd (cc f)
-before-line (keys.File n) (keys.File m) e f = absurd (cc f)
-before-line (keys.File n) (keys.Section m) e f = absurd (cc f)
-before-line (keys.Section n) keys.None e f = absurd (cc f)
-before-line (keys.Section n) (keys.File m) e f = absurd (cc f)
-before-line (keys.Section n) (keys.Section m) e f = absurd (cc f)
+before-line _ _ e f = absurd (cc f)
 
 after-other : (k l : SelectionKey) → is_line k ≡ false → is_line l ≡ true → key_cmp l k ≡ Greater
 after-other keys.None (keys.Line m) e f = refl
 after-other (keys.File n) (keys.Line m) e f = refl
 after-other (keys.Section n) (keys.Line m) e f = refl
 after-other (keys.Line n) l e f = absurd (cc e)
-after-other keys.None keys.None e f = absurd (cc f)
-after-other keys.None (keys.File m) e f = absurd (cc f)
-after-other keys.None (keys.Section m) e f = absurd (cc f)
-after-other (keys.File n) keys.None e f = absurd (cc f)
-after-other (keys.File n) (keys.File m) e f = absurd (cc f)
-after-other (keys.File n) (keys.Section m) e f = absurd (cc f)
-after-other (keys.Section n) keys.None e f = absurd (cc f)
-after-other (keys.Section n) (keys.File m) e f = absurd (cc f)
-after-other (keys.Section n) (keys.Section m) e f = absurd (cc f)
+after-other _ _ e f = absurd (cc f)
 
 other-key : (k l : SelectionKey) → is_line k ≡ false → is_line l ≡ true → is_key k l ≡ false
 other-key keys.None (keys.Line m) e f = refl
 other-key (keys.File n) (keys.Line m) e f = refl
 other-key (keys.Section n) (keys.Line m) e f = refl
 other-key (keys.Line n) l e f = absurd (cc e)
-other-key keys.None keys.None e f = absurd (cc f)
-other-key keys.None (keys.File m) e f = absurd (cc f)
-other-key keys.None (keys.Section m) e f = absurd (cc f)
-other-key (keys.File n) keys.None e f = absurd (cc f)
-other-key (keys.File n) (keys.File m) e f = absurd (cc f)
-other-key (keys.File n) (keys.Section m) e f = absurd (cc f)
-other-key (keys.Section n) keys.None e f = absurd (cc f)
-other-key (keys.Section n) (keys.File m) e f = absurd (cc f)
-other-key (keys.Section n) (keys.Section m) e f = absurd (cc f)
-
-other-line : (k l : SelectionKey) → is_line k ≡ false → is_line l ≡ true → is_key l k ≡ false
-other-line keys.None (keys.Line m) e f = refl
-other-line (keys.File n) (keys.Line m) e f = refl
-other-line (keys.Section n) (keys.Line m) e f = refl
-other-line (keys.Line n) l e f = absurd (cc e)
-other-line keys.None keys.None e f = absurd (cc f)
-other-line keys.None (keys.File m) e f = absurd (cc f)
-other-line keys.None (keys.Section m) e f = absurd (cc f)
-other-line (keys.File n) keys.None e f = absurd (cc f)
-other-line (keys.File n) (keys.File m) e f = absurd (cc f)
-other-line (keys.File n) (keys.Section m) e f = absurd (cc f)
-other-line (keys.Section n) keys.None e f = absurd (cc f)
-other-line (keys.Section n) (keys.File m) e f = absurd (cc f)
-other-line (keys.Section n) (keys.Section m) e f = absurd (cc f)
+other-key _ _ e f = absurd (cc f)
 
 -- ---- a set of other keys, and lines behind it
 
@@ -189,19 +151,6 @@ set-from (k ∷ ks) ys0 ls h g = go (is_line k) refl (λ bs ms i j. set-from ks 
 
 pub set-behind : (ks : List SelectionKey) → key_set ks ≡ key_set (filter (λ k. not (is_line k)) ks) ++ key_set (filter is_line ks)
 set-behind ks = set-from ks [] [] tt tt
-
--- the parts of the set
-filter-others : (ks ys0 : List SelectionKey) → HaveNoLine ys0 → HaveNoLine (fold with_key ys0 (filter (λ k. not (is_line k)) ks))
-filter-others [] ys0 h = h
-filter-others (k ∷ ks) ys0 h = go (is_line k) refl (λ bs i. filter-others ks bs i)
-  where
-    go : (b : Bool) → is_line k ≡ b → ((bs : List SelectionKey) → HaveNoLine bs → HaveNoLine (fold with_key bs (filter (λ x. not (is_line x)) ks)))
-        → HaveNoLine (fold with_key ys0 (if not b then k ∷ filter (λ x. not (is_line x)) ks else filter (λ x. not (is_line x)) ks))
-    go true e more = more ys0 h
-    go false e more = more (with_key ys0 k) (none-line k ys0 e h)
-
-pub others-have-none : (ks : List SelectionKey) → HaveNoLine (key_set (filter (λ k. not (is_line k)) ks))
-others-have-none ks = filter-others ks [] tt
 
 filter-lines : (ks ls : List SelectionKey) → AreLines ls → AreLines (fold with_key ls (filter is_line ks))
 filter-lines [] ls h = h
@@ -403,15 +352,7 @@ key-is-one k fs =
     filter-all (x ∷ xs) = ap (λ (l : List SelectionKey). x ∷ l) (filter-all xs)
 
 slice-in : {X : Type 0} (xs : List X) (i : ℕ) (x : X) → slice_get xs i ≡ Some x → nat_lt i (length xs) ≡ true
-slice-in [] i x e = absurd (cc e)
-slice-in (y ∷ ys) zero x e = first (length ys)
-  where
-    first : (n : ℕ) → nat_lt zero (suc n) ≡ true
-    first n = grind (arith, nat_tests)
-slice-in (y ∷ ys) (suc i) x e = later i (length ys) (slice-in ys i x e)
-  where
-    later : (m n : ℕ) → nat_lt m n ≡ true → nat_lt (suc m) (suc n) ≡ true
-    later m n h = grind (arith, nat_tests)
+slice-in xs i x e = let h = slice_get_within xs i x e in grind (arith, nat_tests)
 
 file-there : (fs : List File) (i : ℕ) (f : File) → slice_get fs i ≡ Some f → is_key_of fs (file_key i) ≡ true
 file-there fs i f at = slice-in fs i f at

@@ -1,6 +1,7 @@
 -- The menus: the label of each item and its event. Menus and items count from 0.
 use Rattle.std.specs.Prelude.{ℕ, ◌==◌, List, [], ◌∷◌, map, true, false, Option, codes, option_map, slice_get, if◌then◌else◌}
 use Rattle.std.specs.Borrow.{Bor}
+use Rattle.scm_overlay.specs.declared.menu.MenuItem.{MenuItem}
 use Rattle.scm_overlay.specs.declared.menu.Menu.{Menu}
 use Rattle.scm_overlay.specs.Tables.{item}
 use Rattle.scm_input.specs.declared.events.Event.{Event}
@@ -72,9 +73,13 @@ items_of_menu menu =
 abbrev pub items_in : List (Bor (List ℕ) × Event) → List Item
 items_in rows = map (λ (r : Bor (List ℕ) × Event). row r.0.now r.1) rows
 
+-- the items as a menu has them: labels alone
+abbrev pub menu_items : List Item → List MenuItem
+menu_items items = map (λ (t : Item). item t.label) items
+
 -- the menu with a label and items
 abbrev pub menu_of : List ℕ → List Item → Menu
-menu_of label items = record { label = label; items = map (λ (t : Item). item t.label) items }
+menu_of label items = record { label = label; items = menu_items items }
 
 -- the event of item `item` of menu `menu`, if there is one
 abbrev pub event_of_item : ℕ → ℕ → Option Event

@@ -63,8 +63,8 @@ impl<'state> ViewState<'state> {
         Ok(Items::from(views))
     }
 
-    /// Returns the view of the whole screen. The state must be within the limits, see
-    /// [`RecordState::is_accepted`](scm_types::RecordState::is_accepted).
+    /// Returns the view of the whole screen, in which only the open menu has items. The state must
+    /// be within the limits, see [`RecordState::is_accepted`](scm_types::RecordState::is_accepted).
     ///
     /// # Errors
     /// `OutOfMemory`: an allocation failed.

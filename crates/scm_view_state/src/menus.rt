@@ -1,7 +1,7 @@
 //! The menus, and the event of each item. Menus and items count from 0.
 ghost use Rattle.std.specs.Prelude.{◌≡◌, ◌++◌, ◌∷◌, [], IfOk, OnOk};
-ghost use Rattle.scm_overlay.specs.Tables.{menus_with};
-ghost use Rattle.scm_view_state.specs.Menus.{event_of_item, items_in, items_of_menu, menu_of};
+ghost use Rattle.scm_overlay.specs.Tables.{menu_in_bar, menus_with};
+ghost use Rattle.scm_view_state.specs.Menus.{event_of_item, items_in, items_of_menu, menu_items, menu_of};
 
 use scm_input::Event;
 use scm_types::{Items, Text};
@@ -86,9 +86,9 @@ pub fn event_of_item(menu: usize, item: usize) -> Option<Event>
     }
 }
 
-/// Returns menu `menu` with the label `label`.
-fn menu_of(alloc: Global, menu: usize, label: &'static str) -> Result<Menu<'static>, AllocError>
-    ensures { IfOk result (λ m. m ≡ menu_of label.now (items_of_menu menu)) }
+/// Returns the items of menu `menu`.
+fn items_of(alloc: Global, menu: usize) -> Result<Items<MenuItem<'static>>, AllocError>
+    ensures { IfOk result (λ items. items ≡ menu_items (items_of_menu menu)) }
 {
     let rows = rows_of_menu(menu);
     let mut items = Vec::with_capacity(alloc, rows.len())?;
@@ -97,9 +97,28 @@ fn menu_of(alloc: Global, menu: usize, label: &'static str) -> Result<Menu<'stat
             label: Text::from(*item_label),
         })?;
     }
+    Ok(Items::from(items))
+}
+
+/// Returns menu `menu` with the label `label`. It has items only if it is `open_menu`: those of a
+/// closed menu are neither drawn nor hit by a click.
+fn menu_of(
+    alloc: Global,
+    open_menu: Option<usize>,
+    menu: usize,
+    label: &'static str,
+) -> Result<Menu<'static>, AllocError>
+    ensures { IfOk result
+        (λ m. m ≡ menu_in_bar open_menu menu (menu_of label.now (items_of_menu menu))) }
+{
+    let items = if open_menu == Some(menu) {
+        items_of(alloc, menu)?
+    } else {
+        Items::new(alloc)
+    };
     Ok(Menu {
         label: Text::from(label),
-        items: Items::from(items),
+        items,
     })
 }
 
@@ -107,17 +126,18 @@ fn menu_of(alloc: Global, menu: usize, label: &'static str) -> Result<Menu<'stat
 fn push_menu(
     alloc: Global,
     menus: &mut Vec<Menu<'static>>,
+    open_menu: Option<usize>,
     menu: usize,
     label: &'static str,
 ) -> Result<(), AllocError>
-    ensures { OnOk result
-        (menus.new.items ≡ menus.old.items ++ (menu_of label.now (items_of_menu menu) ∷ [])) }
+    ensures { OnOk result (menus.new.items ≡ menus.old.items
+        ++ (menu_in_bar open_menu menu (menu_of label.now (items_of_menu menu)) ∷ [])) }
 {
-    menus.push(menu_of(alloc, menu, label)?)?;
+    menus.push(menu_of(alloc, open_menu, menu, label)?)?;
     Ok(())
 }
 
-/// Returns the menu bar, in which menu `open_menu` is open, if any.
+/// Returns the menu bar, in which menu `open_menu` is open, if any. Only the open menu has items.
 pub(crate) fn menu_bar(
     alloc: Global,
     open_menu: Option<usize>,
@@ -125,10 +145,10 @@ pub(crate) fn menu_bar(
     ensures { IfOk result (λ bar. bar ≡ menus_with open_menu) }
 {
     let mut menus: Vec<Menu<'static>> = Vec::with_capacity(alloc, 4)?;
-    push_menu(alloc, &mut menus, 0, "File")?;
-    push_menu(alloc, &mut menus, 1, "Edit")?;
-    push_menu(alloc, &mut menus, 2, "Select")?;
-    push_menu(alloc, &mut menus, 3, "View")?;
+    push_menu(alloc, &mut menus, open_menu, 0, "File")?;
+    push_menu(alloc, &mut menus, open_menu, 1, "Edit")?;
+    push_menu(alloc, &mut menus, open_menu, 2, "Select")?;
+    push_menu(alloc, &mut menus, open_menu, 3, "View")?;
     Ok(MenuBar {
         menus: Items::from(menus),
         expanded_menu_idx: open_menu,

@@ -30,7 +30,7 @@ use Rattle.scm_overlay.specs.Dialogs.{widest_line}
 use Rattle.scm_widgets.specs.Layers.{shown_by, owned_by, laid_over}
 use Rattle.scm_overlay.specs.Menus.{headers_strip, items_strips, open_menu_with_column, widest_item}
 use Rattle.scm_document.specs.Places.{rows_places, sections_places, files_places}
-use Rattle.scm_document.specs.Rows.{shown_file, shown_sections, section_rows, context_rows, changed_rows, numbered_rows, file_rows, sections_rows}
+use Rattle.scm_document.specs.Rows.{shown_file, shown_sections, section_rows, context_rows, rows_of_lines, file_rows, sections_rows}
 use Rattle.scm_view.specs.ViewState.{ViewState, commit_at, file_views_of, section_views_of, are_all_expanded}
 use Rattle.scm_document.specs.Strips.{row_strip, message_strips, files_strips, file_strips, sections_strips, section_strips, pinned_strips}
 use Rattle.scm_overlay.specs.Tables.{help_lines}
@@ -40,7 +40,7 @@ use Rattle.scm_document.specs.DocumentRows.{rows_of_key}
 -- ---- what computing opens: the rows of a document with where they stand, the widths of texts, owners, and what rows show
 
 unfoldable pub documents : Unit {0}
-unfolding digits commit_at file_views_of section_views_of are_all_expanded shown_file shown_sections section_rows context_rows changed_rows numbered_rows file_rows sections_rows message_strips files_strips file_strips sections_strips section_strips pinned_strips items_strips open_menu_with_column widest_item extent span rows_of_key files_places sections_places rows_places
+unfolding digits commit_at file_views_of section_views_of are_all_expanded shown_file shown_sections section_rows context_rows rows_of_lines file_rows sections_rows message_strips files_strips file_strips sections_strips section_strips pinned_strips items_strips open_menu_with_column widest_item extent span rows_of_key files_places sections_places rows_places
 documents = tt
 
 -- how much is drawn of them

@@ -24,7 +24,7 @@ use Rattle.scm_widgets.specs.declared.ids.ComponentId.TheVariants as ids
 use Rattle.scm_document.specs.declared.commit_view.CommitViewMode.TheVariants as mode
 use Rattle.scm_widgets.specs.Blanks.{blank_row}
 use Rattle.scm_widgets.specs.Layers.{Strip}
-use Rattle.scm_document.specs.Rows.{Document, document_of, shown_file, shown_sections, section_rows, context_rows, changed_rows, numbered_rows, file_rows, sections_rows}
+use Rattle.scm_document.specs.Rows.{Document, document_of, shown_file, shown_sections, section_rows, context_rows, rows_of_lines, file_rows, sections_rows}
 use Rattle.scm_document.specs.FilesRows.{files_rows}
 use Rattle.scm_render.specs.Rows.{put_texts, say_texts}
 use Rattle.scm_document.specs.Strips.{row_strip, files_layer, message_strips, files_strips, file_strips, sections_strips, section_strips}
@@ -66,7 +66,7 @@ two_changes = record {
 
 two_changes_rows : view_of (rows_of 24 (strips_of 24 0 (document_of (commit_view_of two_changes 0))))
     ≡ quoted (codes "[◐] f                [-]") ++ (quoted (codes "        1 a⏎            ") ++ (quoted (codes "  (◐) Section 1/1    (-)") ++ (quoted (codes "    [ ] - b⏎            ") ++ quoted (codes "    [●] + c⏎            "))))
-unfolding digits commit_at file_views_of section_views_of are_all_expanded shown_file shown_sections section_rows context_rows changed_rows numbered_rows file_rows files_rows sections_rows message_strips files_strips file_strips sections_strips section_strips row_strip put_texts say_texts line_pieces pieces_from replacement texts_width text_width clusters visible_clusters with_width visible_width has_control put overlay written with_columns whole_before whole_after cells_of later_cells row_text encode unicode_segmentation unicode_width
+unfolding digits commit_at file_views_of section_views_of are_all_expanded shown_file shown_sections section_rows context_rows rows_of_lines file_rows files_rows sections_rows message_strips files_strips file_strips sections_strips section_strips row_strip put_texts say_texts line_pieces pieces_from replacement texts_width text_width clusters visible_clusters with_width visible_width has_control put overlay written with_columns whole_before whole_after cells_of later_cells row_text encode unicode_segmentation unicode_width
 two_changes_rows = refl
 
 -- ---- two changed lines with seven lines of context between them: the first section is selected
@@ -87,7 +87,7 @@ three_sections = record two_changes {
 three_sections_rows : view_of (rows_of 24 (strips_of 24 0 (document_of (commit_view_of three_sections 0))))
     ≡ quoted (codes "[ ] f                [-]") ++ (quoted (codes "  ( ) Section 1/2    (-)") ++ (quoted (codes "    [ ] + x⏎            ") ++ (quoted (codes "        1 a⏎            ") ++ (quoted (codes "        2 b⏎            ") ++ (quoted (codes "        3 c⏎            ")
     ++ (quoted (codes "        ⋮               ") ++ (quoted (codes "        5 e⏎            ") ++ (quoted (codes "        6 f⏎            ") ++ (quoted (codes "        7 g⏎            ") ++ (quoted (codes "  [ ] Section 2/2    [-]") ++ quoted (codes "    [ ] - y⏎            ")))))))))))
-unfolding digits commit_at file_views_of section_views_of are_all_expanded shown_file shown_sections section_rows context_rows changed_rows numbered_rows file_rows files_rows sections_rows message_strips files_strips file_strips sections_strips section_strips row_strip put_texts say_texts line_pieces pieces_from replacement texts_width text_width clusters visible_clusters with_width visible_width has_control put overlay written with_columns whole_before whole_after cells_of later_cells row_text encode unicode_segmentation unicode_width
+unfolding digits commit_at file_views_of section_views_of are_all_expanded shown_file shown_sections section_rows context_rows rows_of_lines file_rows files_rows sections_rows message_strips files_strips file_strips sections_strips section_strips row_strip put_texts say_texts line_pieces pieces_from replacement texts_width text_width clusters visible_clusters with_width visible_width has_control put overlay written with_columns whole_before whole_after cells_of later_cells row_text encode unicode_segmentation unicode_width
 three_sections_rows = refl
 
 -- ---- who owns each of twelve columns
@@ -120,7 +120,7 @@ mixed_owners : owners_of (strips_of 12 0 (document_of (commit_view_of mixed 0)))
     ∷ ((item 2 file_key ++ (toggle (key 0) ++ (item 4 (key 0) ++ fold (key 0))))
     ∷ (item 12 (line 1 0)
     ∷ ((item 2 (key 2) ++ (toggle (key 2) ++ item 7 (key 2))) ∷ [])))
-unfolding digits commit_at file_views_of section_views_of are_all_expanded shown_file shown_sections section_rows context_rows changed_rows numbered_rows file_rows files_rows sections_rows message_strips files_strips file_strips sections_strips section_strips row_strip
+unfolding digits commit_at file_views_of section_views_of are_all_expanded shown_file shown_sections section_rows context_rows rows_of_lines file_rows files_rows sections_rows message_strips files_strips file_strips sections_strips section_strips row_strip
 mixed_owners = refl
 
 -- where the header is pinned, on row 1 of five rows from row 0 on, the file owns its own first row
@@ -129,5 +129,5 @@ pinned_owners : owners_of (strips_of 12 1 (document_of (commit_view_of mixed 0))
     ∷ ((item 2 file_key ++ (toggle (key 0) ++ (item 4 (key 0) ++ fold (key 0))))
     ∷ (item 12 (line 1 0)
     ∷ ((item 2 (key 2) ++ (toggle (key 2) ++ item 7 (key 2))) ∷ [])))
-unfolding digits commit_at file_views_of section_views_of are_all_expanded shown_file shown_sections section_rows context_rows changed_rows numbered_rows file_rows files_rows sections_rows message_strips files_strips file_strips sections_strips section_strips row_strip
+unfolding digits commit_at file_views_of section_views_of are_all_expanded shown_file shown_sections section_rows context_rows rows_of_lines file_rows files_rows sections_rows message_strips files_strips file_strips sections_strips section_strips row_strip
 pinned_owners = refl

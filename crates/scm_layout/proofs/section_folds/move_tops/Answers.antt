@@ -1,4 +1,4 @@
-use Rattle.std.proofs.Common.{◌≡◌, ◌∙◌, ◌+◌, ◌-◌, ◌*◌, ◌<◌, ◌≤◌, ◌++◌, ◌∷◌, take, drop, get_or, set, length, map, append-nil, ap, sym, subst, arith}
+use Rattle.std.proofs.Common.{◌≡◌, ◌∙◌, ◌+◌, ◌*◌, ◌<◌, ◌≤◌, ◌++◌, ◌∷◌, take, drop, get_or, set, length, map, append-nil, ap, sym, subst, arith}
 use Rattle.std.proofs.lemmas.List.{drop-set-lt, drop_all, take_all}
 use Rattle.scm_layout.proofs.RowLemmas.{rows_room, written}
 use Rattle.scm_types.specs.Limits.{max_items}

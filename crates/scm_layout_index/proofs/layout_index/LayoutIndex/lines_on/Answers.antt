@@ -8,9 +8,15 @@ use Rattle.scm_layout_index.specs.LineRows.{end_of_pieces}
 use Rattle.scm_layout_index.specs.OwnerRuns.{IsRun}
 use Rattle.scm_layout_index.specs.RowPieces.{RowsFit}
 use Rattle.scm_layout_index.specs.ShownLines.{line_in}
-use Rattle.scm_layout_index.proofs.LineRowLemmas.{end-most, few-lines, line-down}
+use Rattle.scm_layout_index.proofs.LineRowLemmas.{end-most, end-past, few-lines, line-down}
 use Rattle.scm_layout_index.proofs.ShownLineLemmas.{shown-line}
 use Rattle.scm_layout_index.proofs.layout_index.LayoutIndex.lines_on.Goals as goal
+
+pub overlaid_end-end-requires-clause-row : goal.overlaid_end-end-requires-clause-row
+overlaid_end-end-requires-clause-row c =
+    let end = c.end_of_pieces-last.ensures in
+    let past = end-past c.args.self.now c.args.owners.now c.in_ok-first.first c.requires (sym c.line_on.ensures.line ∙ c.in_ok-first.was) in
+    omega arith
 
 pub overlaid_end-end-requires-clause-end : goal.overlaid_end-end-requires-clause-end
 overlaid_end-end-requires-clause-end c =

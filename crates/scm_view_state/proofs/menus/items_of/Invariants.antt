@@ -3,7 +3,7 @@ use Rattle.std.specs.Prelude.{ℕ, map}
 use Rattle.std.specs.Borrow.{Bor}
 use Rattle.scm_overlay.specs.Tables.{item}
 use Rattle.scm_input.specs.declared.events.Event.{Event}
-use Rattle.scm_view_state.proofs.menus.menu_of.Given as goal
+use Rattle.scm_view_state.proofs.menus.items_of.Given as goal
 
 -- the items of the rows so far
 abbrev pub invariant-loop-item_label : goal.invariant-loop-item_label
