@@ -16,6 +16,8 @@ pub mod FrameRowLemmas
 pub mod AnswerLemmas
 -- what lies over a row
 pub mod RowOwnerLemmas
+-- the last row over which something lies
+pub mod OverlayLemmas
 -- the owners of a row that shows a changed line
 pub mod ShownLineLemmas
 -- where a run of columns ends

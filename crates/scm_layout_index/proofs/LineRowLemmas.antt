@@ -210,7 +210,7 @@ record ShowsLine (i : LayoutIndex) (y : ℕ) (k : LineKey) : Type 0 where
   section : SectionPiece
   found : pieces_on i.selection i.pinned y i.rows.files ≡ Some pieces
   own : pieces.section ≡ Some section
-  bare : have_row i.rects.items y ≡ false
+  bare : have_row i.rects y ≡ false
   shape : section.shape ≡ Changed
   below : section.top < y
   above : y < section.end
@@ -219,7 +219,7 @@ record ShowsLine (i : LayoutIndex) (y : ℕ) (k : LineKey) : Type 0 where
   line : k ≡ line_key_of section.key (y - section.top - 1)
 
 module _ (i : LayoutIndex) (y : ℕ) (k : LineKey) where
-  of-changed : (p : RowPieces) (s : SectionPiece) → pieces_on i.selection i.pinned y i.rows.files ≡ Some p → p.section ≡ Some s → have_row i.rects.items y ≡ false → s.shape ≡ Changed → ((y - s.top) == 0) ≡ false
+  of-changed : (p : RowPieces) (s : SectionPiece) → pieces_on i.selection i.pinned y i.rows.files ≡ Some p → p.section ≡ Some s → have_row i.rects y ≡ false → s.shape ≡ Changed → ((y - s.top) == 0) ≡ false
       → Some (line_key_of s.key (y - s.top - 1)) ≡ Some k → ShowsLine i y k
   of-changed p s f own bare shape first q =
       let o = pieces-of i.selection i.pinned i.rows.files y p f in
@@ -253,7 +253,7 @@ module _ (i : LayoutIndex) (y : ℕ) (k : LineKey) where
   of-context key false true m n = refl
   of-context key false false m n = refl
 
-  of-shape : (p : RowPieces) (s : SectionPiece) → pieces_on i.selection i.pinned y i.rows.files ≡ Some p → p.section ≡ Some s → have_row i.rects.items y ≡ false
+  of-shape : (p : RowPieces) (s : SectionPiece) → pieces_on i.selection i.pinned y i.rows.files ≡ Some p → p.section ≡ Some s → have_row i.rects y ≡ false
       → (shape : SectionShape) → s.shape ≡ shape → line_of_kind s.key (row_kind s.place shape (y - s.top)) ≡ Some k → ShowsLine i y k
   of-shape p s f own bare (shapes.Context n) h q =
       let j = y - s.top in
@@ -267,24 +267,24 @@ module _ (i : LayoutIndex) (y : ℕ) (k : LineKey) where
       first true e q' = absurd (cc q')
       first false e q' = of-changed p s f own bare h e q'
 
-  of-section : (p : RowPieces) → pieces_on i.selection i.pinned y i.rows.files ≡ Some p → have_row i.rects.items y ≡ false → (o : Option SectionPiece) → p.section ≡ o
+  of-section : (p : RowPieces) → pieces_on i.selection i.pinned y i.rows.files ≡ Some p → have_row i.rects y ≡ false → (o : Option SectionPiece) → p.section ≡ o
       → option_and_then (λ (s : SectionPiece). line_of_kind s.key (kind_on s (y - s.top))) o ≡ Some k → ShowsLine i y k
   of-section p f bare None own q = absurd (cc q)
   of-section p f bare (Some s) own q = of-shape p s f own bare s.shape refl q
 
-  of-file : (p : RowPieces) → pieces_on i.selection i.pinned y i.rows.files ≡ Some p → have_row i.rects.items y ≡ false → (b : Bool)
+  of-file : (p : RowPieces) → pieces_on i.selection i.pinned y i.rows.files ≡ Some p → have_row i.rects y ≡ false → (b : Bool)
       → (if b then None else option_and_then (λ (s : SectionPiece). line_of_kind s.key (kind_on s (y - s.top))) p.section) ≡ Some k → ShowsLine i y k
   of-file p f bare true q = absurd (cc q)
   of-file p f bare false q = of-section p f bare p.section refl q
 
-  of-pieces : (o : Option RowPieces) → pieces_on i.selection i.pinned y i.rows.files ≡ o → have_row i.rects.items y ≡ false → option_and_then (line_among y) o ≡ Some k → ShowsLine i y k
+  of-pieces : (o : Option RowPieces) → pieces_on i.selection i.pinned y i.rows.files ≡ o → have_row i.rects y ≡ false → option_and_then (line_among y) o ≡ Some k → ShowsLine i y k
   of-pieces None f bare q = absurd (cc q)
   of-pieces (Some p) f bare q = of-file p f bare (y == p.file.top) q
 
   shows-line : line_in i y ≡ Some k → ShowsLine i y k
-  shows-line e = bared (have_row i.rects.items y) refl e
+  shows-line e = bared (have_row i.rects y) refl e
     where
-      bared : (b : Bool) → have_row i.rects.items y ≡ b → (if b then None else option_and_then (line_among y) (pieces_on i.selection i.pinned y i.rows.files)) ≡ Some k → ShowsLine i y k
+      bared : (b : Bool) → have_row i.rects y ≡ b → (if b then None else option_and_then (line_among y) (pieces_on i.selection i.pinned y i.rows.files)) ≡ Some k → ShowsLine i y k
       bared true h q = absurd (cc q)
       bared false h q = of-pieces (pieces_on i.selection i.pinned y i.rows.files) refl h q
 
@@ -322,14 +322,14 @@ few-lines i r k e are shows most past =
 
 -- the rows below it show the lines that follow, as far as the same lies over them
 pub line-down : (i : LayoutIndex) (r : RowOwners) (k : LineKey) (e : ℕ) → AreRowOwners i r → RowsFit i.rows.files → line_in i r.row ≡ Some k
-    → IsRun (have_row i.rects.items) (end_of_pieces r.found) r.row e → (n : ℕ) → r.row + n < e → line_in i (r.row + n) ≡ Some (line_below k n)
+    → IsRun (have_row i.rects) (end_of_pieces r.found) r.row e → (n : ℕ) → r.row + n < e → line_in i (r.row + n) ≡ Some (line_below k n)
 line-down i r k e are fit shows run n within =
     let l = shows-line i r.row k shows in
     let y = r.row + n in
     let end = end-is i r k are l in
     let most = run.most in
     let s = l.section in
-    let bare : have_row i.rects.items y ≡ false = run.same y (omega arith) within ∙ l.bare in
+    let bare : have_row i.rects y ≡ false = run.same y (omega arith) within ∙ l.bare in
     let found : pieces_on i.selection i.pinned y i.rows.files ≡ Some l.pieces =
     same-pieces i.selection i.pinned i.rows.files r.row y l.pieces s fit l.found l.own (omega arith) (omega arith) (omega arith) in
     let own = l.own in

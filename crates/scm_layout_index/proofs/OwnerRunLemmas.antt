@@ -126,7 +126,7 @@ header-row w p y c e is boxes = record {
 }
 
 -- a row that nothing lies over
-pub bare-run : (i : LayoutIndex) (y c e : ℕ) → have_row i.rects.items y ≡ false → IsRun (document_owner i y) i.width c e → IsRun (owner_in i y) i.width c e
+pub bare-run : (i : LayoutIndex) (y c e : ℕ) → have_row i.rects y ≡ false → IsRun (document_owner i y) i.width c e → IsRun (owner_in i y) i.width c e
 bare-run i y c e none run = record {
   past = run.past;
   most = run.most;
@@ -140,4 +140,4 @@ bare-run i y c e none run = record {
     within x h = grind (arith, nat_tests)
 
     own : (x : ℕ) → document_owner i y x ≡ document_owner i y c → nat_lt x i.width ≡ true → nat_lt c i.width ≡ true → owner_in i y x ≡ owner_in i y c
-    own x same left start = rw (left, start, not-over i.rects.items y x none, not-over i.rects.items y c none) same
+    own x same left start = rw (left, start, not-over i.rects y x none, not-over i.rects y c none) same

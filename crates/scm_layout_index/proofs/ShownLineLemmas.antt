@@ -62,8 +62,8 @@ pub shown-line : (w h s : ℕ) (shown : ViewState) (i : LayoutIndex) (y x : ℕ)
     → owner w h s shown y x ≡ Some (line_owner k x)
 shown-line w h s shown i y x k is line within =
     let found = pieces_on i.selection i.pinned y i.rows.files in
-    let bare = bare-line (have_row i.rects.items y) (option_and_then (line_among y) found) k line in
-    let none : overlay_owner i.rects.items y x ≡ None = not-over i.rects.items y x bare.0 in
+    let bare = bare-line (have_row i.rects y) (option_and_then (line_among y) found) k line in
+    let none : overlay_owner i.rects y x ≡ None = not-over i.rects y x bare.0 in
     let pieces : document_owner i y x ≡ Some (line_owner k x) = on-row i.width y x found k bare.1 in
     let wide = is.width in
     let inside_index : nat_lt x i.width ≡ true = grind (arith, nat_tests) in

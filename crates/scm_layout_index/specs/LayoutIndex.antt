@@ -42,12 +42,12 @@ document_owner i y x = found_owner i.width (pieces_on i.selection i.pinned y i.r
 -- the owner of row y and column x by index i, if any
 abbrev pub owner_in : LayoutIndex → ℕ → ℕ → Option ComponentId
 owner_in i y x =
-    if nat_lt x i.width then first_of_two (overlay_owner i.rects.items y x) (document_owner i y x) else None
+    if nat_lt x i.width then first_of_two (overlay_owner i.rects y x) (document_owner i y x) else None
 
 -- `r` knows what its row has in index i: the file and the section, and whether anything lies over the document
 pub record AreRowOwners (i : LayoutIndex) (r : RowOwners) : Type 0 where
   pub found : r.found ≡ pieces_on i.selection i.pinned r.row i.rows.files
-  pub covered : r.is_covered ≡ have_row i.rects.items r.row
+  pub covered : r.is_covered ≡ have_row i.rects r.row
 
 -- i is the index of what a screen of w columns and h rows shows, if its first row is row s of the document
 pub record IsLayoutIndexOf (w h s : ℕ) (shown : ViewState) (i : LayoutIndex) : Type 0 where

@@ -10,5 +10,7 @@ pub mod ShownLines
 pub mod LineRows
 -- runs of columns that have the same owner
 pub mod OwnerRuns
+-- the last row over which something lies
+pub mod Overlays
 -- the index by a layout, and what it answers
 pub mod LayoutIndex

@@ -31,4 +31,4 @@ shown_line r = if r.is_covered then None else option_and_then (line_among r.row)
 
 -- the changed line that row y shows by index i, if nothing lies over it
 abbrev pub line_in : LayoutIndex → ℕ → Option LineKey
-line_in i y = if have_row i.rects.items y then None else option_and_then (line_among y) (pieces_on i.selection i.pinned y i.rows.files)
+line_in i y = if have_row i.rects y then None else option_and_then (line_among y) (pieces_on i.selection i.pinned y i.rows.files)

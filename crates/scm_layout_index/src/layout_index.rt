@@ -10,6 +10,7 @@ ghost use Rattle.scm_view.specs.ViewState.{ViewState, commit_at};
 ghost use Rattle.scm_view.specs.Window.{extent, owner, span};
 ghost use Rattle.scm_layout_index.specs.LayoutIndex.{AreRowsOf, IsInline, IsLayoutIndexOf};
 
+use crate::overlays::Overlays;
 use crate::row_pieces::end_of_files;
 use crate::shared_rows::SharedRows;
 use scm_document::CommitMessageView;
@@ -32,9 +33,8 @@ pub struct LayoutIndex {
     pub(crate) pinned: usize,
     /// The key that was selected when the frame was drawn.
     pub(crate) selection: SelectionKey,
-    /// The rectangles over the rows of files: the message's button, the pinned header, the menu bar
-    /// with its open menu, and the dialogs. Where two overlap, the later one owns the place.
-    pub(crate) rects: Vec<OverlayRect>,
+    /// What lies over the rows of files.
+    pub(crate) rects: Overlays,
     /// The extent: the number of rows that the frame spans.
     extent: usize,
     /// The rows of the files and sections.
@@ -108,7 +108,7 @@ impl LayoutIndex {
             width,
             pinned: scroll + 1,
             selection: view_state.selection,
-            rects,
+            rects: Overlays::new(rects),
             extent: run.1.saturating_sub(run.0),
             rows,
         })

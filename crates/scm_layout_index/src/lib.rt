@@ -10,6 +10,7 @@ mod key_pieces;
 pub mod key_spans;
 pub mod layout_index;
 pub mod line_rows;
+mod overlays;
 pub mod owner_runs;
 pub mod row_owners;
 mod row_pieces;

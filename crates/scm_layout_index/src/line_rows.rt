@@ -1,21 +1,17 @@
 //! The changed lines that rows of a frame show one below the other.
-ghost use Rattle.std.specs.Prelude.{◌≡◌, ℕ, ◌+◌, ◌<◌, ◌^◌, IfSome, Some};
+ghost use Rattle.std.specs.Prelude.{◌≡◌, ℕ, ◌+◌, ◌<◌, ◌^◌, IfSome, Some, option_map};
 ghost use Rattle.scm_layout_index.specs.declared.line_rows.LineRows.{LineRows as Rows};
 ghost use Rattle.scm_document.specs.PieceOwners.{line_owner};
 ghost use Rattle.scm_view.specs.ViewState.{ViewState};
 ghost use Rattle.scm_view.specs.Window.{owner};
-ghost use Rattle.scm_widgets.specs.Layers.{is_within};
-ghost use Rattle.scm_widgets.specs.OverlayRects.{have_row};
 ghost use Rattle.scm_layout_index.specs.LayoutIndex.{AreRowOwners, IsLayoutIndexOf};
-ghost use Rattle.scm_layout_index.specs.OwnerRuns.{IsRun};
+ghost use Rattle.scm_layout_index.specs.ShownLines.{line_in};
 ghost use Rattle.scm_layout_index.specs.LineRows.{end_of_pieces, end_of_section, line_below};
 
 use crate::layout_index::LayoutIndex;
-use crate::owner_runs::stretch_end;
 use crate::row_owners::RowOwners;
 use scm_document::index_pieces::RowPieces;
 use scm_types::LineKey;
-use scm_widgets::overlay_rects::OverlayRect;
 
 /// Rows of a document that show changed lines of a section, one below the other.
 #[derive(Clone, Copy, Debug, PartialEq, Eq)]
@@ -46,36 +42,13 @@ fn end_of_pieces(found: &Option<RowPieces>) -> usize
     }
 }
 
-/// Returns the end of a run from `row` on of the rows before `end`: `placed` lies over all of them, or over
-/// none.
-fn placed_rows_end(placed: OverlayRect, row: usize, end: usize) -> usize
-    requires row { row < end }
-    requires end { end < 2 ^ 63 }
-    ensures { IsRun (is_within placed.rect.y placed.rect.height) end row result }
-{
-    stretch_end(placed.rect.y, placed.rect.height, row, end)
-}
-
-/// Returns the end of a run from `row` on of the rows before `end`: over all of them lies one of `rects`,
-/// or over none.
-fn overlaid_end(rects: &[OverlayRect], row: usize, end: usize) -> usize
-    requires row { row < end }
-    requires end { end < 2 ^ 63 }
-    ensures { IsRun (have_row rects.now) end row result }
-{
-    let mut left = end;
-    for placed in rects {
-        left = placed_rows_end(*placed, row, left);
-    }
-    left
-}
-
 impl LayoutIndex {
     /// Returns the changed line that the row of `owners` shows, if nothing lies over the row, and how many
     /// rows from there on show it and the lines that follow in the section. Columns 4 to 6 of each of these
     /// rows belong to the checkbox of its line, and all others to the line.
     pub fn lines_on(&self, owners: &RowOwners) -> Option<LineRows>
         requires { AreRowOwners self.now owners.now }
+        ensures line { option_map (λ (lines : Rows). lines.first) result ≡ line_in self.now owners.now.row }
         ensures some { IfSome result (λ lines. 0 < lines.rows) }
         ensures low { IfSome result (λ lines. lines.first.line_idx + lines.rows < 2 ^ 63) }
         ensures owner { (w h s : ℕ) (shown : ViewState) → IsLayoutIndexOf w h s shown self.now →
@@ -84,9 +57,9 @@ impl LayoutIndex {
             ≡ Some (line_owner (line_below lines.first n) x) }
     {
         let _rows = self.rows.layout_rows();
-        let first = self.line_on(owners)?;
+        let first = owners.line()?;
         let last = end_of_pieces(&owners.found);
-        let end = overlaid_end(&self.rects, owners.row, last);
+        let end = self.rects.rows_end(owners.row, last);
         Some(LineRows {
             first,
             rows: end - owners.row,

@@ -5,9 +5,8 @@ ghost use Rattle.scm_types.specs.declared.keys.SelectionKey.{SelectionKey};
 ghost use Rattle.scm_view.specs.ViewState.{ViewState};
 ghost use Rattle.scm_view.specs.Window.{owner};
 ghost use Rattle.scm_widgets.specs.Layers.{is_within};
-ghost use Rattle.scm_widgets.specs.OverlayRects.{is_at, overlay_owner};
 ghost use Rattle.scm_layout_index.specs.LayoutIndex.{owner_in, AreRowOwners, IsLayoutIndexOf};
-ghost use Rattle.scm_layout_index.specs.OwnerRuns.{IsRun, end_before};
+ghost use Rattle.scm_layout_index.specs.OwnerRuns.{IsRun, end_before, stretch_stop};
 
 use crate::layout_index::LayoutIndex;
 use crate::row_owners::RowOwners;
@@ -15,7 +14,6 @@ use scm_cells::{Rect, gap};
 use scm_document::index_pieces::SectionPiece;
 use scm_rows::RowKind;
 use scm_widgets::ids::ComponentId;
-use scm_widgets::overlay_rects::{OverlayRect, have_row};
 
 /// A run of columns of a row that have the same owner.
 #[derive(Clone, Copy)]
@@ -91,6 +89,14 @@ fn found_end(width: usize, owners: &RowOwners, column: usize) -> usize
     }
 }
 
+/// Returns where `first..first + size` stops, or the last place that a `usize` counts if that is before it.
+pub(crate) fn stretch_stop(first: isize, size: usize) -> usize
+    ensures { result ≡ stretch_stop first size }
+{
+    let left = size.saturating_sub(gap(first, 0));
+    gap(0, first).saturating_add(left)
+}
+
 /// Returns the end of a run from `place` on of the places before `end`: all in `first..first + size`, or all
 /// beside it.
 pub(crate) fn stretch_end(first: isize, size: usize, place: usize, end: usize) -> usize
@@ -99,11 +105,10 @@ pub(crate) fn stretch_end(first: isize, size: usize, place: usize, end: usize) -
     ensures { IsRun (is_within first size) end place result }
 {
     let start = gap(0, first);
-    let left = size.saturating_sub(gap(first, 0));
     end_before(
         place,
         start,
-        end_before(place, start.saturating_add(left), end),
+        end_before(place, stretch_stop(first, size), end),
     )
 }
 
@@ -117,34 +122,6 @@ pub fn rect_end(rect: Rect, column: usize, end: usize) -> usize
     stretch_end(rect.x, rect.width, column, end)
 }
 
-/// Returns the end of a run from `column` on of the columns before `end` on row `row`: all in `placed`,
-/// or all beside it.
-fn placed_end(placed: OverlayRect, row: usize, column: usize, end: usize) -> usize
-    requires column { column < end }
-    requires end { end < 2 ^ 63 }
-    ensures { IsRun (is_at placed row) end column result }
-{
-    if have_row(&[placed], row) {
-        rect_end(placed.rect, column, end)
-    } else {
-        end
-    }
-}
-
-/// Returns the end of a run from `column` on of the columns before `end` on row `row`, among what lies
-/// over the document.
-fn overlay_end(rects: &[OverlayRect], row: usize, column: usize, end: usize) -> usize
-    requires column { column < end }
-    requires end { end < 2 ^ 63 }
-    ensures { IsRun (overlay_owner rects.now row) end column result }
-{
-    let mut left = end;
-    for placed in rects {
-        left = placed_end(*placed, row, column, left);
-    }
-    left
-}
-
 impl LayoutIndex {
     /// Returns the end of a run from `column` on of the columns of the row of `owners`.
     fn run_end(&self, owners: &RowOwners, column: usize) -> usize
@@ -154,7 +131,7 @@ impl LayoutIndex {
     {
         let end = found_end(usize::from(self.width), owners, column);
         if owners.is_covered {
-            overlay_end(&self.rects, owners.row, column, end)
+            self.rects.columns_end(owners.row, column, end)
         } else {
             end
         }

@@ -1,5 +1,5 @@
 //! The owners of the places of one row, for which what the row has is found once.
-ghost use Rattle.std.specs.Prelude.{◌≡◌, ℕ, nat_lt, if◌then◌else◌, None};
+ghost use Rattle.std.specs.Prelude.{◌≡◌, ℕ, ◌<◌, ◌≤◌, ◌^◌, IsTrue, nat_lt, if◌then◌else◌, None};
 ghost use Rattle.scm_document.specs.PieceOwners.{found_owner};
 ghost use Rattle.scm_view.specs.ViewState.{ViewState};
 ghost use Rattle.scm_view.specs.Window.{owner};
@@ -7,10 +7,10 @@ ghost use Rattle.scm_widgets.specs.OverlayRects.{overlay_owner};
 ghost use Rattle.scm_layout_index.specs.LayoutIndex.{owner_in, AreRowOwners, IsLayoutIndexOf};
 
 use crate::layout_index::LayoutIndex;
+use crate::row_pieces::end_of_files;
 use crate::shown_lines::line_among;
 use scm_document::index_pieces::{RowPieces, line_owner};
 use scm_widgets::ids::ComponentId;
-use scm_widgets::overlay_rects::{have_row, overlay_owner};
 
 /// What a row of a frame has, for the owners of its places.
 #[derive(Clone, Copy)]
@@ -47,17 +47,28 @@ impl LayoutIndex {
         RowOwners {
             row,
             found: self.rows.pieces_on(self.selection, self.pinned, row),
-            is_covered: have_row(&self.rects, row),
+            is_covered: self.rects.have_row(row),
         }
+    }
+
+    /// Returns whether the files, and all that lies over them, end above row `row` of the document. Then no
+    /// place on that row or below it has an owner.
+    pub fn ends_above(&self, row: usize) -> bool
+        ensures { IsTrue result → (w h s : ℕ) (shown : ViewState)
+            → IsLayoutIndexOf w h s shown self.now → (y : ℕ) → row ≤ y → y < 2 ^ 64
+            → (x : ℕ) → x < w → owner w h s shown y x ≡ None }
+    {
+        let files = &self.rows.layout_rows().files;
+        end_of_files(0, files) <= row && self.rects.are_above(row)
     }
 
     /// Returns the owner of the place at `column` among what lies over the document, if any.
     fn overlay_on(&self, owners: &RowOwners, column: usize) -> Option<ComponentId>
         requires { AreRowOwners self.now owners.now }
-        ensures { result ≡ overlay_owner self.now.rects.items owners.now.row column }
+        ensures { result ≡ overlay_owner self.now.rects owners.now.row column }
     {
         if owners.is_covered {
-            overlay_owner(&self.rects, owners.row, column)
+            self.rects.owner(owners.row, column)
         } else {
             None
         }

@@ -164,7 +164,21 @@ line-hit scene index s row x y key is e there within owned =
     sym (index-hit scene index s row x y (Some (line_owner key x)) is e there
     (rw inside (sym (owned scene.width is.height is.scroll is.shown is.is_index within))))
 
+-- on a row below the document it is nothing
+pub bare-hit : (scene : Scene) (index : LayoutIndex) (s row x y : ℕ) → IsIndexFor scene.width scene.frame index → y ≡ s + row → (nat_lt row scene.height && nat_le s max_scroll) ≡ true
+    → ((w h t : ℕ) (shown : ViewState) → IsLayoutIndexOf w h t shown index → x < w → owner w h t shown y x ≡ None)
+    → hit scene s row x ≡ None
+bare-hit scene index s row x y is e there bare = sym (index-hit scene index s row x y None is e there (go (nat_lt x scene.width) refl))
+  where
+    go : (b : Bool) → nat_lt x scene.width ≡ b → ◌≡◌ {A = Option ComponentId} None (if b then owner scene.width is.height is.scroll is.shown y x else None)
+    go true p = let within : x < scene.width = grind (arith, nat_tests) in sym (bare scene.width is.height is.scroll is.shown is.is_index within)
+    go false p = refl
+
 -- ---- the first of some rows
+
+-- the first of the lines below a line is the line
+pub first-below : (k : LineKey) → line_below k 0 ≡ k
+first-below k = let same : k.line_idx + 0 ≡ k.line_idx = omega arith in ap (λ (n : ℕ). record k { line_idx = n }) same
 
 -- lines on the first of their rows begin with the same line
 pub record FirstOf (o : Option LineRows) (most : ℕ) (few : LineRows) : Type 0 where

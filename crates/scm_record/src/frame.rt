@@ -427,36 +427,6 @@ impl DrawnFrame {
         }
     }
 
-    /// Returns the changed line that `row` of the screen shows, if it shows one and nothing lies over
-    /// it, while the screen is scrolled to row `scroll` of the document. `owners` are those of the row,
-    /// if they were found. Returns `None` if the screen has fewer than `columns` columns.
-    pub(crate) fn line_among(
-        &self,
-        owners: &Option<RowOwners>,
-        scroll: usize,
-        row: usize,
-        columns: usize,
-    ) -> Option<LineKey>
-        requires { KnowsRow owners.now self.now.places (scroll + row) }
-        ensures { (scene : Scene) → IsSceneOf scene self.now → (key : LineKey)
-            → result ≡ Some key → (x : ℕ) → x < columns
-            → hit scene scroll row x ≡ Some (line_owner key x) }
-    {
-        if self.grid.width() < columns {
-            return None;
-        }
-        if !self.has_row(scroll, row) {
-            return None;
-        }
-        match &self.places {
-            Places::Plain(index) => match owners {
-                Some(found) => index.line_on(found),
-                None => None,
-            },
-            Places::Free(_) => None,
-        }
-    }
-
     /// Returns the changed line that `row` of the screen shows, if it shows one and nothing lies over it, and
     /// how many rows of the screen from there on show it and the lines that follow, while the screen is
     /// scrolled to row `scroll` of the document. `owners` are those of the row, if they were found. Returns
@@ -487,6 +457,27 @@ impl DrawnFrame {
                 None => None,
             },
             Places::Free(_) => None,
+        }
+    }
+
+    /// Returns how many rows of the screen from `row` on have no component, while the screen is scrolled to row
+    /// `scroll` of the document: all of them if the document ends above `row`, and otherwise none.
+    pub(crate) fn bare_rows(&self, scroll: usize, row: usize) -> usize
+        ensures { (scene : Scene) → IsSceneOf scene self.now → (n : ℕ) → n < result
+            → (x : ℕ) → hit scene scroll (row + n) x ≡ None }
+    {
+        if !self.has_row(scroll, row) {
+            return 0;
+        }
+        match &self.places {
+            Places::Plain(index) => {
+                if index.ends_above(scroll + row) {
+                    self.grid.height() - row
+                } else {
+                    0
+                }
+            }
+            Places::Free(_) => 0,
         }
     }
 

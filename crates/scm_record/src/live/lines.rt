@@ -1,11 +1,12 @@
 //! The lines that the rows of a live session's screen show.
 ghost use Rattle.std.specs.Prelude.{◌≡◌, ℕ, ◌+◌, ◌<◌, ◌^◌, IfSome};
 ghost use Rattle.scm_record.specs.FrameQueries.{hit};
-ghost use Rattle.scm_record.specs.Frames.{IsSceneOf, Scene};
+ghost use Rattle.scm_record.specs.Frames.{IsSceneOf, KnowsRow, Scene};
 ghost use Rattle.scm_record.specs.ShownLines.{line_after, line_of, line_of_key, line_on};
 
 use crate::frame::DrawnFrame;
 use crate::live::LiveSession;
+use scm_layout_index::RowOwners;
 use scm_types::LineKey;
 use scm_view::{ComponentId, SelectionKey};
 
@@ -67,6 +68,35 @@ impl ShownLines {
     }
 }
 
+/// Returns the line on row `row` of the screen alone, of which `owners` were found, or no line for the rows to the
+/// end of the screen if these have no component.
+fn rows_without(
+    frame: &DrawnFrame,
+    owners: &Option<RowOwners>,
+    scroll: usize,
+    row: usize,
+) -> ShownLines
+    requires { KnowsRow owners.now frame.now.places (scroll + row) }
+    ensures some { 0 < result.rows }
+    ensures low { (n : ℕ) → n < result.rows
+        → IfSome result.first (λ first. first.line_idx + n < 2 ^ 64) }
+    ensures lines { (scene : Scene) → IsSceneOf scene frame.now → (n : ℕ) → n < result.rows
+        → line_of (hit scene scroll (row + n) 8) ≡ line_after result n }
+{
+    let bare = frame.bare_rows(scroll, row);
+    if 0 < bare {
+        ShownLines {
+            first: None,
+            rows: bare,
+        }
+    } else {
+        ShownLines {
+            first: line_of(frame.run_among(owners, scroll, row, 8).owner),
+            rows: 1,
+        }
+    }
+}
+
 /// Returns the lines that rows of the screen show from row `row` on, counted from 0, while the screen shows
 /// `frame`, scrolled to row `scroll` of the document.
 fn lines_of_rows(frame: &DrawnFrame, scroll: usize, row: usize) -> ShownLines
@@ -78,10 +108,7 @@ fn lines_of_rows(frame: &DrawnFrame, scroll: usize, row: usize) -> ShownLines
 {
     let owners = frame.row_owners(scroll, row);
     match frame.lines_among(&owners, scroll, row, 9) {
-        None => ShownLines {
-            first: line_of(frame.run_among(&owners, scroll, row, 8).owner),
-            rows: 1,
-        },
+        None => rows_without(frame, &owners, scroll, row),
         Some(lines) => ShownLines {
             first: Some(lines.first),
             rows: lines.rows,

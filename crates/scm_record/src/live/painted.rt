@@ -96,9 +96,9 @@ fn set_row_styles(
         ≡ row_of_styles (style_in scene view_state.now scroll) row (length styles.old) }
 {
     let owners = frame.row_owners(scroll, row);
-    match frame.line_among(&owners, scroll, row, styles.len()) {
+    match frame.lines_among(&owners, scroll, row, styles.len()) {
         None => set_run_styles(frame, view_state, &owners, scroll, row, styles),
-        Some(key) => set_line_styles(view_state, row, key, styles),
+        Some(lines) => set_line_styles(view_state, row, lines.first, styles),
     }
 }
 

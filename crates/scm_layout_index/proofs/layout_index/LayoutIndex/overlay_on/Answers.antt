@@ -5,4 +5,4 @@ use Rattle.scm_layout_index.proofs.layout_index.LayoutIndex.overlay_on.Goals as 
 pub returns-else-owners : goal.returns-else-owners
 returns-else-owners c =
     let not : c.args.owners.now.is_covered ≡ false = search rules in
-    sym (not-over c.args.self.now.rects.items c.args.owners.now.row c.args.column (sym c.requires.covered ∙ not))
+    sym (not-over c.args.self.now.rects c.args.owners.now.row c.args.column (sym c.requires.covered ∙ not))

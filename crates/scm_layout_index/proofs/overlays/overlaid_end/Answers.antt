@@ -4,7 +4,7 @@ use Rattle.scm_widgets.specs.declared.overlay_rects.OverlayRect.{OverlayRect}
 use Rattle.scm_widgets.specs.Layers.{is_within}
 use Rattle.scm_layout_index.proofs.LineRowLemmas.{one-cover}
 use Rattle.scm_layout_index.proofs.OwnerRunLemmas.{IsSteady, next-steady}
-use Rattle.scm_layout_index.proofs.line_rows.overlaid_end.Goals as goal
+use Rattle.scm_layout_index.proofs.overlays.overlaid_end.Goals as goal
 
 pub loop-placed-preserved : goal.loop-placed-preserved
 loop-placed-preserved c =

@@ -3,7 +3,7 @@ use Rattle.std.specs.List.{All}
 use Rattle.scm_widgets.specs.declared.overlay_rects.OverlayRect.{OverlayRect}
 use Rattle.scm_widgets.specs.OverlayRects.{is_at}
 use Rattle.scm_layout_index.proofs.OwnerRunLemmas.{IsSteady, next-steady, one-owner}
-use Rattle.scm_layout_index.proofs.owner_runs.overlay_end.Goals as goal
+use Rattle.scm_layout_index.proofs.overlays.overlay_end.Goals as goal
 
 pub loop-placed-preserved : goal.loop-placed-preserved
 loop-placed-preserved c =

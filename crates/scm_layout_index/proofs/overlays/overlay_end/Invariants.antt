@@ -3,7 +3,7 @@ use Rattle.std.specs.List.{All}
 use Rattle.scm_widgets.specs.declared.overlay_rects.OverlayRect.{OverlayRect}
 use Rattle.scm_widgets.specs.OverlayRects.{is_at}
 use Rattle.scm_layout_index.proofs.OwnerRunLemmas.{IsSteady}
-use Rattle.scm_layout_index.proofs.owner_runs.overlay_end.Given as goal
+use Rattle.scm_layout_index.proofs.overlays.overlay_end.Given as goal
 
 abbrev pub invariant-loop-placed : goal.invariant-loop-placed
 invariant-loop-placed l = record {
