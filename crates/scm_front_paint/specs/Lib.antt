@@ -24,5 +24,7 @@ pub mod Status
 pub mod Blank
 -- the session's rows and the status row below them on a terminal
 pub mod Below
+-- what becomes of the styles of a row
+pub mod Restyling
 -- the styles of the code's screens
 pub mod ShownView

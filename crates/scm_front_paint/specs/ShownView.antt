@@ -1,12 +1,8 @@
 -- The styles of the code's screens.
-use Rattle.std.specs.Prelude.{◌≡◌, ℕ, ◌+◌, map}
+use Rattle.std.specs.Prelude.{ℕ, ◌+◌, map}
 use Rattle.scm_cells.specs.declared.style.Style.{Style}
 use Rattle.scm_front_paint.specs.declared.shown.Shown.{Shown}
 use Rattle.scm_front_paint.specs.declared.shown.Moved.{Moved}
-use Rattle.scm_front_paint.specs.declared.shown.Restyled.{Restyled}
-use Rattle.scm_front_paint.specs.declared.themes.Theme.{Theme}
-use Rattle.scm_front_paint.specs.Themes.{themed}
-use Rattle.scm_front_paint.specs.Words.{set_off}
 use Rattle.scm_front_paint.specs.Below.{shown_style}
 use Rattle.scm_front_paint.specs.Capped.{capped}
 use Rattle.scm_front_paint.specs.WordsView.{columns_in}
@@ -18,7 +14,3 @@ style_in s row column = shown_style s.theme (map columns_in s.words.now) s.sessi
 -- the style of a place of the terminal
 abbrev pub moved_style : Moved → ℕ → ℕ → Style
 moved_style m row column = style_in m.shown.now row (capped (column + m.x))
-
--- the style becomes what the theme makes of it
-abbrev pub IsRestyled : Theme → Restyled → Type 0
-IsRestyled theme r = r.to ≡ themed theme (set_off r.is_apart r.from)

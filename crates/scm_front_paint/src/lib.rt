@@ -10,6 +10,7 @@ pub mod laws;
 mod line_words;
 mod painter;
 pub mod pane;
+mod restyling;
 mod shown;
 mod status;
 mod status_painter;

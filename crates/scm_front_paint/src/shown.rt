@@ -1,81 +1,13 @@
 //! The styles of a screen: those of the session, with words set off, in a theme.
-ghost use Rattle.std.specs.Prelude.{◌≡◌, ◌<◌, ℕ, IsTrue, length, slice_index_or};
-ghost use Rattle.scm_cells.specs.declared.style.Style.{Style as Look};
-ghost use Rattle.scm_terminal.specs.Style.{plain_style};
+ghost use Rattle.std.specs.Prelude.{◌≡◌, length};
 ghost use Rattle.scm_terminal.specs.StyledCell.{row_of_styles};
-ghost use Rattle.scm_front_paint.specs.ShownView.{IsRestyled, moved_style, style_in};
-ghost use Rattle.scm_front_paint.specs.Themes.{themed};
-ghost use Rattle.scm_front_paint.specs.Words.{with_words};
+ghost use Rattle.scm_front_paint.specs.ShownView.{moved_style, style_in};
 
 use crate::line_words::LineWords;
+use crate::restyling::{put_in_theme, set_off_words};
 use crate::themes::{Theme, themed};
-use crate::words::{Columns, are_apart, columns_on, set_off, with_words};
+use crate::words::{columns_on, with_words};
 use scm_record::{LiveSession, NumberedStyle, Style, Styles};
-
-/// A style of the session, and what becomes of it.
-#[derive(Clone, Copy)]
-struct Restyled {
-    /// The style of the session.
-    from: NumberedStyle,
-    /// Whether it is set off.
-    is_apart: bool,
-    /// What becomes of it.
-    to: NumberedStyle,
-}
-
-/// Returns what becomes of `style` in `theme`, set off if it `is_apart`.
-fn restyle(theme: Theme, is_apart: bool, style: NumberedStyle) -> Restyled
-    ensures from { result.from ≡ style }
-    ensures apart { result.is_apart ≡ is_apart }
-    ensures restyled { IsRestyled theme result }
-{
-    Restyled {
-        from: style,
-        is_apart,
-        to: NumberedStyle::new(themed(theme, set_off(is_apart, style.style()))),
-    }
-}
-
-/// Returns what becomes of `style` in `theme`, set off if it `is_apart`: `last`, if that is it.
-fn restyle_after(last: Restyled, theme: Theme, is_apart: bool, style: NumberedStyle) -> Restyled
-    requires { IsRestyled theme last }
-    ensures from { result.from ≡ style }
-    ensures apart { result.is_apart ≡ is_apart }
-    ensures restyled { IsRestyled theme result }
-{
-    if last.is_apart == is_apart && style.is_same(last.from) {
-        last
-    } else {
-        restyle(theme, is_apart, style)
-    }
-}
-
-/// Returns whether all styles stay as they are in `theme`, with words set off at `columns`.
-fn are_kept(theme: Theme, columns: &[Columns]) -> bool
-    ensures { IsTrue result
-        → (c : ℕ) (style : Look) → themed theme (with_words columns.now c style) ≡ style }
-{
-    match theme {
-        Theme::Dark => columns.is_empty(),
-        Theme::Light | Theme::Sixteen | Theme::NoColours => false,
-    }
-}
-
-/// Makes each of `styles`, the styles of a row from column 0 on, what becomes of it in `theme`, with words
-/// set off at `columns`.
-fn restyle_row(theme: Theme, columns: &[Columns], styles: &mut [NumberedStyle])
-    ensures length { length styles.new ≡ length styles.old }
-    ensures each { (c : ℕ) → c < length styles.old → slice_index_or styles.new c plain_style
-        ≡ themed theme (with_words columns.now c (slice_index_or styles.old c plain_style)) }
-{
-    let mut last = restyle(theme, false, NumberedStyle::new(Style::PLAIN));
-    let mut column = 0;
-    'places: while column < styles.len() {
-        last = restyle_after(last, theme, are_apart(columns, column), styles[column]);
-        styles[column] = last.to;
-        column += 1;
-    }
-}
 
 /// The styles of a session's screen.
 #[derive(Clone, Copy)]
@@ -106,11 +38,9 @@ impl<'a, 'state> Styles for Shown<'a, 'state> {
     fn row_styles(&self, row: usize, styles: &mut [NumberedStyle])
         ensures { styles.new ≡ row_of_styles (style_in self.now) row (length styles.old) }
     {
-        let columns = columns_on(self.words, row);
         self.session.row_styles(row, styles);
-        if !are_kept(self.theme, columns) {
-            restyle_row(self.theme, columns, styles);
-        }
+        set_off_words(columns_on(self.words, row), styles);
+        put_in_theme(self.theme, styles);
     }
 }
 

@@ -1,5 +1,5 @@
 //! The words that differ in a removed line and the added line that replaces it.
-ghost use Rattle.std.specs.Prelude.{◌≡◌, ◌-◌, ◌<◌, ◌≤◌, [], IfErr, IfOk, IsTrue, map, option_map, slice_index_or, string_bytes};
+ghost use Rattle.std.specs.Prelude.{◌≡◌, ◌-◌, ◌<◌, ◌≤◌, [], IfErr, IfOk, IfSome, IsTrue, length, map, option_map, slice_index_or, string_bytes};
 ghost use Rattle.std.specs.List.{list_any};
 ghost use Rattle.std.specs.Str.{IsCharBoundary};
 ghost use Rattle.scm_errors.specs.declared.error.RecordError.TheVariants.{OutOfMemory};
@@ -230,26 +230,42 @@ fn is_for(words: &Option<LineWords>, pair: PairOfLines<'_>) -> bool {
     }
 }
 
-/// Takes from `kept` what was found for `pair`, if that is there.
-fn take_for(kept: &mut [Option<LineWords>], pair: PairOfLines<'_>) -> Option<LineWords> {
-    match kept.iter().position(|words| is_for(words, pair)) {
+/// Returns where `kept` has what was found for `pair`, if that is there: at `row`, if it is there too.
+fn index_for(kept: &[Option<LineWords>], row: usize, pair: PairOfLines<'_>) -> Option<usize>
+    ensures { IfSome result (λ index. index < length kept.now) }
+{
+    if row < kept.len() && is_for(&kept[row], pair) {
+        Some(row)
+    } else {
+        kept.iter().position(|words| is_for(words, pair))
+    }
+}
+
+/// Takes from `kept` what was found for `pair`, if that is there. Where no row moved, it is at `row`.
+fn take_for(
+    kept: &mut [Option<LineWords>],
+    row: usize,
+    pair: PairOfLines<'_>,
+) -> Option<LineWords> {
+    match index_for(kept, row, pair) {
         None => None,
         Some(index) => kept[index].take(),
     }
 }
 
-/// Returns what is set off in the line of `pair` that is meant: what is in `kept`, if that was found for
-/// `pair`.
+/// Returns what is set off in the line of `pair` that is meant, on row `row`: what is in `kept`, if that was
+/// found for `pair`.
 fn words_for(
     alloc: Global,
     kept: &mut [Option<LineWords>],
+    row: usize,
     pair: PairOfLines<'_>,
 ) -> Result<LineWords, RecordError>
     ensures ok { IfOk result (λ words. AreColumns pair.entry.old.now pair.entry.new.now
         pair.entry.is_old words.columns) }
     ensures err { IfErr result (λ e. e ≡ OutOfMemory) }
 {
-    match take_for(kept, pair) {
+    match take_for(kept, row, pair) {
         None => words_of_pair(alloc, pair),
         Some(words) => {
             if !are_for(&words, pair) {
@@ -334,12 +350,13 @@ fn pair_of_line<'a>(files: &'a [File<'_>], line: Option<LineKey>) -> Option<Pair
     }
 }
 
-/// Returns what is set off in the line of `pair` that is meant, if there is a pair: what is in `kept`, if
-/// that was found for it.
+/// Returns what is set off in the line of `pair` that is meant, on row `row`, if there is a pair: what is in
+/// `kept`, if that was found for it.
 fn words_with(
     alloc: Global,
     pair: Option<PairOfLines<'_>>,
     kept: &mut [Option<LineWords>],
+    row: usize,
 ) -> Result<Option<LineWords>, RecordError>
     ensures ok { IfOk result (λ words.
         AreColumnsFor (option_map pair_value pair.entry) (columns_in words)) }
@@ -347,7 +364,7 @@ fn words_with(
 {
     match pair {
         None => Ok(None),
-        Some(pair) => Ok(Some(words_for(alloc, kept, pair)?)),
+        Some(pair) => Ok(Some(words_for(alloc, kept, row, pair)?)),
     }
 }
 
@@ -369,7 +386,7 @@ pub(crate) fn words_of(
         stretch = stretch_on(session, stretch, row);
         let line = stretch.lines.line(row - stretch.top);
         let pair = pair_of_line(files, line);
-        words.push(words_with(alloc, pair, kept.as_mut_slice())?)?;
+        words.push(words_with(alloc, pair, kept.as_mut_slice(), row)?)?;
     }
     Ok(words)
 }
@@ -377,7 +394,7 @@ pub(crate) fn words_of(
 // ---- styles
 
 /// Returns whether one of `columns` has column `column`.
-pub(crate) fn are_apart(columns: &[Columns], column: usize) -> bool
+fn are_apart(columns: &[Columns], column: usize) -> bool
     ensures { result ≡ list_any (has_column column) columns.now }
 {
     columns
