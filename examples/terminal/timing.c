@@ -4,8 +4,9 @@
  *
  * A shape is FILESxSECTIONSxLINES: FILES files, each of SECTIONS changed sections, each of LINES added lines. A shape
  * FILESxSECTIONSxLINES:KIND:COUNT has lines of COUNT characters in place of short ones. KIND is `letters`, `wide` (two
- * columns each), `marked` (letters, each with a combining mark) or `tabs`. With `,both` behind it the screen shows both
- * commits, and with `,layer` the session has the layer.
+ * columns each), `marked` (letters, each with a combining mark) or `tabs`. FILESxSECTIONSxLINES:pairs:COUNT has lines of COUNT
+ * words, removed and added in turn: the last word of an added line is not that of the removed line before it. With `,both` behind
+ * it the screen shows both commits, and with `,layer` the session has the layer.
  *
  * timing SHAPE COUNT PAINT WORD ..: hands in the words in turn, COUNT of them, and then prints how many bytes
  * the last paint has. PAINT is `none`, `changed` to paint after each word, `twice` to paint once more then, or `all` to paint
@@ -29,6 +30,8 @@ typedef struct {
     /* The character that each line consists of, as JSON, and how often; a line is short if it is empty. */
     const char *character;
     size_t count;
+    /* Whether removed and added lines take turns. */
+    bool has_pairs;
     /* Whether the screen shows both commits. */
     bool shows_both;
     /* Whether the session has the layer. */
@@ -49,10 +52,11 @@ static bool is_read_as(const char *words, shape *read) {
             read->character = characters[i].character;
         }
     }
+    read->has_pairs = strcmp(kind, "pairs") == 0;
     const char *end = strchr(words, ',');
     read->shows_both = end && strcmp(end, ",both") == 0;
     read->has_layer = end && strcmp(end, ",layer") == 0;
-    return (numbers == 3 || (numbers == 5 && *read->character)) && (!end || read->shows_both || read->has_layer);
+    return (numbers == 3 || (numbers == 5 && (*read->character || read->has_pairs))) && (!end || read->shows_both || read->has_layer);
 }
 
 static double now(void) {
@@ -61,7 +65,17 @@ static double now(void) {
     return (double)time.tv_sec * 1e6 + (double)time.tv_nsec / 1e3;
 }
 
+static char *add_words(char *end, const shape *of, size_t index) {
+    for (size_t i = 1; i < of->count; i++) {
+        end += sprintf(end, "word ");
+    }
+    return end + sprintf(end, "%s %zu", index % 2 ? "new" : "old", index / 2);
+}
+
 static char *add_text(char *end, const shape *of, size_t index) {
+    if (of->has_pairs) {
+        return add_words(end, of, index);
+    }
     if (!*of->character) {
         return end + sprintf(end, "line %zu", index);
     }
@@ -76,7 +90,8 @@ static char *add_text(char *end, const shape *of, size_t index) {
 static char *add_section(char *end, const shape *of) {
     end += sprintf(end, "{\"Changed\":{\"lines\":[");
     for (size_t i = 0; i < of->lines; i++) {
-        end += sprintf(end, "%s{\"is_checked\":false,\"change_type\":\"Added\",\"line\":\"", i ? "," : "");
+        const char *kind = of->has_pairs && i % 2 == 0 ? "Removed" : "Added";
+        end += sprintf(end, "%s{\"is_checked\":false,\"change_type\":\"%s\",\"line\":\"", i ? "," : "", kind);
         end = add_text(end, of, i);
         end += sprintf(end, "\\n\"}");
     }
@@ -84,7 +99,7 @@ static char *add_section(char *end, const shape *of) {
 }
 
 static char *state_of(const shape *of) {
-    size_t room = ROOM_OF_AN_ITEM + strlen(of->character) * of->count;
+    size_t room = ROOM_OF_AN_ITEM + (strlen(of->character) + (of->has_pairs ? 5 : 0)) * of->count;
     char *json = malloc((of->files * (of->sections * (of->lines + 1) + 1) + 1) * room);
     char *end = json;
     if (!json) {

@@ -1,4 +1,4 @@
-use Rattle.std.proofs.Common.{◌≡◌, ℕ, ◌<◌, ◌∙◌, length, get_or, refl, arith}
+use Rattle.std.proofs.Common.{◌<◌, ◌∙◌, length, get_or, refl, arith}
 use Rattle.std.proofs.lemmas.List.{get_or_default, length-set}
 use Rattle.scm_terminal.specs.Style.{plain_style}
 use Rattle.scm_front_paint.proofs.ShownLemmas.{no-place, one-more, run-done}

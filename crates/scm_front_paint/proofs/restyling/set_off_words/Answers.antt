@@ -1,4 +1,4 @@
-use Rattle.std.proofs.Common.{◌≡◌, ℕ, List, ◌∙◌, ap, get_or, length, take, take_all, refl, arith}
+use Rattle.std.proofs.Common.{◌≡◌, List, ◌∙◌, ap, get_or, take, take_all, arith}
 use Rattle.scm_terminal.specs.Style.{plain_style}
 use Rattle.scm_front_paint.specs.declared.restyling.Effect.TheVariants.{SetOff}
 use Rattle.scm_front_paint.specs.declared.words.Columns.{Columns}
@@ -17,7 +17,7 @@ loop-run-preserved c =
       long = omega arith;
       each = λ k within.
           made.each k (omega arith)
-          ∙ ap (style_after SetOff c.loop-run.run.start c.loop-run.run.end k) (held.each k within)
+          ∙ ap (style_after SetOff _ _ k) (held.each k within)
           ∙ words-more c.args.columns.now c.loop-run.run-index _ k (get_or c.args.styles.now k plain_style) (omega arith);
     }
 
