@@ -1,5 +1,5 @@
 -- The rows from a row on to the end of its section have the same pieces, and show the lines that follow.
-use Rattle.std.proofs.Common.{◌≡◌, ℕ, zero, suc, ◌+◌, ◌-◌, ◌<◌, ◌≤◌, ◌^◌, ◌&&◌, ◌==◌, Bool, true, false, List, [], ◌∷◌, length, take, get_or, Option, Some, None, refl, sym, ap, ap₂, subst, ◌∙◌, arith}
+use Rattle.std.proofs.Common.{◌≡◌, ℕ, zero, suc, ◌+◌, ◌-◌, ◌<◌, ◌≤◌, ◌^◌, ◌&&◌, ◌==◌, Bool, true, false, List, [], ◌∷◌, length, Option, Some, None, refl, sym, ap, ap₂, subst, ◌∙◌, arith}
 use Rattle.std.specs.Prelude.{nat_le, nat_lt, min, ◌||◌, if◌then◌else◌, option_and_then, slice_get}
 use Rattle.std.specs.List.{All}
 use Rattle.std.proofs.lemmas.Bool.{and_parts}
@@ -16,7 +16,7 @@ use Rattle.scm_document.specs.declared.index_pieces.SectionPiece.{SectionPiece}
 use Rattle.scm_rows.specs.declared.section_shape.SectionShape.{SectionShape}
 use Rattle.scm_rows.specs.declared.section_shape.SectionShape.TheVariants as shapes
 use Rattle.scm_rows.specs.declared.section_shape.SectionShape.TheVariants.{Changed}
-use Rattle.scm_rows.specs.declared.row_kind.RowKind.TheVariants.{Header, Line, Mark, Context, Blank}
+use Rattle.scm_rows.specs.declared.row_kind.RowKind.TheVariants.{Header, Line, Context, Blank}
 use Rattle.scm_rows.specs.Context.{dots_height, first_below, lines_above}
 use Rattle.scm_rows.specs.Kinds.{row_kind}
 use Rattle.scm_document.specs.SectionPieces.{kind_on}
@@ -29,7 +29,7 @@ use Rattle.scm_layout_index.specs.declared.layout_index.LayoutIndex.{LayoutIndex
 use Rattle.scm_layout_index.specs.declared.row_owners.RowOwners.{RowOwners}
 use Rattle.scm_document.specs.declared.index_pieces.RowPieces.{RowPieces}
 use Rattle.scm_layout_index.specs.LayoutIndex.{AreRowOwners}
-use Rattle.scm_layout_index.specs.LineRows.{end_of_pieces, end_of_section, line_below}
+use Rattle.scm_layout_index.specs.LineRows.{end_of_pieces, line_below}
 use Rattle.scm_layout_index.specs.OwnerRuns.{IsRun}
 use Rattle.scm_layout_index.specs.RowPieces.{RowsFit, SectionsFit, file_of_rows, piece_at, pieces_on, section_in, section_of_rows}
 use Rattle.scm_layout_index.specs.ShownLines.{line_among, line_in, line_of_kind}

@@ -1,10 +1,12 @@
 -- Nothing lies over a row below the last one of all rectangles, and no file has a row below the last file.
-use Rattle.std.proofs.Common.{◌≡◌, ℕ, suc, ◌+◌, ◌<◌, ◌≤◌, ◌^◌, Bool, true, false, ◌&&◌, List, [], ◌∷◌, length, take, get_or, refl, sym, ◌∙◌, arith}
-use Rattle.std.specs.Prelude.{nat_le, nat_lt, if◌then◌else◌, max, Option, Some, None}
-use Rattle.std.specs.List.{All}
+use Rattle.std.proofs.Common.{◌≡◌, ℕ, suc, ◌+◌, ◌-◌, ◌<◌, ◌≤◌, ◌^◌, Bool, true, false, ◌&&◌, List, [], ◌∷◌, length, take, get_or, refl, sym, ◌∙◌, arith}
+use Rattle.std.specs.Prelude.{ℤ, pos, ◌-ℤ◌, min, nat_le, nat_lt, if◌then◌else◌, Some, None}
 use Rattle.std.proofs.lemmas.Bool.Decides.{nat_tests}
+use Rattle.std.proofs.lemmas.Int.{ints}
 use Rattle.std.proofs.lemmas.List.Elements.{All-head, All-more, All-tail, All-weaker}
 use Rattle.scm_widgets.specs.declared.overlay_rects.OverlayRect.{OverlayRect}
+use Rattle.scm_cells.specs.Rect.{or_zero}
+use Rattle.scm_widgets.specs.Layers.{is_within}
 use Rattle.scm_widgets.specs.OverlayRects.{have_row, overlay_owner}
 use Rattle.scm_layout.specs.declared.file_rows.FileRows.{FileRows}
 use Rattle.scm_layout.specs.Searches.{FilesFollow, FollowFrom, file_on, index_on}
@@ -18,6 +20,11 @@ use Rattle.scm_layout_index.specs.RowPieces.{RowsFit, end_of_files, pieces_on}
 use Rattle.scm_layout_index.proofs.RowOwnerLemmas.{not-over}
 
 -- ---- rectangles
+
+-- a stretch of n places from c on has none below its last one
+pub past-last : (c : ℤ) (n y : ℕ) → y < 2 ^ 64 → min (or_zero (c -ℤ pos 0) + (n - or_zero (pos 0 -ℤ c) - 1)) 18446744073709551615 < y → is_within c n y ≡ false
+past-last (pos k) n y low high = grind (arith, ints)
+past-last c n y low high = grind (arith, ints)
 
 pub none-below : (rs : List OverlayRect) (m y : ℕ) → AreAbove m rs → y < 2 ^ 64 → m < y → have_row rs y ≡ false
 none-below [] m y h low high = refl

@@ -104,11 +104,12 @@ impl LayoutIndex {
             joined_with(joined((scroll, scroll + bar), document), quit),
             help,
         );
+        let overlays = Overlays::new(rects);
         Ok(LayoutIndex {
             width,
             pinned: scroll + 1,
             selection: view_state.selection,
-            rects: Overlays::new(rects),
+            rects: overlays,
             extent: run.1.saturating_sub(run.0),
             rows,
         })

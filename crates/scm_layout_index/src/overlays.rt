@@ -6,7 +6,8 @@ ghost use Rattle.scm_widgets.specs.OverlayRects.{have_row, is_at, overlay_owner}
 ghost use Rattle.scm_layout_index.specs.OwnerRuns.{IsRun};
 ghost use Rattle.scm_layout_index.specs.Overlays.{AreAbove, IsAbove};
 
-use crate::owner_runs::{rect_end, stretch_end, stretch_stop};
+use crate::owner_runs::{rect_end, stretch_end};
+use scm_cells::{Rect, gap};
 use scm_widgets::ids::ComponentId;
 use scm_widgets::overlay_rects::{OverlayRect, have_row, overlay_owner};
 use std::marker::Model;
@@ -37,7 +38,9 @@ impl Model for Overlays {
 fn last_row(placed: OverlayRect) -> usize
     ensures { IsAbove result placed }
 {
-    stretch_stop(placed.rect.y, placed.rect.height).saturating_sub(1)
+    let Rect { y, height, .. } = placed.rect;
+    let left = height.saturating_sub(gap(y, 0));
+    gap(0, y).saturating_add(left.saturating_sub(1))
 }
 
 /// Returns a row below which none of `rects` has a row.

@@ -6,7 +6,7 @@ ghost use Rattle.scm_view.specs.ViewState.{ViewState};
 ghost use Rattle.scm_view.specs.Window.{owner};
 ghost use Rattle.scm_widgets.specs.Layers.{is_within};
 ghost use Rattle.scm_layout_index.specs.LayoutIndex.{owner_in, AreRowOwners, IsLayoutIndexOf};
-ghost use Rattle.scm_layout_index.specs.OwnerRuns.{IsRun, end_before, stretch_stop};
+ghost use Rattle.scm_layout_index.specs.OwnerRuns.{IsRun, end_before};
 
 use crate::layout_index::LayoutIndex;
 use crate::row_owners::RowOwners;
@@ -89,14 +89,6 @@ fn found_end(width: usize, owners: &RowOwners, column: usize) -> usize
     }
 }
 
-/// Returns where `first..first + size` stops, or the last place that a `usize` counts if that is before it.
-pub(crate) fn stretch_stop(first: isize, size: usize) -> usize
-    ensures { result ≡ stretch_stop first size }
-{
-    let left = size.saturating_sub(gap(first, 0));
-    gap(0, first).saturating_add(left)
-}
-
 /// Returns the end of a run from `place` on of the places before `end`: all in `first..first + size`, or all
 /// beside it.
 pub(crate) fn stretch_end(first: isize, size: usize, place: usize, end: usize) -> usize
@@ -105,10 +97,11 @@ pub(crate) fn stretch_end(first: isize, size: usize, place: usize, end: usize) -
     ensures { IsRun (is_within first size) end place result }
 {
     let start = gap(0, first);
+    let left = size.saturating_sub(gap(first, 0));
     end_before(
         place,
         start,
-        end_before(place, stretch_stop(first, size), end),
+        end_before(place, start.saturating_add(left), end),
     )
 }
 

@@ -5,7 +5,7 @@ use Rattle.scm_layout_index.proofs.overlays.last_row_of.Goals as goal
 
 pub loop-placed-preserved : goal.loop-placed-preserved
 loop-placed-preserved c =
-    next-above c.args.rects.now c.loop-placed.placed-index _ c.loop-placed.last c.last_row.result c.max.result (omega arith) (omega arith) (omega arith) c.loop-placed.invariant c.last_row.ensures
+    next-above c.args.rects.now c.loop-placed.placed-index _ c.loop-placed.last c.last_row.result c.max-last.result (omega arith) (omega arith) (omega arith) c.loop-placed.invariant c.last_row.ensures
 
 pub returns : goal.returns
 returns c =

@@ -1,10 +1,8 @@
-use Rattle.std.proofs.Common.{◌≡◌, ℕ, ◌+◌, ◌-◌, ◌<◌, ◌≤◌, Some, Bool, List, subst, sym, ◌∙◌, arith}
+use Rattle.std.proofs.Common.{◌≡◌, ℕ, ◌+◌, ◌-◌, Some, subst, sym, ◌∙◌, arith}
 use Rattle.std.proofs.lemmas.Option.{same_Some}
 use Rattle.scm_layout.specs.declared.state_rows.StateRows.{StateRows}
 use Rattle.scm_widgets.specs.OverlayRects.{have_row}
-use Rattle.scm_widgets.specs.declared.overlay_rects.OverlayRect.{OverlayRect}
 use Rattle.scm_layout_index.specs.declared.line_rows.LineRows.{LineRows}
-use Rattle.scm_layout_index.specs.LineRows.{end_of_pieces}
 use Rattle.scm_layout_index.specs.OwnerRuns.{IsRun}
 use Rattle.scm_layout_index.specs.RowPieces.{RowsFit}
 use Rattle.scm_layout_index.specs.ShownLines.{line_in}

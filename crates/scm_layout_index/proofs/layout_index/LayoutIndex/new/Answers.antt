@@ -67,9 +67,9 @@ returns-clause-ok c =
     let selected = ap (λ (v : ViewState). v.selection) same in
     record {
       width = refl;
-      owner = λ y x. answers-owner w h s y x shown view c.push_message.new.rects.items c.push_pinned.new.rects.items c.push_rects.new.rects.items c.push_quit.new.rects.items c.push_help.new.rects.items
+      owner = λ y x. rw c.new-overlays.ensures (answers-owner w h s y x shown view c.push_message.new.rects.items c.push_pinned.new.rects.items c.push_rects.new.rects.items c.push_quit.new.rects.items c.push_help.new.rects.items
           (pieces_on k (s + 1) (s + 1) rows.files) (pieces_on k (s + 1) y rows.files) is.wide is.high refl e0 e1 e2 e3 e4
-          (found-pieces shown rows c.requires.rows (s + 1) (s + 1) k selected) (found-pieces shown rows c.requires.rows (s + 1) y k selected);
+          (found-pieces shown rows c.requires.rows (s + 1) (s + 1) k selected) (found-pieces shown rows c.requires.rows (s + 1) y k selected));
       span = λ k. new-span shown rows k c.requires.rows;
       extent = c.saturating_sub.ensures ∙ answers-extent w h s shown view c.joined_with-run.result (s + c.in_ok-bar.bar) c.in_ok-message.message c.end_of_files-end.result c.is_empty.result c.in_ok-quit.quit c.in_ok-help.help is.high refl
           run (ap (λ n. s + n) bar) message (empty ∙ files-empty shown rows c.requires.rows) (end ∙ files-end shown rows c.requires.rows c.in_ok-message.message message) quit help;
