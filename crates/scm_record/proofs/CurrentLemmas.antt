@@ -3,13 +3,15 @@ use Rattle.std.proofs.Common.{◌≡◌, ℕ, Option, sym, ap, ◌∙◌, refl, 
 use Rattle.scm_input.specs.declared.inputs.TerminalKind.{TerminalKind}
 use Rattle.scm_view.specs.ViewState.{ViewState}
 use Rattle.scm_record.specs.declared.frame.DrawnFrame.{DrawnFrame}
-use Rattle.scm_record.specs.Session.{Session, after_frame, without_pending}
+use Rattle.scm_record.specs.Session.{Session, after_frame, with_scroll, without_pending}
 use Rattle.scm_record.specs.Step.{Change, change}
 use Rattle.scm_record.specs.Change.{stays}
 use Rattle.scm_record.specs.declared.session.Flow.{Flow}
 use Rattle.scm_input.specs.declared.events.Event.{Event}
 use Rattle.scm_view.specs.Frame.{Frame}
 use Rattle.scm_record.specs.Frames.{HasSize, IsSceneOf, Scene, columns_of, rows_of, scene_of, frame_of}
+use Rattle.scm_record.specs.FrameQueries.{scroll_to_show}
+use Rattle.scm_record.specs.Quiet.{after_ensure}
 use Rattle.scm_record.specs.RunContracts.{IsCurrent}
 
 -- sessions that show the same as far down have one frame
@@ -46,3 +48,23 @@ pub current-kept : (frame : DrawnFrame) (scene : Scene) (s t : Session) (event :
 current-kept frame scene s t event flow kept is current =
     let same : t ≡ s = ap (λ (c : Change). c.session) (sym is ∙ kept) in
     current-still frame s t (ap (λ (u : Session). u.shown) same) (ap (λ (u : Session). u.scroll) same) current
+
+-- a frame that shows an equal session, and that an equal frame has the size of
+pub seen-same : (kind : TerminalKind) (s t : Session) (frame sized drawn : DrawnFrame) → t ≡ s → sized ≡ frame → HasSize kind frame
+    → ((other : TerminalKind) → HasSize other sized → IsSceneOf (scene_of other (after_frame t)) drawn) → IsSceneOf (scene_of kind (after_frame s)) drawn
+seen-same kind s t frame sized drawn same same_frame size shown =
+    subst (λ (x : Session). IsSceneOf (scene_of kind (after_frame x)) drawn) same (shown kind (subst (HasSize kind) (sym same_frame) size))
+
+-- the scroll to the selection after a frame
+pub ensured : (kind : TerminalKind) (s u v : Session) → u ≡ without_pending (after_frame s)
+    → v ≡ with_scroll u (scroll_to_show (scene_of kind (after_frame s)) u.scroll u.shown.selection) → v ≡ after_ensure kind (after_frame s)
+ensured kind s u v drawn scrolled =
+    scrolled ∙ ap (λ (x : Session). with_scroll x (scroll_to_show (scene_of kind (after_frame s)) x.scroll x.shown.selection)) drawn
+
+-- the same of an equal session and an equal frame
+pub scrolls-same : (scene : Scene) (u t v : Session) (frame f : DrawnFrame) → t ≡ u → f ≡ frame → IsSceneOf scene frame
+    → ((other : Scene) → IsSceneOf other f → v ≡ with_scroll t (scroll_to_show other t.scroll t.shown.selection))
+    → v ≡ with_scroll u (scroll_to_show scene u.scroll u.shown.selection)
+scrolls-same scene u t v frame f same same_frame seen scrolls =
+    scrolls scene (subst (IsSceneOf scene) (sym same_frame) seen)
+    ∙ ap (λ (x : Session). with_scroll x (scroll_to_show scene x.scroll x.shown.selection)) same

@@ -15,6 +15,7 @@ use Rattle.scm_render.specs.declared.trace.DrawnRect.{DrawnRect}
 use Rattle.scm_render.specs.Laws.{HasLastBoxes}
 use Rattle.scm_view.specs.AppView.{app_picture, app_view_of, AppsAreDrawnAlike, ShowsSession}
 use Rattle.scm_document.specs.PieceOwners.{line_owner}
+use Rattle.scm_layout_index.specs.LineRows.{line_below}
 use Rattle.scm_widgets.specs.Blanks.{blank_row}
 use Rattle.scm_widgets.specs.Clicks.{is_clickable}
 use Rattle.scm_view.specs.Frame.{Frame, frame_of_document, frame_of_picture, frame_of_view, is_plain, picture_of}

@@ -7,7 +7,8 @@ use Rattle.scm_input.specs.declared.events.Event.{Event}
 use Rattle.scm_record.specs.declared.session.Flow.{Flow}
 use Rattle.scm_record.specs.declared.session.Flow.TheVariants as flows
 use Rattle.scm_record.specs.Session.{Session, IsDrawable, message_of, message_text}
-use Rattle.scm_record.specs.Frames.{Scene, scene_of}
+use Rattle.scm_record.specs.declared.frame.DrawnFrame.{DrawnFrame}
+use Rattle.scm_record.specs.Frames.{IsSceneOf, Scene, scene_of}
 use Rattle.scm_record.specs.Change.{Change, stays}
 use Rattle.scm_record.specs.Step.{change}
 use Rattle.scm_record.specs.Run.{Setting, world_in, Within, after_change, resume, Reaches, here, on}
@@ -82,3 +83,10 @@ handles-end IsSeen list s0 s i end before = record {
   drawable = before.drawable;
   said = λ commit g. cc;
 }
+
+-- a batch is handled as well on an equal frame, from an equal session
+pub handles-same : (f g : DrawnFrame) (list : List Event) (s u : Session) (flow : Flow) (rest : List Event) (t : Session) → f ≡ g → s ≡ u
+    → HandlesBatch (λ (scene : Scene). IsSceneOf scene f) list s flow rest t → HandlesBatch (λ (scene : Scene). IsSceneOf scene g) list u flow rest t
+handles-same f g list s u flow rest t same_frame same handles =
+    subst (λ (x : Session). HandlesBatch (λ (scene : Scene). IsSceneOf scene g) list x flow rest t) same
+    (subst (λ (x : DrawnFrame). HandlesBatch (λ (scene : Scene). IsSceneOf scene x) list s flow rest t) same_frame handles)

@@ -43,13 +43,13 @@ use std::alloc::{AllocError, Global};
 use std::marker::Model;
 
 /// A session that a program drives, while it waits for an event. The definition `Live` is its
-/// value.
+/// value. What is large lies in boxes, since each call of a session moves it.
 #[derive(Drop)]
 pub struct LiveSession<'state> {
     /// The session, with no pending events.
-    session: ActiveSession<'state>,
+    session: Box<ActiveSession<'state>>,
     /// The frame last drawn, which shows the session.
-    frame: DrawnFrame,
+    frame: Box<DrawnFrame>,
     /// The screen's size.
     kind: TerminalKind,
 }
@@ -61,9 +61,9 @@ impl<'state> Model for LiveSession<'state> {
 
     ghost use Rattle.scm_record.specs.LiveView.{IsWaiting};
 
-    ghost view = { λ l. record { session = l.session; kind = l.kind } };
+    ghost view = { λ l. record { session = l.session.value; kind = l.kind } };
 
-    ghost invariant = { λ l. IsWaiting l.kind l.session l.frame };
+    ghost invariant = { λ l. IsWaiting l.kind l.session.value l.frame.value };
 }
 
 /// A session that a program drives, while it waits for the message of a commit. The definition
@@ -71,9 +71,9 @@ impl<'state> Model for LiveSession<'state> {
 #[derive(Drop)]
 pub struct Editing<'state> {
     /// The session after the event that asked for the message.
-    session: ActiveSession<'state>,
+    session: Box<ActiveSession<'state>>,
     /// The frame last drawn.
-    frame: DrawnFrame,
+    frame: Box<DrawnFrame>,
     /// The screen's size.
     kind: TerminalKind,
     /// The index of the commit whose message is edited.
@@ -95,14 +95,14 @@ impl<'state> Model for Editing<'state> {
     ghost use Rattle.scm_record.specs.LiveView.{IsEditing};
 
     ghost view = { λ l. record {
-      session = l.session;
+      session = l.session.value;
       kind = l.kind;
       commit = l.commit;
-      frame = l.frame;
+      frame = l.frame.value;
       rest = l.rest.items;
     } };
 
-    ghost invariant = { λ l. IsEditing l.kind l.session l.frame l.commit };
+    ghost invariant = { λ l. IsEditing l.kind l.session.value l.frame.value l.commit };
 }
 
 /// What a call of a live session leads to.
@@ -135,17 +135,17 @@ fn advance(
 
 /// Draws the session on `frame`, unless `is_current`, and returns it as one that waits for an event.
 fn wait<'state>(
-    session: ActiveSession<'state>,
-    frame: DrawnFrame,
+    session: Box<ActiveSession<'state>>,
+    frame: Box<DrawnFrame>,
     kind: TerminalKind,
     is_current: bool,
 ) -> Result<LiveSession<'state>, RecordError>
-    requires drawable { IsDrawable session }
-    requires calm { session.pending ≡ [] }
-    requires sized { HasSize kind frame }
-    requires current { IsTrue is_current → IsCurrent session frame }
+    requires drawable { IsDrawable session.value }
+    requires calm { session.value.pending ≡ [] }
+    requires sized { HasSize kind frame.value }
+    requires current { IsTrue is_current → IsCurrent session.value frame.value }
     ensures ok { IfOk result (λ l. l
-        ≡ record { session = after_frame session.entry; kind = kind }) }
+        ≡ record { session = after_frame session.entry.value; kind = kind }) }
     ensures err { IfErr result (λ e. e ≡ OutOfMemory) }
 {
     let mut session = session;
@@ -162,15 +162,15 @@ fn wait<'state>(
 /// Handles the pending `EnsureSelectionInViewport` after a frame, and draws the session. A frame that
 /// nobody sees is not painted.
 fn show_selection<'state>(
-    session: ActiveSession<'state>,
-    frame: DrawnFrame,
+    session: Box<ActiveSession<'state>>,
+    frame: Box<DrawnFrame>,
     kind: TerminalKind,
 ) -> Result<LiveSession<'state>, RecordError>
-    requires drawable { IsDrawable session }
-    requires pending { session.pending ≡ EnsureSelectionInViewport ∷ [] }
-    requires sized { HasSize kind frame }
+    requires drawable { IsDrawable session.value }
+    requires pending { session.value.pending ≡ EnsureSelectionInViewport ∷ [] }
+    requires sized { HasSize kind frame.value }
     ensures ok { IfOk result (λ l. l ≡ record {
-      session = after_frame (after_ensure kind (after_frame session.entry));
+      session = after_frame (after_ensure kind (after_frame session.entry.value));
       kind = kind;
     }) }
     ensures err { IfErr result (λ e. e ≡ OutOfMemory) }
@@ -191,26 +191,26 @@ fn show_selection<'state>(
 /// what is pending after a frame of its own, until nothing is. A frame that nobody sees is not painted.
 /// If a message is asked for, keeps a copy of the rest of the batch.
 fn turn_after<'state>(
-    session: ActiveSession<'state>,
-    frame: DrawnFrame,
+    session: Box<ActiveSession<'state>>,
+    frame: Box<DrawnFrame>,
     kind: TerminalKind,
     end: BatchEnd<'_>,
 ) -> Result<Turn<'state>, RecordError>
-    requires drawable { IsDrawable session }
+    requires drawable { IsDrawable session.value }
     requires all { end.flow ≡ GoOn → end.rest.now ≡ [] }
     requires said { (commit : ℕ) → end.flow ≡ Edit commit
-        → message_of session commit ≡ Some (message_text session commit) }
-    requires shown { (drawn : Session) × IsSceneOf (scene_of kind drawn) frame }
-    requires current { IsTrue end.is_kept → IsCurrent session frame }
+        → message_of session.value commit ≡ Some (message_text session.value commit) }
+    requires shown { (drawn : Session) × IsSceneOf (scene_of kind drawn) frame.value }
+    requires current { IsTrue end.is_kept → IsCurrent session.value frame.value }
     ensures ok { IfOk result (λ turn.
         (drawn : Session) (reads : List Read) (edits : List Reply) (frames : ℕ)
-        → IsSceneOf (scene_of kind drawn) frame
-        → Leads (point_by (live_setting kind reads edits) drawn session.entry frames
+        → IsSceneOf (scene_of kind drawn) frame.value
+        → Leads (point_by (live_setting kind reads edits) drawn session.entry.value frames
         end.entry.flow end.entry.rest.now) kind reads edits turn) }
     ensures err { IfErr result (λ e.
         (drawn : Session) (reads : List Read) (edits : List Reply) (frames : ℕ)
-        → IsSceneOf (scene_of kind drawn) frame
-        → Fails (point_by (live_setting kind reads edits) drawn session.entry frames
+        → IsSceneOf (scene_of kind drawn) frame.value
+        → Fails (point_by (live_setting kind reads edits) drawn session.entry.value frames
         end.entry.flow end.entry.rest.now) e) }
 {
     let mut session = session;
@@ -227,7 +227,7 @@ fn turn_after<'state>(
             let next = handle_each(&mut session, &frame, &pending)?;
             turn_after(session, frame, kind, next)
         }
-        Flow::Accept => Ok(Turn::Accepted(session.into_state())),
+        Flow::Accept => Ok(Turn::Accepted(Box::into_inner(session).into_state())),
         Flow::Cancel => Err(RecordError::Cancelled),
         Flow::Edit(commit) => {
             let rest = Vec::from_slice(session.allocator(), end.rest)?;
@@ -269,8 +269,8 @@ impl<'state> LiveSession<'state> {
         ensures ok { IfOk result (λ l. l ≡ record { session = start state.entry; kind = kind }) }
         ensures err { IfErr result (λ e. e ≡ OutOfMemory) }
     {
-        let session = ActiveSession::new(alloc, state)?;
-        let frame = DrawnFrame::new(alloc, kind)?;
+        let session = Box::new(alloc, ActiveSession::new(alloc, state)?)?;
+        let frame = Box::new(alloc, DrawnFrame::new(alloc, kind)?)?;
         wait(session, frame, kind, false)
     }
 
@@ -331,7 +331,7 @@ impl<'state> LiveSession<'state> {
         let mut frame = DrawnFrame::new(self.session.allocator(), kind)?;
         draw_anew(&mut self.session, &mut frame, false)?;
         self.session.begin_frame();
-        self.frame = frame;
+        *self.frame = frame;
         self.kind = kind;
         Ok(())
     }

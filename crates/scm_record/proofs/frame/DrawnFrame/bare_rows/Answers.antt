@@ -1,4 +1,4 @@
-use Rattle.std.proofs.Common.{◌≡◌, ℕ, ◌+◌, ◌-◌, ◌<◌, ◌≤◌, ◌^◌, ◌∙◌, true, ap, refl, sym, arith}
+use Rattle.std.proofs.Common.{◌≡◌, ◌+◌, ◌∙◌, true, ap, refl, sym, arith}
 use Rattle.std.specs.Prelude.{nat_le, nat_lt, ◌&&◌}
 use Rattle.std.proofs.lemmas.Bool.Decides.{nat_tests}
 use Rattle.std.proofs.lemmas.Bool.{and_parts}
@@ -6,8 +6,8 @@ use Rattle.scm_types.specs.Limits.{max_scroll}
 use Rattle.scm_record.proofs.FrameLemmas.{bare-hit}
 use Rattle.scm_record.proofs.frame.DrawnFrame.bare_rows.Goals as goal
 
-pub returns-in-Plain-then : goal.returns-in-Plain-then
-returns-in-Plain-then c = λ scene shown n below x.
+pub returns-then-ends_above : goal.returns-then-ends_above
+returns-then-ends_above c = λ scene shown n below x.
     let places = rw c.in-Plain.is at shown.places in
     let high : c.height.result ≡ scene.height = c.height.ensures.value ∙ shown.height in
     let scrolled = (and_parts (nat_lt c.args.row scene.height) (nat_le c.args.scroll max_scroll) (ap (λ h. nat_lt c.args.row h && nat_le c.args.scroll max_scroll) (sym shown.height) ∙ sym c.has_row.ensures.value ∙ c.if-not-has_row.false)).1 in

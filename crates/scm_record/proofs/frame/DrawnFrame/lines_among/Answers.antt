@@ -1,9 +1,8 @@
-use Rattle.std.proofs.Common.{◌≡◌, ℕ, ◌+◌, ◌-◌, ◌<◌, ◌≤◌, ◌∙◌, Some, true, ap, arith, refl, sym}
-use Rattle.std.specs.Prelude.{nat_le, nat_lt, ◌&&◌, min}
+use Rattle.std.proofs.Common.{◌≡◌, ◌+◌, ◌-◌, ◌<◌, ◌∙◌, true, ap, arith, refl, sym}
+use Rattle.std.specs.Prelude.{nat_le, nat_lt, ◌&&◌}
 use Rattle.std.proofs.lemmas.Bool.Decides.{nat_tests}
 use Rattle.std.proofs.lemmas.Bool.{and_parts}
 use Rattle.scm_types.specs.Limits.{max_scroll}
-use Rattle.scm_layout_index.specs.declared.line_rows.LineRows.{LineRows}
 use Rattle.scm_layout_index.specs.LineRows.{line_below}
 use Rattle.scm_record.proofs.FrameLemmas.{first-of, line-hit}
 use Rattle.scm_record.proofs.frame.DrawnFrame.lines_among.Goals as goal

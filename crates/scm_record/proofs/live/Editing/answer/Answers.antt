@@ -1,11 +1,12 @@
-use Rattle.std.proofs.Common.{sym, subst}
+use Rattle.std.proofs.Common.{◌∙◌, ap, sym, subst}
 use Rattle.std.proofs.lemmas.Result.{err_from_is_err_and, IfOk-weaker, IfErr-weaker}
 use Rattle.std.specs.Prelude.{string_bytes}
-use Rattle.scm_record.specs.Session.{IsDrawable}
-use Rattle.scm_record.specs.Frames.{scene_of}
+use Rattle.scm_record.specs.Session.{Session, IsDrawable, with_message}
+use Rattle.scm_record.specs.Frames.{IsSceneOf, scene_of}
 use Rattle.scm_record.specs.Live.{LiveEdit}
 use Rattle.scm_record.specs.LiveCalls.{live_setting}
 use Rattle.scm_record.proofs.AcceptedLemmas.{message-keeps-drawable}
+use Rattle.scm_record.proofs.HandleLemmas.{handles-same}
 use Rattle.scm_record.proofs.RunLemmas.{reaches-trans}
 use Rattle.scm_record.proofs.LiveLemmas.{leads-after, fails-after, fails-memory, says-on, says-too-long}
 use Rattle.scm_record.proofs.live.Editing.answer.Goals as goal
@@ -19,7 +20,8 @@ returns-then-not-is_short-clause-err c = λ drawn reads edits frames seen.
 pub handle_each-requires : goal.handle_each-requires
 handle_each-requires c =
     let shown = c.self.invariant.shown in
-    record { shown = (scene_of c.self.inside.kind shown.0, shown.1) }
+    let scene = scene_of c.self.inside.kind shown.0 in
+    record { shown = (scene, subst (IsSceneOf scene) (sym c.deref-2.ensures) shown.1) }
 
 pub returns-in_err-end-clause-err : goal.returns-in_err-end-clause-err
 returns-in_err-end-clause-err c =
@@ -28,9 +30,10 @@ returns-in_err-end-clause-err c =
 
 pub turn_after-requires-clause-drawable : goal.turn_after-requires-clause-drawable
 turn_after-requires-clause-drawable c =
+    let same = c.set_message.ensures ∙ ap (λ (s : Session). with_message s c.self.inside.commit (string_bytes c.args.text)) c.deref_mut.ensures.value in
     c.in_ok-end.ensures.ok.drawable
-    (subst IsDrawable (sym c.set_message.ensures)
-    (message-keeps-drawable c.self.inside.session c.self.inside.commit (string_bytes c.args.text) (sym c.if-not-is_short.ensures) c.self.invariant.drawable))
+    (subst IsDrawable (sym (c.deref_mut-2.ensures.value ∙ same))
+    (message-keeps-drawable c.self.inside.session.value c.self.inside.commit (string_bytes c.args.text) (sym c.if-not-is_short.ensures) c.self.invariant.drawable))
 
 pub turn_after-requires-clause-all : goal.turn_after-requires-clause-all
 turn_after-requires-clause-all c = c.in_ok-end.ensures.ok.all
@@ -43,24 +46,28 @@ turn_after-requires-clause-shown c = c.self.invariant.shown
 
 pub returns-clause-ok : goal.returns-clause-ok
 returns-clause-ok c =
-    let a : LiveEdit = record { session = c.self.inside.session; kind = c.self.inside.kind; commit = c.self.inside.commit; frame = c.self.inside.frame; rest = c.self.inside.rest.items } in
+    let same = c.set_message.ensures ∙ ap (λ (s : Session). with_message s c.self.inside.commit (string_bytes c.args.text)) c.deref_mut.ensures.value in
+    let handles = handles-same _ c.self.inside.frame.value _ _ c.set_message.new.self _ _ _ c.deref-2.ensures c.deref_mut-2.ensures.value c.in_ok-end.ensures.ok in
+    let a : LiveEdit = record { session = c.self.inside.session.value; kind = c.self.inside.kind; commit = c.self.inside.commit; frame = c.self.inside.frame.value; rest = c.self.inside.rest.items } in
     rw (sym c.self.view_is)
     (IfOk-weaker c.turn_after.result _ _ (λ turn leads drawn reads edits frames seen.
     leads-after _ _ a.kind reads edits turn
     (reaches-trans
-    (says-on a (string_bytes c.args.text) drawn reads edits frames c.set_message.new.self c.deref.result.now c.set_message.ensures c.deref.ensures.value c.if-not-is_short.ensures)
-    (c.in_ok-end.ensures.ok.reached (live_setting a.kind reads edits) drawn frames seen))
+    (says-on a (string_bytes c.args.text) drawn reads edits frames c.set_message.new.self c.deref-3.result.now same c.deref-3.ensures.value c.if-not-is_short.ensures)
+    (handles.reached (live_setting a.kind reads edits) drawn frames seen))
     (leads drawn reads edits frames seen))
     c.turn_after.ensures.ok)
 
 pub returns-clause-err : goal.returns-clause-err
 returns-clause-err c =
-    let a : LiveEdit = record { session = c.self.inside.session; kind = c.self.inside.kind; commit = c.self.inside.commit; frame = c.self.inside.frame; rest = c.self.inside.rest.items } in
+    let same = c.set_message.ensures ∙ ap (λ (s : Session). with_message s c.self.inside.commit (string_bytes c.args.text)) c.deref_mut.ensures.value in
+    let handles = handles-same _ c.self.inside.frame.value _ _ c.set_message.new.self _ _ _ c.deref-2.ensures c.deref_mut-2.ensures.value c.in_ok-end.ensures.ok in
+    let a : LiveEdit = record { session = c.self.inside.session.value; kind = c.self.inside.kind; commit = c.self.inside.commit; frame = c.self.inside.frame.value; rest = c.self.inside.rest.items } in
     rw (sym c.self.view_is)
     (IfErr-weaker c.turn_after.result _ _ (λ e fails drawn reads edits frames seen.
     fails-after _ _ e
     (reaches-trans
-    (says-on a (string_bytes c.args.text) drawn reads edits frames c.set_message.new.self c.deref.result.now c.set_message.ensures c.deref.ensures.value c.if-not-is_short.ensures)
-    (c.in_ok-end.ensures.ok.reached (live_setting a.kind reads edits) drawn frames seen))
+    (says-on a (string_bytes c.args.text) drawn reads edits frames c.set_message.new.self c.deref-3.result.now same c.deref-3.ensures.value c.if-not-is_short.ensures)
+    (handles.reached (live_setting a.kind reads edits) drawn frames seen))
     (fails drawn reads edits frames seen))
     c.turn_after.ensures.err)

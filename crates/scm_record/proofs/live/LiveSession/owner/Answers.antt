@@ -2,16 +2,19 @@ use Rattle.std.proofs.Common.{ℕ, ◌≤◌, Option, sym, ap, ◌∙◌, subst}
 use Rattle.scm_widgets.specs.declared.ids.ComponentId.{ComponentId}
 use Rattle.scm_record.specs.Clicks.{after_click}
 use Rattle.scm_types.specs.Limits.{max_scroll}
+use Rattle.scm_record.specs.Session.{Session}
 use Rattle.scm_record.specs.Live.{Live}
-use Rattle.scm_record.specs.Frames.{scene_of}
+use Rattle.scm_record.specs.Frames.{IsSceneOf, scene_of}
 use Rattle.scm_record.specs.FrameQueries.{hit}
 use Rattle.scm_record.proofs.LiveLemmas.{inline-owner}
 use Rattle.scm_record.proofs.live.LiveSession.owner.Goals as goal
 
 pub returns-clause-hit : goal.returns-clause-hit
 returns-clause-hit c =
-    let seen = scene_of c.self.inside.kind c.self.inside.session in
-    rw (sym c.self.view_is) (c.hit.ensures seen c.self.invariant.shown ∙ ap (λ (n : ℕ). hit seen n c.args.row c.args.column) c.scroll.ensures)
+    let seen = scene_of c.self.inside.kind c.self.inside.session.value in
+    rw (sym c.self.view_is) (
+    c.hit.ensures seen (subst (IsSceneOf seen) (sym c.deref.ensures) c.self.invariant.shown)
+    ∙ ap (λ (n : ℕ). hit seen n c.args.row c.args.column) (c.scroll.ensures ∙ ap (λ (s : Session). s.scroll) c.deref-2.ensures))
 
 pub returns-clause-acts : goal.returns-clause-acts
 returns-clause-acts c =

@@ -1,4 +1,4 @@
-use Rattle.std.proofs.Common.{◌≡◌, ℕ, ◌+◌, ◌<◌, Option, Some, ◌∙◌, ap, sym, subst, arith}
+use Rattle.std.proofs.Common.{◌≡◌, ℕ, ◌+◌, Option, Some, ◌∙◌, ap, sym, arith}
 use Rattle.std.proofs.lemmas.List.FromFn.{fill_by_all}
 use Rattle.scm_terminal.specs.Style.{plain_style}
 use Rattle.scm_types.specs.declared.keys.LineKey.{LineKey}
@@ -15,7 +15,7 @@ returns-in-Some c = λ scene shown.
     let filled = c.set_line_styles.ensures in
     let lines = c.in-Some.lines in
     let row : c.args.row + 0 ≡ c.args.row = omega arith in
-    let some = c.lines_among.ensures.some in
+    let some = rw c.in-Some.is at c.lines_among.ensures.some in
     fill_by_all (style_in scene c.args.view_state.now c.args.scroll c.args.row) c.set_line_styles.new.styles _ plain_style filled.length
     (λ k h.
     let first : hit scene c.args.scroll (c.args.row + 0) k ≡ Some (line_owner lines.first k) =
