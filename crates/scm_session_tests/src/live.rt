@@ -154,6 +154,15 @@ fn a_row_below_a_menu_shows_no_line(rt: HostRuntime) -> Result<(), RecordError> 
     Ok(())
 }
 
+/// A folded file has its header on row 1, and nothing is below it.
+#[test]
+fn rows_below_the_document_show_no_line(rt: HostRuntime) -> Result<(), RecordError> {
+    let session = session_of(&rt, rt.alloc(), HIGH, "t", "")?;
+    check_lines(&rt, &session, 1, None, 1);
+    check_lines(&rt, &session, 2, None, 4);
+    Ok(())
+}
+
 /// Returns the message of the first commit, or an empty text.
 fn message_in<'a>(state: &'a RecordState<'_>) -> &'a str {
     match state.commits.as_slice().first() {

@@ -46,10 +46,11 @@ fn check_spans(rt: &impl Abort, rows: &StateRows, whole: &FrameIndex, keys: &[Se
     }
 }
 
-/// Checks that both indexes answer alike of each place of row `row`, and that the runs of `index` have
-/// the owners of their first and last places.
+/// Checks that both indexes answer alike of each place of row `row`, that the runs of `index` have the owners
+/// of their first and last places, and that no place has an owner if all ends above the row.
 fn check_row(rt: &impl Abort, index: &LayoutIndex, whole: &FrameIndex, row: usize) {
     let owners = index.row_owners(row);
+    let is_below = index.ends_above(row);
     for column in 0..32 {
         let owner = whole.owner(row, column);
         let run = index.run_on(&owners, column);
@@ -58,6 +59,7 @@ fn check_row(rt: &impl Abort, index: &LayoutIndex, whole: &FrameIndex, row: usiz
         check_equal(rt, (place, index.owner(row, column)), (place, owner));
         check_equal(rt, (place, run.owner), (place, owner));
         check_equal(rt, (place, last), (place, owner));
+        check_equal(rt, (place, is_below && owner.is_some()), (place, false));
     }
 }
 
@@ -88,6 +90,7 @@ fn check_frame(
     for row in 0..50 {
         check_row(rt, &index, &whole, row);
     }
+    check_equal(rt, index.ends_above(usize::MAX), true);
     Ok(())
 }
 
