@@ -7,9 +7,9 @@ use Rattle.scm_widgets.specs.declared.ids.ComponentId.{ComponentId}
 use Rattle.scm_document.specs.declared.section_view.SectionView.{SectionView}
 use Rattle.scm_widgets.specs.Boxes.{IdBox}
 use Rattle.scm_document.specs.Rows.{Heading, DocRow, SectionRow, MarkRow, ShownSection, ShownFile, is_selected, section_box, section_heading}
-use Rattle.scm_document.specs.Pictures.{title_picture, heading_picture, changed_picture, context_picture, row_picture, rows_picture, sections_picture, beside_button, button_row_picture, message_picture, mask_row, pinned_header, pinned_picture, one_file_picture, files_picture, no_files_picture, body_picture}
+use Rattle.scm_document.specs.Pictures.{title_picture, heading_picture, changed_picture, context_picture, row_picture, sections_picture, beside_button, button_row_picture, message_picture, mask_row, pinned_header, pinned_picture, one_file_picture, files_picture, no_files_picture, body_picture}
 use Rattle.scm_widgets.specs.Counts.{drawn, on_row}
-use Rattle.scm_document.specs.Counts.{row_counts, rows_counts, header_counts, sections_counts, file_counts, pinned_counts, files_counts, message_counts, no_files_counts, body_counts}
+use Rattle.scm_document.specs.Counts.{row_counts, header_counts, sections_counts, file_counts, pinned_counts, files_counts, message_counts, no_files_counts, body_counts}
 
 -- a draw call with component ids
 abbrev pub IdCall : Type 0
@@ -70,13 +70,6 @@ section_header_call view x y = row_call (SectionRow (is_selected view) (section_
 -- the only row of a `FileMode` or `Binary` section
 abbrev pub mark_call : SectionView → Bool → List ℕ → ℤ → ℤ → IdCall
 mark_call view checked text x y = row_call (MarkRow (is_selected view) (section_box view checked) text) x y
-
--- rows from row y on
-abbrev pub rows_call : List DocRow → ℤ → ℤ → IdCall
-rows_call rows x y = record {
-  picture = λ sight. rows_picture rows sight x y;
-  counts = λ sight. rows_counts rows sight.rect y;
-}
 
 -- sections from row y on
 abbrev pub sections_call : List ShownSection → ℤ → ℤ → IdCall
