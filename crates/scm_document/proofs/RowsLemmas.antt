@@ -15,7 +15,7 @@ use Rattle.scm_document.specs.declared.section_line_view.SectionLineViewInner.{S
 use Rattle.scm_document.specs.declared.section_line_view.SectionLineViewInner.TheVariants as inner
 use Rattle.scm_widgets.specs.Boxes.{IdBox}
 use Rattle.scm_document.specs.Rows.{DocRow, HeaderRow, SectionRow, BlankRow, numbered_row, numbered_rows, rows_of_lines, view_row, line_id}
-use Rattle.scm_widgets.specs.Pictures.{IdPicture, rest_of_row, box_picture}
+use Rattle.scm_widgets.specs.Pictures.{IdPicture, rest_of_row, whole_row, box_picture}
 use Rattle.scm_document.specs.Pictures.{inner_picture, line_picture, row_picture, rows_picture, changed_picture, context_picture}
 use Rattle.scm_render.proofs.StepLemmas.{span-place, text-place, InRange-fits}
 use Rattle.scm_document.proofs.HeadingLemmas.{heading-rect}
@@ -53,6 +53,16 @@ inner-picture k (inner.Changed b change l) s x y = refl
 pub view_row-picture : (w : SectionLineView) (s : Sight) (x y : ℤ) → row_picture (view_row w) s x y ≡ followed_by (covering (rest_of_row s x y)) (part (line_id w.line_key) (line_picture w s (x +ℤ pos 2) y))
 unfolding line_picture
 view_row-picture w s x y = inner-picture w.line_key w.inner s x y
+
+inner-cover : (i : SectionLineViewInner) (s : Sight) (x y : ℤ) → PictureInRange (inner_picture i s x y) → PictureInRange {K = ComponentId} (covering (whole_row s y))
+unfolding changed_picture context_picture
+inner-cover (inner.Unchanged l n) s x y r = PictureInRange-left _ _ r
+inner-cover (inner.Changed b change l) s x y r = PictureInRange-left _ _ r
+
+-- the row that a line covers is in range
+pub line-cover : (w : SectionLineView) (s : Sight) (x y : ℤ) → PictureInRange (line_picture w s x y) → PictureInRange {K = ComponentId} (covering (whole_row s y))
+unfolding line_picture
+line-cover w s x y r = inner-cover w.inner s x y r
 
 inner-place : (i : SectionLineViewInner) (s : Sight) (x y : ℤ) → PictureInRange (inner_picture i s x y) → InRange x
 inner-place (inner.Unchanged l n) s x y r = context-place _ s x y r
