@@ -43,10 +43,6 @@ on_row-plus v y a b = elim (has_row v y) as (λ t. plus (if t then a else no_cou
 pub on_row-then : (c d e : Counts) (v w : Rect) (y : ℤ) (a b : Counts) → w ≡ v → d ≡ added c (on_row v y a) → e ≡ added d (on_row w y b) → e ≡ added c (on_row v y (plus a b))
 on_row-then c d e v w y a b s p q = counts-then c d e (on_row v y a) (on_row v y b) p (q ∙ ap (λ r. added d (on_row r y b)) s) ∙ ap (added c) (on_row-plus v y a b)
 
-pub on_row-three : (c d e f : Counts) (v w u : Rect) (y : ℤ) (a b g : Counts) → w ≡ v → u ≡ w → d ≡ added c (on_row v y a) → e ≡ added d (on_row w y b) → f ≡ added e (on_row u y g)
-    → f ≡ added c (on_row v y (plus (plus a b) g))
-on_row-three c d e f v w u y a b g s t p q r = on_row-then c e f v u y (plus a b) g (t ∙ s) (on_row-then c d e v w y a b s p q) r
-
 -- ---- rows below one another
 
 -- the row of a line counts what the line's component does

@@ -1,4 +1,4 @@
-use Rattle.std.proofs.Common.{rules, List, ℕ, FitsSigned, w64}
+use Rattle.std.proofs.Common.{List, ℕ, FitsSigned, w64}
 use Rattle.std.specs.Prelude.{ℤ, pos, ◌+ℤ◌}
 use Rattle.std.proofs.lemmas.Int.{to_z-of_z}
 use Rattle.scm_types.specs.declared.line.ChangeType.{ChangeType}
@@ -8,8 +8,8 @@ use Rattle.scm_render.proofs.PictureLemmas.{PictureInRange-left, PictureInRange-
 use Rattle.scm_document.specs.Rows.{line_texts}
 use Rattle.scm_document.specs.Texts.{sign_text}
 use Rattle.scm_widgets.specs.Pictures.{IdPicture}
-use Rattle.scm_render.proofs.StepLemmas.{step, rest, text-place, InRange-fits}
-use Rattle.scm_document.proofs.CountLemmas.{on_row-then}
+use Rattle.scm_render.proofs.StepLemmas.{rest, text-place, InRange-fits}
+use Rattle.scm_document.proofs.CallLemmas.{in-turn}
 use Rattle.scm_document.proofs.section_line_view.draw_changed_line.Goals as goal
 
 abbrev texts : ChangeType → List ℕ → ℤ → ℤ → Sight → IdPicture
@@ -34,11 +34,4 @@ returns c =
     let fx : FitsSigned w64 c.args.x = c.ranges.x in
     let fy : FitsSigned w64 c.args.y = c.ranges.y in
     let wide : FitsSigned w64 (c.args.x +ℤ pos 4) = InRange-fits _ (text-place _ _ _ _ (PictureInRange-right _ _ c.requires)).0 in
-    let toggle = simp to_z-of_z at c.in_ok-show_box.ensures.ok in
-    let drawn = rw c.sign_text.ensures at (simp to_z-of_z at c.in_ok-draw_line_texts.ensures.ok) in
-    record {
-      ok = step _ _ _ _ (texts c.args.change_type c.args.line.now c.args.x c.args.y) toggle drawn;
-      counts = on_row-then _ _ _ _ _ _ _ _ c.in_ok-show_box.ensures.rect (simp to_z-of_z at c.in_ok-show_box.ensures.counts) (simp to_z-of_z at c.in_ok-draw_line_texts.ensures.counts);
-      rect = search rules;
-      err = search rules;
-    }
+    in-turn _ (texts c.args.change_type c.args.line.now c.args.x c.args.y) _ _ _ (simp to_z-of_z at c.in_ok-show_box.ensures) (rw c.sign_text.ensures at (simp to_z-of_z at c.in_ok-draw_line_texts.ensures))
