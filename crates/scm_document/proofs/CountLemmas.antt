@@ -43,19 +43,7 @@ on_row-plus v y a b = elim (has_row v y) as (λ t. plus (if t then a else no_cou
 pub on_row-then : (c d e : Counts) (v w : Rect) (y : ℤ) (a b : Counts) → w ≡ v → d ≡ added c (on_row v y a) → e ≡ added d (on_row w y b) → e ≡ added c (on_row v y (plus a b))
 on_row-then c d e v w y a b s p q = counts-then c d e (on_row v y a) (on_row v y b) p (q ∙ ap (λ r. added d (on_row r y b)) s) ∙ ap (added c) (on_row-plus v y a b)
 
-pub on_row-three : (c d e f : Counts) (v w u : Rect) (y : ℤ) (a b g : Counts) → w ≡ v → u ≡ w → d ≡ added c (on_row v y a) → e ≡ added d (on_row w y b) → f ≡ added e (on_row u y g)
-    → f ≡ added c (on_row v y (plus (plus a b) g))
-on_row-three c d e f v w u y a b g s t p q r = on_row-then c e f v u y (plus a b) g (t ∙ s) (on_row-then c d e v w y a b s p q) r
-
 -- ---- rows below one another
-
-pub rows_counts-more : (rows : List DocRow) (r : DocRow) (rs : List DocRow) (v : Rect) (y : ℤ) → rows ≡ r ∷ rs → rows_counts rows v y ≡ plus (row_counts r v y) (rows_counts rs v (y +ℤ pos 1))
-unfolding rows_counts
-rows_counts-more rows r rs v y e = rw e refl
-
-pub rows_counts-end : (rows : List DocRow) (v : Rect) (y : ℤ) → rows ≡ [] → rows_counts rows v y ≡ no_counts
-unfolding rows_counts
-rows_counts-end rows v y e = rw e refl
 
 -- the row of a line counts what the line's component does
 view_row-calls : (w : SectionLineView) → row_calls (view_row w) ≡ line_calls w.inner
@@ -67,10 +55,6 @@ view_row-calls w = go w.line_key w.inner
 
 pub view_row-counts : (w : SectionLineView) (v : Rect) (y : ℤ) → row_counts (view_row w) v y ≡ line_counts w.inner v y
 view_row-counts w v y = ap (λ n. on_row v y (drawn 1 n)) (view_row-calls w)
-
-pub rows_counts-one : (r : DocRow) (v : Rect) (y : ℤ) → rows_counts (r ∷ []) v y ≡ row_counts r v y
-unfolding rows_counts
-rows_counts-one r v y = plus-none (row_counts r v y)
 
 pub rows_counts-append : (rs qs : List DocRow) (v : Rect) (y : ℤ) → rows_counts (rs ++ qs) v y ≡ plus (rows_counts rs v y) (rows_counts qs v (y +ℤ pos (length rs)))
 unfolding rows_counts
@@ -110,20 +94,6 @@ unfolding files_counts
 files_counts-end files i v row y h = rw (drop_all i files h) refl
 
 -- ---- calls that draw rows
-
--- a row, and below it others
-pub row-counted : (c d e : Counts) (v w : Rect) (r : DocRow) (rs : List DocRow) (y : ℤ) → w ≡ v → d ≡ added c (row_counts r v y) → e ≡ added d (rows_counts rs w (y +ℤ pos 1)) → e ≡ added c (rows_counts (r ∷ rs) v y)
-unfolding rows_counts
-row-counted c d e v w r rs y s p q = counts-then c d e (row_counts r v y) (rows_counts rs v (y +ℤ pos 1)) p (q ∙ ap (λ u. added d (rows_counts rs u (y +ℤ pos 1))) s)
-
-pub row-counted-alone : (c d : Counts) (v : Rect) (r : DocRow) (y : ℤ) → d ≡ added c (row_counts r v y) → d ≡ added c (rows_counts (r ∷ []) v y)
-row-counted-alone c d v r y p = p ∙ ap (added c) (sym (rows_counts-one r v y))
-
--- rows, and below them others
-pub rows-counted : (c d e : Counts) (v w : Rect) (rs qs : List DocRow) (n : ℕ) (y : ℤ) → length rs ≡ n → w ≡ v → d ≡ added c (rows_counts rs v y) → e ≡ added d (rows_counts qs w (y +ℤ pos n)) → e ≡ added c (rows_counts (rs ++ qs) v y)
-rows-counted c d e v w rs qs n y l s p q =
-    counts-then c d e (rows_counts rs v y) (rows_counts qs v (y +ℤ pos n)) p (q ∙ ap (λ u. added d (rows_counts qs u (y +ℤ pos n))) s)
-    ∙ ap (λ k. added c (plus (rows_counts rs v y) (rows_counts qs v (y +ℤ pos k)))) (sym l) ∙ ap (added c) (sym (rows_counts-append rs qs v y))
 
 -- the rows of a message
 pub message-counted : (c p q d e f : Counts) (v : Rect) (y : ℤ) (text : List ℕ) → p ≡ added c (on_row v y (drawn 1 0)) → q ≡ added p (on_row v y (drawn 0 1)) → d ≡ added q (on_row v (y +ℤ pos 1) (drawn 1 3))

@@ -6,6 +6,8 @@ pub mod HeadingLemmas
 pub mod WidthLemmas
 pub mod CountLemmas
 pub mod RowsLemmas
+-- Draw calls on one row, in turn.
+mod CallLemmas
 pub mod SectionsLemmas
 pub mod FilesLemmas
 pub mod NearLemmas

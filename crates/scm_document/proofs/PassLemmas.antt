@@ -1,14 +1,14 @@
--- Rows off the screen, which drawing passes over where no boxes are kept: changed lines.
-use Rattle.std.proofs.Common.{◌≡◌, ℕ, suc, ◌+◌, ◌-◌, ◌<◌, ◌≤◌, List, [], ◌∷◌, ◌++◌, length, append_assoc, take, drop, refl, sym, ap, ap₂, ◌∙◌, arith, true, false, FitsSigned, w64}
+-- Rows off the screen, which drawing passes over where no boxes are kept.
+use Rattle.std.proofs.Common.{◌≡◌, ℕ, suc, ◌+◌, ◌-◌, ◌<◌, ◌≤◌, List, [], ◌∷◌, ◌++◌, length, append_assoc, take, drop, get_or, refl, sym, ap, ap₂, ◌∙◌, arith, true, false, FitsSigned, w64}
 use Rattle.std.specs.Prelude.{ℤ, pos, ◌+ℤ◌, ◌<ℤ◌, ◌≤ℤ◌, Option, Some, None, if◌then◌else◌}
 use Rattle.std.specs.Option.{is_some}
-use Rattle.std.proofs.lemmas.List.{length-take, length-drop, take-append-drop}
+use Rattle.std.proofs.lemmas.List.{drop_all, drop_more, get_or-take, length-take, length-drop, take-append-drop}
 use Rattle.scm_cells.proofs.RectLemmas.{places}
 use Rattle.scm_cells.specs.Rect.{end_y_of}
 use Rattle.std.proofs.lemmas.Int.{ints}
 use Rattle.scm_cells.specs.Counts.{Counts, no_counts, plus, added}
 use Rattle.scm_cells.specs.declared.rect.Rect.{Rect}
-use Rattle.scm_render.specs.Picture.{Put, Box, PictureInRange, followed_by, covering, part}
+use Rattle.scm_render.specs.Picture.{Put, Box, PictureInRange, nothing, followed_by, covering, part}
 use Rattle.scm_render.specs.Canvas.{Row, Sight, Canvas, kept, paint, with_picture, under}
 use Rattle.scm_render.specs.ToDraw.{rows_above, first_to_draw, end_to_draw}
 use Rattle.scm_render.specs.Drawing.{reach, has_row, row_rect, span_picture, text_picture, blank_picture}
@@ -19,13 +19,13 @@ use Rattle.scm_render.proofs.PictureLemmas.{PictureInRange-left, PictureInRange-
 use Rattle.scm_render.proofs.RowLemmas.{OneRow, not_seen, one_text, one_said}
 use Rattle.scm_render.proofs.FillLemmas.{one_blank}
 use Rattle.scm_widgets.specs.declared.ids.ComponentId.{ComponentId}
-use Rattle.scm_document.specs.Rows.{Heading, DocRow, HeaderRow, SectionRow, LineRow, MarkRow, ContextRow, DotsRow, BlankRow, changed_row, changed_rows, rows_of_lines}
-use Rattle.scm_types.specs.declared.line.SectionChangedLine.{SectionChangedLine}
-use Rattle.scm_document.specs.declared.section_view.SectionView.{SectionView}
+use Rattle.scm_document.specs.Rows.{Heading, DocRow, HeaderRow, SectionRow, LineRow, MarkRow, ContextRow, DotsRow, BlankRow, section_height, section_rows}
 use Rattle.scm_widgets.specs.Pictures.{box_picture, fold_column, to_end}
 use Rattle.scm_document.specs.Pictures.{heading_picture, title_picture, changed_picture, context_picture, heading_mask, heading_width, row_picture, rows_picture}
 use Rattle.scm_document.specs.Counts.{row_counts, rows_counts}
-use Rattle.scm_document.proofs.RowsLemmas.{length-lines, rows_picture-append, rows-fit}
+use Rattle.scm_document.proofs.RowsLemmas.{rows_picture-append, rows-fit}
+use Rattle.scm_document.specs.declared.section_view.SectionView.{SectionView}
+use Rattle.scm_document.proofs.SectionsLemmas.{section-size}
 use Rattle.scm_document.proofs.CountLemmas.{plus-none, none-plus, rows_counts-append}
 use Rattle.scm_widgets.proofs.HiddenLemmas.{painted-same, on-screen, no-reach, on_row-hidden}
 use Rattle.scm_document.proofs.StripLemmas.{no-highlight}
@@ -128,140 +128,142 @@ passed-below-by : (b : Option (List (Box ComponentId))) (v : Rect) (y : ℤ) (n 
 passed-below-by None v y n end e k l = (refl, behind-screen v ((y +ℤ pos end) +ℤ pos k) (omega (arith, places, e, l)))
 passed-below-by (Some bs) v y n end e k l = absurd (omega (arith, e, l))
 
--- ---- changed lines: only a range of them is drawn
+-- ---- rows of which only a range is drawn
 
-changed-append : (v : SectionView) (i : ℕ) (ls ms : List SectionChangedLine) → changed_rows v i (ls ++ ms) ≡ changed_rows v i ls ++ changed_rows v (i + length ls) ms
-unfolding rows_of_lines
-changed-append v i [] ms = let same : i ≡ i + 0 = omega arith in ap (λ n. changed_rows v n ms) same
-changed-append v i (l ∷ ls) ms =
-    let next : suc i + length ls ≡ i + suc (length ls) = omega arith in
-    ap (λ rs. changed_row v i l ∷ rs) (changed-append v (suc i) ls ms ∙ ap (λ n. changed_rows v (suc i) ls ++ changed_rows v n ms) next)
-
--- where the lines are cut, and how long the parts are
+-- where rows are cut, and how long the parts are
 pub record AreCut (first end n : ℕ) : Type 0 where
   pub low : first ≤ end
   pub high : end ≤ n
 
-abbrev pub above_rows : SectionView → List SectionChangedLine → ℕ → ℕ → List DocRow
-above_rows v ls first end = changed_rows v 0 (take first (take end ls))
+-- the rows first..end
+abbrev pub rows_among : List DocRow → ℕ → ℕ → List DocRow
+rows_among rs first end = drop first (take end rs)
 
-abbrev pub seen_rows : SectionView → List SectionChangedLine → ℕ → ℕ → List DocRow
-seen_rows v ls first end = changed_rows v first (drop first (take end ls))
+rows-cut : (rs : List DocRow) (first end : ℕ) → rs ≡ take first (take end rs) ++ (rows_among rs first end ++ drop end rs)
+rows-cut rs first end =
+    sym (take-append-drop end rs) ∙ ap (λ qs. qs ++ drop end rs) (sym (take-append-drop first (take end rs)))
+    ∙ append_assoc (take first (take end rs)) (rows_among rs first end) (drop end rs)
 
-abbrev pub below_rows : SectionView → List SectionChangedLine → ℕ → List DocRow
-below_rows v ls end = changed_rows v end (drop end ls)
+length-above : (rs : List DocRow) (first end : ℕ) → AreCut first end (length rs) → length (take first (take end rs)) ≡ first
+length-above rs first end a = length-take first (take end rs) ∙ omega (arith, a.low, a.high, length-take end rs)
 
-taken : (ls : List SectionChangedLine) (first end : ℕ) → AreCut first end (length ls) → (length (take end ls) ≡ end) × (length (take first (take end ls)) ≡ first)
-taken ls first end a =
-    let ends : length (take end ls) ≡ end = length-take end ls ∙ omega (arith, a.high) in
-    (ends, length-take first (take end ls) ∙ omega (arith, ends, a.low))
-
-length-above : (v : SectionView) (ls : List SectionChangedLine) (first end : ℕ) → AreCut first end (length ls) → length (above_rows v ls first end) ≡ first
-length-above v ls first end a = length-lines (changed_row v) 0 (take first (take end ls)) ∙ (taken ls first end a).1
-
-length-seen : (v : SectionView) (ls : List SectionChangedLine) (first end : ℕ) → AreCut first end (length ls) → length (seen_rows v ls first end) ≡ end - first
-length-seen v ls first end a =
-    length-lines (changed_row v) first (drop first (take end ls)) ∙ length-drop first (take end ls) ∙ ap (λ n. n - first) (taken ls first end a).0
-
-length-below : (v : SectionView) (ls : List SectionChangedLine) (end : ℕ) → length (below_rows v ls end) ≡ length ls - end
-length-below v ls end = length-lines (changed_row v) end (drop end ls) ∙ length-drop end ls
-
-changed-split : (v : SectionView) (ls : List SectionChangedLine) (n : ℕ) → length (take n ls) ≡ n → changed_rows v 0 ls ≡ changed_rows v 0 (take n ls) ++ changed_rows v n (drop n ls)
-changed-split v ls n h =
-    let last : 0 + length (take n ls) ≡ n = omega (arith, h) in
-    ap (changed_rows v 0) (sym (take-append-drop n ls)) ∙ changed-append v 0 (take n ls) (drop n ls)
-    ∙ ap (λ k. changed_rows v 0 (take n ls) ++ changed_rows v k (drop n ls)) last
-
-changed-cut : (v : SectionView) (ls : List SectionChangedLine) (first end : ℕ) → AreCut first end (length ls)
-    → changed_rows v 0 ls ≡ above_rows v ls first end ++ (seen_rows v ls first end ++ below_rows v ls end)
-changed-cut v ls first end a =
-    let sizes = taken ls first end a in
-    let inner : changed_rows v 0 (take end ls) ≡ above_rows v ls first end ++ seen_rows v ls first end = changed-split v (take end ls) first sizes.1 in
-    let outer : changed_rows v 0 ls ≡ changed_rows v 0 (take end ls) ++ below_rows v ls end = changed-split v ls end sizes.0 in
-    outer ∙ ap (λ rs. rs ++ below_rows v ls end) inner ∙ append_assoc (above_rows v ls first end) (seen_rows v ls first end) (below_rows v ls end)
+length-among : (rs : List DocRow) (first end : ℕ) → AreCut first end (length rs) → length (rows_among rs first end) ≡ end - first
+length-among rs first end a = length-drop first (take end rs) ∙ omega (arith, a.low, a.high, length-take end rs)
 
 cut-end : (y : ℤ) (first end n : ℕ) → n ≡ end - first → first ≤ end → (y +ℤ pos first) +ℤ pos n ≡ y +ℤ pos end
 cut-end y first end n e h = omega (arith, ints, e, h)
 
-lines-picture : (v : SectionView) (ls : List SectionChangedLine) (s : Sight) (x y : ℤ) (first end : ℕ) → AreCut first end (length ls)
-    → rows_picture (changed_rows v 0 ls) s x y
-    ≡ followed_by (rows_picture (above_rows v ls first end) s x y)
-    (followed_by (rows_picture (seen_rows v ls first end) s x (y +ℤ pos first)) (rows_picture (below_rows v ls end) s x (y +ℤ pos end)))
-lines-picture v ls s x y first end a =
-    let up = above_rows v ls first end in
-    let mid = seen_rows v ls first end in
-    let low = below_rows v ls end in
-    ap (λ rs. rows_picture rs s x y) (changed-cut v ls first end a) ∙ rows_picture-append up (mid ++ low) s x y
-    ∙ ap (λ n. followed_by (rows_picture up s x y) (rows_picture (mid ++ low) s x (y +ℤ pos n))) (length-above v ls first end a)
+rows-picture : (rs : List DocRow) (s : Sight) (x y : ℤ) (first end : ℕ) → AreCut first end (length rs)
+    → rows_picture rs s x y
+    ≡ followed_by (rows_picture (take first (take end rs)) s x y)
+    (followed_by (rows_picture (rows_among rs first end) s x (y +ℤ pos first)) (rows_picture (drop end rs) s x (y +ℤ pos end)))
+rows-picture rs s x y first end a =
+    let up = take first (take end rs) in
+    let mid = rows_among rs first end in
+    let low = drop end rs in
+    ap (λ qs. rows_picture qs s x y) (rows-cut rs first end) ∙ rows_picture-append up (mid ++ low) s x y
+    ∙ ap (λ n. followed_by (rows_picture up s x y) (rows_picture (mid ++ low) s x (y +ℤ pos n))) (length-above rs first end a)
     ∙ ap (followed_by (rows_picture up s x y)) (rows_picture-append mid low s x (y +ℤ pos first)
-    ∙ ap (λ z. followed_by (rows_picture mid s x (y +ℤ pos first)) (rows_picture low s x z)) (cut-end y first end (length mid) (length-seen v ls first end a) a.low))
+    ∙ ap (λ z. followed_by (rows_picture mid s x (y +ℤ pos first)) (rows_picture low s x z)) (cut-end y first end (length mid) (length-among rs first end a) a.low))
 
-lines-counts : (v : SectionView) (ls : List SectionChangedLine) (r : Rect) (y : ℤ) (first end : ℕ) → AreCut first end (length ls)
-    → rows_counts (changed_rows v 0 ls) r y
-    ≡ plus (rows_counts (above_rows v ls first end) r y) (plus (rows_counts (seen_rows v ls first end) r (y +ℤ pos first)) (rows_counts (below_rows v ls end) r (y +ℤ pos end)))
-lines-counts v ls r y first end a =
-    let up = above_rows v ls first end in
-    let mid = seen_rows v ls first end in
-    let low = below_rows v ls end in
-    ap (λ rs. rows_counts rs r y) (changed-cut v ls first end a) ∙ rows_counts-append up (mid ++ low) r y
-    ∙ ap (λ n. plus (rows_counts up r y) (rows_counts (mid ++ low) r (y +ℤ pos n))) (length-above v ls first end a)
+rows-counts : (rs : List DocRow) (r : Rect) (y : ℤ) (first end : ℕ) → AreCut first end (length rs)
+    → rows_counts rs r y
+    ≡ plus (rows_counts (take first (take end rs)) r y) (plus (rows_counts (rows_among rs first end) r (y +ℤ pos first)) (rows_counts (drop end rs) r (y +ℤ pos end)))
+rows-counts rs r y first end a =
+    let up = take first (take end rs) in
+    let mid = rows_among rs first end in
+    let low = drop end rs in
+    ap (λ qs. rows_counts qs r y) (rows-cut rs first end) ∙ rows_counts-append up (mid ++ low) r y
+    ∙ ap (λ n. plus (rows_counts up r y) (rows_counts (mid ++ low) r (y +ℤ pos n))) (length-above rs first end a)
     ∙ ap (plus (rows_counts up r y)) (rows_counts-append mid low r (y +ℤ pos first)
-    ∙ ap (λ z. plus (rows_counts mid r (y +ℤ pos first)) (rows_counts low r z)) (cut-end y first end (length mid) (length-seen v ls first end a) a.low))
+    ∙ ap (λ z. plus (rows_counts mid r (y +ℤ pos first)) (rows_counts low r z)) (cut-end y first end (length mid) (length-among rs first end a) a.low))
 
 cut-by : (b : Option (List (Box ComponentId))) (v : Rect) (y : ℤ) (n first end : ℕ) → first ≡ (if is_some b then 0 else rows_above y v.y n) → end ≡ (if is_some b then n else rows_above y (end_y_of v) n)
     → AreCut first end n
 cut-by None v y n first end p q = record { low = omega (arith, places, p, q); high = omega (arith, places, q) }
 cut-by (Some bs) v y n first end p q = record { low = omega (arith, p); high = omega (arith, q) }
 
--- the cuts that the rows to draw make
-pub cut-at : (c : Canvas ComponentId) (y : ℤ) (n first end : ℕ) → first ≡ first_to_draw c y n → end ≡ end_to_draw c y n → AreCut first end n
-cut-at c y n first end p q = cut-by c.boxes c.sight.rect y n first end p q
+-- the rows first..end are those to draw of n rows from row y on
+pub record AreToDraw (c : Canvas ComponentId) (y : ℤ) (n first end : ℕ) : Type 0 where
+  pub start : first ≡ first_to_draw c y n
+  pub stop : end ≡ end_to_draw c y n
 
-pub lines-in : (v : SectionView) (ls : List SectionChangedLine) (s : Sight) (x y : ℤ) (first end : ℕ) → AreCut first end (length ls)
-    → PictureInRange (rows_picture (changed_rows v 0 ls) s x y) → PictureInRange (rows_picture (seen_rows v ls first end) s x (y +ℤ pos first))
-lines-in v ls s x y first end a r = PictureInRange-left _ _ (PictureInRange-right _ _ (rw (lines-picture v ls s x y first end a) at r))
+pub to-draw : (v : SectionView) (c : Canvas ComponentId) (y : ℤ) (n first end : ℕ) → n ≡ section_height v v.section.now → first ≡ first_to_draw c y n → end ≡ end_to_draw c y n
+    → AreToDraw c y (length (section_rows v)) first end
+to-draw v c y n first end e p q = rw (section-size v, sym e) (record { start = p; stop = q })
 
-pub lines-fit : (v : SectionView) (ls : List SectionChangedLine) (s : Sight) (x y : ℤ) (first end : ℕ) → AreCut first end (length ls) → FitsSigned w64 y
-    → PictureInRange (rows_picture (changed_rows v 0 ls) s x y) → FitsSigned w64 (y +ℤ pos first)
-lines-fit v ls s x y first end a f r =
-    rw (length-above v ls first end a) at (rows-fit (above_rows v ls first end) s x y f (PictureInRange-left _ _ (rw (lines-picture v ls s x y first end a) at r)))
+pub cut-at : (c : Canvas ComponentId) (y : ℤ) (n first end : ℕ) → AreToDraw c y n first end → AreCut first end n
+cut-at c y n first end a = cut-by c.boxes c.sight.rect y n first end a.start a.stop
+
+pub among-in : (rs : List DocRow) (s : Sight) (x y : ℤ) (first end : ℕ) → AreCut first end (length rs)
+    → PictureInRange (rows_picture rs s x y) → PictureInRange (rows_picture (rows_among rs first end) s x (y +ℤ pos first))
+among-in rs s x y first end a r = PictureInRange-left _ _ (PictureInRange-right _ _ (rw (rows-picture rs s x y first end a) at r))
+
+pub among-fits : (rs : List DocRow) (s : Sight) (x y : ℤ) (first end : ℕ) → AreCut first end (length rs) → FitsSigned w64 y
+    → PictureInRange (rows_picture rs s x y) → FitsSigned w64 (y +ℤ pos first)
+among-fits rs s x y first end a f r =
+    rw (length-above rs first end a) at (rows-fit (take first (take end rs)) s x y f (PictureInRange-left _ _ (rw (rows-picture rs s x y first end a) at r)))
+
+among-more : (rs : List DocRow) (i end : ℕ) → i < end → end ≤ length rs → rows_among rs i end ≡ get_or rs i BlankRow ∷ rows_among rs (i + 1) end
+among-more rs i end h e =
+    drop_more (take end rs) i BlankRow (omega (arith, h, e, length-take end rs)) ∙ ap (λ r. r ∷ rows_among rs (i + 1) end) (get_or-take end rs i BlankRow h)
+
+among-end : (rs : List DocRow) (i end : ℕ) → end ≤ i → rows_among rs i end ≡ []
+among-end rs i end h = drop_all i (take end rs) (omega (arith, h, length-take end rs))
+
+-- the first of these rows, and those below it
+pub picture-more : (rs : List DocRow) (i end : ℕ) (s : Sight) (x y : ℤ) → i < end → end ≤ length rs
+    → rows_picture (rows_among rs i end) s x y ≡ followed_by (row_picture (get_or rs i BlankRow) s x y) (rows_picture (rows_among rs (i + 1) end) s x (y +ℤ pos 1))
+unfolding rows_picture
+picture-more rs i end s x y h e = rw (among-more rs i end h e) refl
+
+pub picture-end : (rs : List DocRow) (i end : ℕ) (s : Sight) (x y : ℤ) → end ≤ i → rows_picture (rows_among rs i end) s x y ≡ nothing
+unfolding rows_picture
+picture-end rs i end s x y h = rw (among-end rs i end h) refl
+
+pub counted-more : (rs : List DocRow) (i end : ℕ) (r : Rect) (y : ℤ) → i < end → end ≤ length rs
+    → rows_counts (rows_among rs i end) r y ≡ plus (row_counts (get_or rs i BlankRow) r y) (rows_counts (rows_among rs (i + 1) end) r (y +ℤ pos 1))
+unfolding rows_counts
+counted-more rs i end r y h e = rw (among-more rs i end h e) refl
+
+pub counted-end : (rs : List DocRow) (i end : ℕ) (r : Rect) (y : ℤ) → end ≤ i → rows_counts (rows_among rs i end) r y ≡ no_counts
+unfolding rows_counts
+counted-end rs i end r y h = rw (among-end rs i end h) refl
 
 kept-none : (bs : Option (List (Box ComponentId))) (cs : List (Box ComponentId)) → bs ≡ None → kept bs cs ≡ None
 kept-none bs cs e = rw e refl
 
--- the lines to draw are drawn, and the others passed over
-pub lines-drawn : (c d : Canvas ComponentId) (v : SectionView) (ls : List SectionChangedLine) (x y : ℤ) (first end : ℕ) → length c.rows ≡ c.sight.rect.height
-    → first ≡ first_to_draw c y (length ls) → end ≡ end_to_draw c y (length ls)
-    → d ≡ with_picture c (rows_picture (seen_rows v ls first end) c.sight x (y +ℤ pos first)) → d ≡ with_picture c (rows_picture (changed_rows v 0 ls) c.sight x y)
-lines-drawn c d v ls x y first end n p q h =
+-- the rows to draw are drawn, and the others passed over
+pub rows-drawn : (c d : Canvas ComponentId) (rs : List DocRow) (x y : ℤ) (first end : ℕ) → length c.rows ≡ c.sight.rect.height
+    → AreToDraw c y (length rs) first end → d ≡ with_picture c (rows_picture (rows_among rs first end) c.sight x (y +ℤ pos first)) → d ≡ with_picture c (rows_picture rs c.sight x y)
+rows-drawn c d rs x y first end n g h =
     let r = c.sight.rect in
-    let a = cut-at c y (length ls) first end p q in
-    let up = rows_picture (above_rows v ls first end) c.sight x y in
-    let mid = rows_picture (seen_rows v ls first end) c.sight x (y +ℤ pos first) in
-    let low = rows_picture (below_rows v ls end) c.sight x (y +ℤ pos end) in
+    let a = cut-at c y (length rs) first end g in
+    let up = rows_picture (take first (take end rs)) c.sight x y in
+    let mid = rows_picture (rows_among rs first end) c.sight x (y +ℤ pos first) in
+    let low = rows_picture (drop end rs) c.sight x (y +ℤ pos end) in
     let same : d.sight ≡ c.sight = sight-after c d mid h in
     let rows : length d.rows ≡ c.sight.rect.height = ap (λ (e : Canvas ComponentId). length e.rows) h ∙ ap length (with_picture-rows c mid) ∙ length-painted r mid.puts r.y c.rows ∙ n in
     let boxes : d.boxes ≡ kept c.boxes mid.boxes = ap (λ (e : Canvas ComponentId). e.boxes) h ∙ with_picture-boxes c mid in
-    let above : ArePassed c y (length (above_rows v ls first end)) = rw (length-above v ls first end a) (passed-above-by c.boxes r y (length ls) first p) in
-    let below : ArePassed d (y +ℤ pos end) (length (below_rows v ls end)) =
-    rw (length-below v ls end) (λ k l. let off = passed-below-by c.boxes r y (length ls) end q k l in (boxes ∙ kept-none c.boxes mid.boxes off.0, ap (λ (s : Sight). has_row s.rect ((y +ℤ pos end) +ℤ pos k)) same ∙ off.1)) in
-    let first_part : with_picture c up ≡ c = rows-passed (above_rows v ls first end) c x y n above in
+    let above : ArePassed c y (length (take first (take end rs))) = rw (length-above rs first end a) (passed-above-by c.boxes r y (length rs) first g.start) in
+    let below : ArePassed d (y +ℤ pos end) (length (drop end rs)) =
+    rw (length-drop end rs) (λ k l. let off = passed-below-by c.boxes r y (length rs) end g.stop k l in (boxes ∙ kept-none c.boxes mid.boxes off.0, ap (λ (s : Sight). has_row s.rect ((y +ℤ pos end) +ℤ pos k)) same ∙ off.1)) in
+    let first_part : with_picture c up ≡ c = rows-passed (take first (take end rs)) c x y n above in
     let last_part : with_picture d low ≡ d =
-    ap (λ s. with_picture d (rows_picture (below_rows v ls end) s x (y +ℤ pos end))) (sym same) ∙ rows-passed (below_rows v ls end) d x (y +ℤ pos end) (rw same rows) below in
+    ap (λ s. with_picture d (rows_picture (drop end rs) s x (y +ℤ pos end))) (sym same) ∙ rows-passed (drop end rs) d x (y +ℤ pos end) (rw same rows) below in
     sym last_part ∙ ap (λ e. with_picture e low) h ∙ with_picture-then c mid low ∙ ap (λ e. with_picture e (followed_by mid low)) (sym first_part)
-    ∙ with_picture-then c up (followed_by mid low) ∙ ap (with_picture c) (sym (lines-picture v ls c.sight x y first end a))
+    ∙ with_picture-then c up (followed_by mid low) ∙ ap (with_picture c) (sym (rows-picture rs c.sight x y first end a))
 
-pub lines-counted : (e : Canvas ComponentId) (c d : Counts) (v : SectionView) (ls : List SectionChangedLine) (y : ℤ) (first end : ℕ)
-    → first ≡ first_to_draw e y (length ls) → end ≡ end_to_draw e y (length ls)
-    → d ≡ added c (rows_counts (seen_rows v ls first end) e.sight.rect (y +ℤ pos first)) → d ≡ added c (rows_counts (changed_rows v 0 ls) e.sight.rect y)
-lines-counted e c d v ls y first end p q h =
+pub rows-counted : (e : Canvas ComponentId) (c d : Counts) (rs : List DocRow) (y : ℤ) (first end : ℕ)
+    → AreToDraw e y (length rs) first end → d ≡ added c (rows_counts (rows_among rs first end) e.sight.rect (y +ℤ pos first)) → d ≡ added c (rows_counts rs e.sight.rect y)
+rows-counted e c d rs y first end g h =
     let r = e.sight.rect in
-    let a = cut-at e y (length ls) first end p q in
-    let above : ArePassed e y (length (above_rows v ls first end)) = rw (length-above v ls first end a) (passed-above-by e.boxes r y (length ls) first p) in
-    let below : ArePassed e (y +ℤ pos end) (length (below_rows v ls end)) = rw (length-below v ls end) (passed-below-by e.boxes r y (length ls) end q) in
-    let mid = rows_counts (seen_rows v ls first end) r (y +ℤ pos first) in
-    let all : rows_counts (changed_rows v 0 ls) r y ≡ mid =
-    lines-counts v ls r y first end a
-    ∙ ap₂ plus (rows-uncounted (above_rows v ls first end) e y above) (ap (plus mid) (rows-uncounted (below_rows v ls end) e (y +ℤ pos end) below) ∙ plus-none mid)
+    let a = cut-at e y (length rs) first end g in
+    let above : ArePassed e y (length (take first (take end rs))) = rw (length-above rs first end a) (passed-above-by e.boxes r y (length rs) first g.start) in
+    let below : ArePassed e (y +ℤ pos end) (length (drop end rs)) = rw (length-drop end rs) (passed-below-by e.boxes r y (length rs) end g.stop) in
+    let mid = rows_counts (rows_among rs first end) r (y +ℤ pos first) in
+    let all : rows_counts rs r y ≡ mid =
+    rows-counts rs r y first end a
+    ∙ ap₂ plus (rows-uncounted (take first (take end rs)) e y above) (ap (plus mid) (rows-uncounted (drop end rs) e (y +ℤ pos end) below) ∙ plus-none mid)
     ∙ none-plus mid in
     h ∙ ap (added c) (sym all)

@@ -1,25 +1,23 @@
 -- Rows below one another.
-use Rattle.std.proofs.Common.{◌≡◌, ℕ, ◌+◌, ◌<◌, ◌≤◌, ℤ, pos, ◌+ℤ◌, List, [], ◌∷◌, length, drop, get_or, refl, ap, ◌∙◌, sym, arith, add-one, drop-cons, suc, ◌++◌, append_assoc, append-nil, FitsSigned, w64}
-use Rattle.std.proofs.lemmas.List.{drop_all, take_all, length-drop, length-take}
-use Rattle.std.specs.Prelude.{Result, Ok, Err, OnOk, take, ◌-◌}
+use Rattle.std.proofs.Common.{◌≡◌, ℕ, ◌≤◌, ℤ, pos, ◌+ℤ◌, List, [], ◌∷◌, length, refl, ap, ◌∙◌, sym, arith, suc, ◌++◌, append_assoc, append-nil, FitsSigned, w64}
+use Rattle.std.proofs.lemmas.List.{length-take}
+use Rattle.std.specs.Prelude.{Result, Ok, Err, OnOk, take}
 use Rattle.std.proofs.lemmas.Int.{ints}
 use Rattle.scm_cells.specs.Rect.{InRange}
 use Rattle.scm_render.specs.Picture.{PictureInRange, nothing, followed_by, covering, part, Picture}
-use Rattle.scm_render.specs.Canvas.{Sight, Canvas, with_picture}
+use Rattle.scm_render.specs.Canvas.{Sight}
 use Rattle.scm_render.proofs.PictureLemmas.{PictureInRange-left, PictureInRange-right, PictureInRange-part, RectInRange-covering}
 use Rattle.scm_widgets.specs.declared.ids.ComponentId.{ComponentId}
 use Rattle.scm_types.specs.declared.keys.LineKey.{LineKey}
 use Rattle.scm_document.specs.declared.section_view.SectionView.{SectionView}
-use Rattle.scm_document.specs.declared.section_view.Lines.{Lines}
-use Rattle.scm_document.specs.declared.section_view.Lines.TheVariants as lines
 use Rattle.scm_document.specs.declared.section_line_view.SectionLineView.{SectionLineView}
 use Rattle.scm_document.specs.declared.section_line_view.SectionLineViewInner.{SectionLineViewInner}
 use Rattle.scm_document.specs.declared.section_line_view.SectionLineViewInner.TheVariants as inner
 use Rattle.scm_widgets.specs.Boxes.{IdBox}
-use Rattle.scm_document.specs.Rows.{DocRow, HeaderRow, SectionRow, BlankRow, changed_row, changed_rows, numbered_row, numbered_rows, rows_of_lines, lines_count, line_rows, rows_from, view_row, line_id}
-use Rattle.scm_widgets.specs.Pictures.{IdPicture, rest_of_row, box_picture}
+use Rattle.scm_document.specs.Rows.{DocRow, HeaderRow, SectionRow, BlankRow, numbered_row, numbered_rows, rows_of_lines, view_row, line_id}
+use Rattle.scm_widgets.specs.Pictures.{IdPicture, rest_of_row, whole_row, box_picture}
 use Rattle.scm_document.specs.Pictures.{inner_picture, line_picture, row_picture, rows_picture, changed_picture, context_picture}
-use Rattle.scm_render.proofs.StepLemmas.{step, rest, span-place, text-place, InRange-fits}
+use Rattle.scm_render.proofs.StepLemmas.{span-place, text-place, InRange-fits}
 use Rattle.scm_document.proofs.HeadingLemmas.{heading-rect}
 use Rattle.scm_render.proofs.DrawLemmas.{blank_in_range}
 
@@ -31,26 +29,7 @@ row-end (SectionRow b h) s x y r = (heading-rect h s x y (PictureInRange-left _ 
 row-end BlankRow s x y r = (blank_in_range {K = ComponentId} s (rest_of_row s x y) r).end_y
 row-end _ s x y r = (RectInRange-covering _ (PictureInRange-left _ _ r)).end_y
 
-pub rows_picture-more : (rows : List DocRow) (r : DocRow) (rs : List DocRow) (s : Sight) (x y : ℤ) → rows ≡ r ∷ rs → rows_picture rows s x y ≡ followed_by (row_picture r s x y) (rows_picture rs s x (y +ℤ pos 1))
-unfolding rows_picture
-rows_picture-more rows r rs s x y e = rw e refl
-
-pub rows_picture-end : (rows : List DocRow) (s : Sight) (x y : ℤ) → rows ≡ [] → rows_picture rows s x y ≡ nothing
-unfolding rows_picture
-rows_picture-end rows s x y e = rw e refl
-
 module _ {L : Type 0} (row : ℕ → L → DocRow) where
-  pub lines-more : (first : ℕ) (ls : List L) (i : ℕ) (d : L) → i < length ls
-      → rows_of_lines row (first + i) (drop i ls) ≡ row (first + i) (get_or ls i d) ∷ rows_of_lines row (first + (i + 1)) (drop (i + 1) ls)
-  unfolding rows_of_lines
-  lines-more first ls i d h =
-      let next : suc (first + i) ≡ first + suc i = omega arith in
-      rw (add-one, drop-cons ls i d h) (ap (λ n. row (first + i) (get_or ls i d) ∷ rows_of_lines row n (drop (suc i) ls)) next)
-
-  lines-end : (first : ℕ) (ls : List L) (i : ℕ) → length ls ≤ i → rows_of_lines row (first + i) (drop i ls) ≡ []
-  unfolding rows_of_lines
-  lines-end first ls i h = rw (drop_all i ls h) refl
-
   pub length-lines : (i : ℕ) (ls : List L) → length (rows_of_lines row i ls) ≡ length ls
   unfolding rows_of_lines
   length-lines i [] = refl
@@ -65,16 +44,6 @@ pub context-place : (ts : List (List ℕ)) (s : Sight) (x y : ℤ) → PictureIn
 unfolding context_picture
 context-place ts s x y r = (text-place s x y ts (PictureInRange-right _ _ r)).0
 
--- ---- lines of either kind
-
-pub from-first : (v : SectionView) (first : ℕ) (ls : Lines) → rows_from v first ls 0 ≡ line_rows v first ls
-from-first v first (lines.Context ls) = let same : first + 0 ≡ first = omega arith in ap (λ n. numbered_rows v n ls.now) same
-from-first v first (lines.Changed ls) = let same : first + 0 ≡ first = omega arith in ap (λ n. changed_rows v n ls.now) same
-
-pub from-end : (v : SectionView) (first : ℕ) (ls : Lines) (i : ℕ) → lines_count ls ≤ i → rows_from v first ls i ≡ []
-from-end v first (lines.Context ls) i h = lines-end (numbered_row v) first ls.now i h
-from-end v first (lines.Changed ls) i h = lines-end (changed_row v) first ls.now i h
-
 inner-picture : (k : LineKey) (i : SectionLineViewInner) (s : Sight) (x y : ℤ)
     → row_picture (view_row (record { line_key = k; inner = i })) s x y ≡ followed_by (covering (rest_of_row s x y)) (part (line_id k) (inner_picture i s (x +ℤ pos 2) y))
 unfolding row_picture
@@ -84,6 +53,16 @@ inner-picture k (inner.Changed b change l) s x y = refl
 pub view_row-picture : (w : SectionLineView) (s : Sight) (x y : ℤ) → row_picture (view_row w) s x y ≡ followed_by (covering (rest_of_row s x y)) (part (line_id w.line_key) (line_picture w s (x +ℤ pos 2) y))
 unfolding line_picture
 view_row-picture w s x y = inner-picture w.line_key w.inner s x y
+
+inner-cover : (i : SectionLineViewInner) (s : Sight) (x y : ℤ) → PictureInRange (inner_picture i s x y) → PictureInRange {K = ComponentId} (covering (whole_row s y))
+unfolding changed_picture context_picture
+inner-cover (inner.Unchanged l n) s x y r = PictureInRange-left _ _ r
+inner-cover (inner.Changed b change l) s x y r = PictureInRange-left _ _ r
+
+-- the row that a line covers is in range
+pub line-cover : (w : SectionLineView) (s : Sight) (x y : ℤ) → PictureInRange (line_picture w s x y) → PictureInRange {K = ComponentId} (covering (whole_row s y))
+unfolding line_picture
+line-cover w s x y r = inner-cover w.inner s x y r
 
 inner-place : (i : SectionLineViewInner) (s : Sight) (x y : ℤ) → PictureInRange (inner_picture i s x y) → InRange x
 inner-place (inner.Unchanged l n) s x y r = context-place _ s x y r
@@ -130,49 +109,10 @@ rows-fit (a ∷ rs) s x y f r =
     let same : (y +ℤ pos 1) +ℤ pos (length rs) ≡ y +ℤ pos (suc (length rs)) = omega (arith, ints) in
     rw same at more
 
--- ---- calls that draw rows
-
--- a row, and below it others
-pub row-first : (r : DocRow) (rs : List DocRow) (s : Sight) (x y : ℤ) → PictureInRange (rows_picture (r ∷ rs) s x y) → PictureInRange (row_picture r s x y)
-unfolding rows_picture
-row-first r rs s x y h = PictureInRange-left _ _ h
-
-pub row-rest : (c d : Canvas ComponentId) (r : DocRow) (rs : List DocRow) (x y : ℤ) → d ≡ with_picture c (row_picture r c.sight x y) → PictureInRange (rows_picture (r ∷ rs) c.sight x y)
-    → PictureInRange (rows_picture rs d.sight x (y +ℤ pos 1))
-unfolding rows_picture
-row-rest c d r rs x y p h = rest c d (row_picture r c.sight x y) (λ s. rows_picture rs s x (y +ℤ pos 1)) p h
-
-pub row-then : (c d e : Canvas ComponentId) (r : DocRow) (rs : List DocRow) (x y : ℤ) → d ≡ with_picture c (row_picture r c.sight x y) → e ≡ with_picture d (rows_picture rs d.sight x (y +ℤ pos 1))
-    → e ≡ with_picture c (rows_picture (r ∷ rs) c.sight x y)
-unfolding rows_picture
-row-then c d e r rs x y p q = step c d e (row_picture r c.sight x y) (λ s. rows_picture rs s x (y +ℤ pos 1)) p q
-
-pub row-alone : (c d : Canvas ComponentId) (r : DocRow) (x y : ℤ) → d ≡ with_picture c (row_picture r c.sight x y) → d ≡ with_picture c (rows_picture (r ∷ []) c.sight x y)
-unfolding rows_picture
-row-alone c d r x y p = p ∙ ap (with_picture c) (sym (followed-nothing (row_picture r c.sight x y)))
-
--- rows, and below them others
-pub rows-first : (rs qs : List DocRow) (s : Sight) (x y : ℤ) → PictureInRange (rows_picture (rs ++ qs) s x y) → PictureInRange (rows_picture rs s x y)
-rows-first rs qs s x y h = PictureInRange-left _ _ (rw (rows_picture-append rs qs s x y) at h)
-
-pub rows-rest : (c d : Canvas ComponentId) (rs qs : List DocRow) (n : ℕ) (x y : ℤ) → length rs ≡ n → d ≡ with_picture c (rows_picture rs c.sight x y) → PictureInRange (rows_picture (rs ++ qs) c.sight x y)
-    → PictureInRange (rows_picture qs d.sight x (y +ℤ pos n))
-rows-rest c d rs qs n x y e p h =
-    rw e at (rest c d (rows_picture rs c.sight x y) (λ s. rows_picture qs s x (y +ℤ pos (length rs))) p (rw (rows_picture-append rs qs c.sight x y) at h))
-
-pub rows-then : (c d e : Canvas ComponentId) (rs qs : List DocRow) (n : ℕ) (x y : ℤ) → length rs ≡ n → d ≡ with_picture c (rows_picture rs c.sight x y) → e ≡ with_picture d (rows_picture qs d.sight x (y +ℤ pos n))
-    → e ≡ with_picture c (rows_picture (rs ++ qs) c.sight x y)
-rows-then c d e rs qs n x y l p q =
-    step c d e (rows_picture rs c.sight x y) (λ s. rows_picture qs s x (y +ℤ pos (length rs))) p (rw l q) ∙ ap (with_picture c) (sym (rows_picture-append rs qs c.sight x y))
-
 -- where a call that may fail succeeds
 pub on-ok : {T E P Q : Type 0} (r : Result T E) → (P → Q) → OnOk r P → OnOk r Q
 on-ok (Ok v) f p = f p
 on-ok (Err e) f p = tt
-
--- the elements from index `k` on, by the length of the slice
-pub take-rest : {T : Type 0} (k : ℕ) (xs : List T) → take (length xs - k) (drop k xs) ≡ drop k xs
-take-rest k xs = take_all (length xs - k) (drop k xs) (omega (arith, length-drop k xs))
 
 pub length-taken : (v : SectionView) (n : ℕ) (ls : List (List ℕ)) → n ≤ length ls → length (numbered_rows v 0 (take n ls)) ≡ n
 length-taken v n ls h = length-lines (numbered_row v) 0 (take n ls) ∙ (length-take n ls ∙ omega arith)

@@ -1,11 +1,12 @@
 -- Sections below one another.
 use Rattle.std.proofs.Common.{◌≡◌, ℕ, ◌+◌, ◌<◌, ◌≤◌, Bool, true, false, ◌==◌, ℤ, pos, ◌+ℤ◌, List, [], ◌∷◌, ◌++◌, length, length-append, map, drop, take, get_or, refl, ap, ◌∙◌, sym, arith, add-one, drop-cons, suc}
-use Rattle.std.specs.Prelude.{if◌then◌else◌}
+use Rattle.std.specs.Prelude.{◌^◌, if◌then◌else◌}
 use Rattle.std.proofs.lemmas.List.{drop_all, length-drop}
 use Rattle.std.proofs.lemmas.Int.{ints}
 use Rattle.scm_types.specs.declared.section.Section.{Section}
 use Rattle.scm_types.specs.declared.section.Section.TheVariants.{Unchanged, Changed}
 use Rattle.scm_cells.specs.Rect.{InRange}
+use Rattle.scm_cells.proofs.RectLemmas.{places}
 use Rattle.scm_render.specs.Picture.{PictureInRange, nothing, followed_by, part}
 use Rattle.scm_render.specs.Canvas.{Sight}
 use Rattle.scm_render.proofs.PictureLemmas.{PictureInRange-left, PictureInRange-right, PictureInRange-part}
@@ -59,6 +60,18 @@ rows-in (a ∷ rs) s x y f r =
     let more = rows-in rs s x (y +ℤ pos 1) (row-end a s x y (PictureInRange-left _ _ r)) (PictureInRange-right _ _ r) in
     let same : (y +ℤ pos 1) +ℤ pos (length rs) ≡ y +ℤ pos (suc (length rs)) = omega (arith, ints) in
     rw same at more
+
+-- rows that are in range are few
+rows-few : (rs : List DocRow) (s : Sight) (x y : ℤ) → PictureInRange (rows_picture rs s x y) → length rs < 2 ^ 63
+unfolding rows_picture
+rows-few [] s x y r = omega (arith, places)
+rows-few (a ∷ rs) s x y r =
+    let top = row-end a s x y (PictureInRange-left _ _ r) in
+    omega (arith, places, top, rows-in rs s x (y +ℤ pos 1) top (PictureInRange-right _ _ r))
+
+pub section-few : (v : SectionView) (s : Sight) (x y : ℤ) → PictureInRange (section_picture v s x y) → section_height v v.section.now < 2 ^ 63
+unfolding section_picture
+section-few v s x y r = rw (section-size v) at (rows-few (section_rows v) s x y r)
 
 pub sections-in : (ps : List ShownSection) (s : Sight) (x y : ℤ) → InRange y → PictureInRange (sections_picture ps s x y) → InRange (y +ℤ pos (length (sections_rows ps)))
 unfolding sections_picture sections_rows

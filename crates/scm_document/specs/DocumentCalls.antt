@@ -1,15 +1,17 @@
 -- The draw calls of the document's parts: the picture of each with its counts, both by what is in sight.
-use Rattle.std.specs.Prelude.{ℕ, ℤ, List, Bool, Option}
-use Rattle.scm_cells.specs.Counts.{plus, one_call}
+use Rattle.std.specs.Prelude.{ℕ, ℤ, pos, ◌+ℤ◌, List, Bool, Option}
+use Rattle.scm_cells.specs.Counts.{plus}
+use Rattle.scm_render.specs.Picture.{followed_by}
 use Rattle.scm_render.specs.Draws.{DrawCall}
 use Rattle.scm_render.specs.Drawing.{text_picture}
 use Rattle.scm_widgets.specs.declared.ids.ComponentId.{ComponentId}
 use Rattle.scm_document.specs.declared.section_view.SectionView.{SectionView}
 use Rattle.scm_widgets.specs.Boxes.{IdBox}
 use Rattle.scm_document.specs.Rows.{Heading, DocRow, SectionRow, MarkRow, ShownSection, ShownFile, is_selected, section_box, section_heading}
-use Rattle.scm_document.specs.Pictures.{title_picture, heading_picture, changed_picture, context_picture, row_picture, rows_picture, sections_picture, beside_button, button_row_picture, message_picture, mask_row, pinned_header, pinned_picture, one_file_picture, files_picture, no_files_picture, body_picture}
+use Rattle.scm_document.specs.Pictures.{title_picture, heading_picture, row_picture, sections_picture, beside_button, button_row_picture, message_picture, mask_row, pinned_header, pinned_picture, one_file_picture, files_picture, no_files_picture, body_picture}
+use Rattle.scm_widgets.specs.Pictures.{box_part}
 use Rattle.scm_widgets.specs.Counts.{drawn, on_row}
-use Rattle.scm_document.specs.Counts.{row_counts, rows_counts, header_counts, sections_counts, file_counts, pinned_counts, files_counts, message_counts, no_files_counts, body_counts}
+use Rattle.scm_document.specs.Counts.{row_counts, header_counts, sections_counts, file_counts, pinned_counts, files_counts, message_counts, no_files_counts, body_counts}
 
 -- a draw call with component ids
 abbrev pub IdCall : Type 0
@@ -33,24 +35,10 @@ heading_call heading x y = record {
 
 -- ---- lines
 
--- the texts of a line
-abbrev pub line_texts_call : List (List ℕ) → ℤ → ℤ → IdCall
-line_texts_call texts x y = record {
-  picture = λ sight. text_picture sight x y texts;
-  counts = λ sight. on_row sight.rect y one_call;
-}
-
--- a line of context
-abbrev pub context_line_call : List (List ℕ) → ℤ → ℤ → IdCall
-context_line_call texts x y = record {
-  picture = λ sight. context_picture texts sight x y;
-  counts = λ sight. on_row sight.rect y (drawn 0 1);
-}
-
--- a changed line
+-- a changed line's checkbox at column x, and its sign and text four columns to the right
 abbrev pub changed_line_call : IdBox → List (List ℕ) → ℤ → ℤ → IdCall
 changed_line_call toggle texts x y = record {
-  picture = λ sight. changed_picture toggle texts sight x y;
+  picture = λ sight. followed_by (box_part toggle sight x y) (text_picture sight (x +ℤ pos 4) y texts);
   counts = λ sight. on_row sight.rect y (drawn 0 2);
 }
 
@@ -70,13 +58,6 @@ section_header_call view x y = row_call (SectionRow (is_selected view) (section_
 -- the only row of a `FileMode` or `Binary` section
 abbrev pub mark_call : SectionView → Bool → List ℕ → ℤ → ℤ → IdCall
 mark_call view checked text x y = row_call (MarkRow (is_selected view) (section_box view checked) text) x y
-
--- rows from row y on
-abbrev pub rows_call : List DocRow → ℤ → ℤ → IdCall
-rows_call rows x y = record {
-  picture = λ sight. rows_picture rows sight x y;
-  counts = λ sight. rows_counts rows sight.rect y;
-}
 
 -- sections from row y on
 abbrev pub sections_call : List ShownSection → ℤ → ℤ → IdCall

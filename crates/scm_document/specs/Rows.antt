@@ -1,5 +1,5 @@
 -- The rows of the document: what each row of a section, of a file and of a commit shows.
-use Rattle.std.specs.Prelude.{ℕ, suc, ◌+◌, ◌-◌, ◌^◌, min, ◌==◌, List, [], ◌∷◌, ◌++◌, length, take, drop, map, Bool, true, false, if◌then◌else◌, Option, Some, None, option_map}
+use Rattle.std.specs.Prelude.{ℕ, suc, ◌+◌, ◌-◌, ◌^◌, min, ◌==◌, List, [], ◌∷◌, ◌++◌, length, take, drop, get_or, map, Bool, true, false, if◌then◌else◌, Option, Some, None, option_map}
 use denote.Ref.{Bor}
 use Rattle.scm_types.specs.declared.line.SectionChangedLine.{SectionChangedLine}
 use Rattle.scm_types.specs.declared.section.Section.{Section}
@@ -19,8 +19,6 @@ use Rattle.scm_document.specs.declared.file_view_header.FileViewHeader.{FileView
 use Rattle.scm_document.specs.declared.section_view.SectionSelection.{SectionSelection}
 use Rattle.scm_document.specs.declared.section_view.SectionSelection.TheVariants.{SectionHeader, ChangedLine}
 use Rattle.scm_document.specs.declared.section_view.SectionView.{SectionView}
-use Rattle.scm_document.specs.declared.section_view.Lines.{Lines}
-use Rattle.scm_document.specs.declared.section_view.Lines.TheVariants as lines
 use Rattle.scm_document.specs.declared.section_line_view.SectionLineView.{SectionLineView}
 use Rattle.scm_document.specs.declared.section_line_view.SectionLineViewInner.{SectionLineViewInner}
 use Rattle.scm_document.specs.declared.section_line_view.SectionLineViewInner.TheVariants as inner
@@ -28,7 +26,8 @@ use Rattle.scm_document.specs.declared.file_view.FileView.{FileView}
 use Rattle.scm_document.specs.declared.commit_view.CommitView.{CommitView}
 use Rattle.scm_rows.specs.declared.section_place.SectionPlace.{SectionPlace}
 use Rattle.scm_rows.specs.Context.{first_below, has_dots, lines_above, place}
-use Rattle.scm_rows.specs.Heights.{height_of, is_section_open, is_section_visible}
+use Rattle.scm_rows.specs.Heights.{height_of, is_section_open, is_section_visible, shape_of}
+use Rattle.scm_rows.specs.Kinds.{line_of, row_kind}
 use Rattle.scm_document.specs.Texts.{path_text, section_text, mode_change_text, binary_text, number_text, sign_text, dots_text}
 use Rattle.scm_widgets.specs.Boxes.{IdBox, is_fold_open}
 
@@ -143,21 +142,6 @@ numbered_row v i l = ContextRow (line_key_of v.section_key i) (line_texts (numbe
 abbrev pub numbered_rows : SectionView → ℕ → List (List ℕ) → List DocRow
 numbered_rows v i ls = rows_of_lines (numbered_row v) i ls
 
--- the number of lines of either kind
-abbrev pub lines_count : Lines → ℕ
-lines_count (lines.Context ls) = length ls.now
-lines_count (lines.Changed ls) = length ls.now
-
--- the rows of lines of either kind, the first of which has index `first`
-abbrev pub line_rows : SectionView → ℕ → Lines → List DocRow
-line_rows v first (lines.Context ls) = numbered_rows v first ls.now
-line_rows v first (lines.Changed ls) = changed_rows v first ls.now
-
--- the same rows without the first i
-abbrev pub rows_from : SectionView → ℕ → Lines → ℕ → List DocRow
-rows_from v first (lines.Context ls) i = numbered_rows v (first + i) (drop i ls.now)
-rows_from v first (lines.Changed ls) i = changed_rows v (first + i) (drop i ls.now)
-
 -- the row that line view w shows
 abbrev pub view_row : SectionLineView → DocRow
 view_row w = inner_row w.line_key w.inner
@@ -179,6 +163,10 @@ rows_below v lines =
 -- the rows of lines of context: those above the dots, the dots, and those below them
 abbrev pub shown_lines : SectionView → List (List ℕ) → List DocRow
 shown_lines v lines = numbered_rows v 0 (take (lines_above (place_of v) (length lines)) lines) ++ rows_below v lines
+
+-- a row of a section of n lines of context that shows none of them
+abbrev pub gap_row : SectionView → ℕ → DocRow
+gap_row v n = if n == 0 then BlankRow else DotsRow (dots_text v.use_unicode)
 
 -- the rows of a section of context; one blank row if it has no lines
 unfoldable pub context_rows : SectionView → List (List ℕ) → List DocRow
@@ -207,6 +195,14 @@ section_height v section = height_of (place_of v) (is_fold_open v.expand_box) se
 -- the rows of section v
 unfoldable pub section_rows : SectionView → List DocRow
 section_rows v = rows_of v v.section.now
+
+-- row j of section v
+abbrev pub row_on : SectionView → ℕ → DocRow
+row_on v j = get_or (section_rows v) j BlankRow
+
+-- the line that row j of section v shows, if it shows one
+abbrev pub line_on : SectionView → ℕ → Option ℕ
+line_on v j = line_of (row_kind (place_of v) (shape_of v.section.now) j)
 
 -- ---- the rows of a file
 

@@ -6,7 +6,8 @@ ghost use Rattle.scm_render.specs.Drawing.{texts_width};
 ghost use Rattle.scm_cells.specs.Replaced.{line_pieces};
 ghost use Rattle.scm_cells.specs.Spans.{span_texts};
 ghost use Rattle.scm_widgets.specs.Covers.{texts_cover};
-ghost use Rattle.scm_document.specs.DocumentCalls.{line_texts_call, context_line_call, changed_line_call};
+ghost use Rattle.scm_widgets.specs.DrawCalls.{text_call};
+ghost use Rattle.scm_document.specs.DocumentCalls.{changed_line_call};
 ghost use Rattle.scm_document.specs.Rows.{line_texts};
 ghost use Rattle.scm_document.specs.Texts.{number_text, sign_text};
 ghost use Rattle.scm_document.specs.Visible.{AddsVisible};
@@ -111,9 +112,9 @@ fn draw_spans(
     front: &str,
     line: &str,
 ) -> Result<(), RecordError>
-    requires { CanDraw viewport.old (line_texts_call (line_texts front.now line.now) x y) }
+    requires { CanDraw viewport.old (text_call x y (line_texts front.now line.now)) }
     ensures { HasDrawn viewport.old viewport.new result
-        (line_texts_call (line_texts front.now line.now) x y) }
+        (text_call x y (line_texts front.now line.now)) }
 {
     let mut spans = Vec::new(alloc);
     spans.push(Span(front))?;
@@ -131,9 +132,9 @@ fn draw_line_texts(
     front: &str,
     line: &str,
 ) -> Result<(), RecordError>
-    requires { CanDraw viewport.old (line_texts_call (line_texts front.now line.now) x y) }
+    requires { CanDraw viewport.old (text_call x y (line_texts front.now line.now)) }
     ensures { HasDrawn viewport.old viewport.new result
-        (line_texts_call (line_texts front.now line.now) x y) }
+        (text_call x y (line_texts front.now line.now)) }
 {
     if !is_on_screen(viewport, y) {
         cover_line(viewport, x, y, text_width(front), line);
@@ -158,40 +159,20 @@ fn draw_numbered_texts(
     line: &str,
 ) -> Result<(), RecordError>
     requires { CanDraw viewport.old
-        (line_texts_call (line_texts (number_text number) line.now) x y) }
+        (text_call x y (line_texts (number_text number) line.now)) }
     ensures { HasDrawn viewport.old viewport.new result
-        (line_texts_call (line_texts (number_text number) line.now) x y) }
+        (text_call x y (line_texts (number_text number) line.now)) }
 {
     if is_on_screen(viewport, y) {
         let text = number_text(alloc, number)?;
-        draw_line_texts(alloc, viewport, x, y, text.as_str(), line)?;
-        Ok(())
+        draw_line_texts(alloc, viewport, x, y, text.as_str(), line)
     } else {
         cover_line(viewport, x, y, number_width(number), line);
         Ok(())
     }
 }
 
-/// Draws a line of context.
-fn draw_context_line(
-    alloc: Global,
-    viewport: &mut Viewport<ComponentId>,
-    x: isize,
-    y: isize,
-    line: &str,
-    number: usize,
-) -> Result<(), RecordError>
-    requires { CanDraw viewport.old
-        (context_line_call (line_texts (number_text number) line.now) x y) }
-    ensures { HasDrawn viewport.old viewport.new result
-        (context_line_call (line_texts (number_text number) line.now) x y) }
-{
-    cover_row(viewport, y);
-    draw_numbered_texts(alloc, viewport, x, y, number, line)?;
-    Ok(())
-}
-
-/// Draws a changed line.
+/// Draws the checkbox, the sign and the text of a changed line.
 fn draw_changed_line(
     alloc: Global,
     viewport: &mut Viewport<ComponentId>,
@@ -206,7 +187,6 @@ fn draw_changed_line(
     ensures { HasDrawn viewport.old viewport.new result
         (changed_line_call toggle_box.now (line_texts (sign_text change_type) line.now) x y) }
 {
-    cover_row(viewport, y);
     show_box(viewport, x, y, toggle_box)?;
     draw_line_texts(alloc, viewport, x + 4, y, sign_text(change_type), line)?;
     Ok(())
@@ -240,9 +220,10 @@ impl<'a> Component for SectionLineView<'a> {
         y: isize,
     ) -> Result<(), RecordError> {
         begin_row(viewport, y);
+        cover_row(viewport, y);
         match &self.inner {
             SectionLineViewInner::Unchanged { line, line_num } => {
-                draw_context_line(alloc, viewport, x, y, line, *line_num)
+                draw_numbered_texts(alloc, viewport, x, y, *line_num, line)
             }
             SectionLineViewInner::Changed {
                 toggle_box,

@@ -2,15 +2,16 @@
 ghost use Rattle.std.specs.Prelude.{◌≡◌, ◌+◌, ◌<◌, ◌^◌, pos, ◌+ℤ◌};
 ghost use Rattle.scm_cells.specs.Rect.{InRange};
 ghost use Rattle.scm_widgets.specs.Boxes.{is_fold_open};
-ghost use Rattle.scm_document.specs.Rows.{is_open, place_of, section_height};
+ghost use Rattle.scm_document.specs.Rows.{is_open, line_on, place_of, section_height};
 ghost use Rattle.scm_document.specs.ViewPieces.{section_piece_of};
 
 use crate::index_pieces::SectionPiece;
 use crate::section_pieces::section_piece;
 use crate::section_view::SectionView;
-use scm_rows::SectionPlace;
+use scm_rows::row_kind::row_kind;
 use scm_rows::section_heights::{height_of, is_section_open};
 use scm_rows::section_shape::shape_of;
+use scm_rows::{RowKind, SectionPlace};
 
 impl<'a> SectionView<'a> {
     /// Returns the place of the section among the sections of its file.
@@ -56,6 +57,16 @@ impl<'a> SectionView<'a> {
         let end = top + self.height();
         let shape = shape_of(self.section);
         section_piece(self.is_selected(), total, self.section_key, top, end, shape)
+    }
+
+    /// Returns the line that row `row` of the section, counted from 0, shows, if it shows one.
+    pub(crate) fn line_on(&self, row: usize) -> Option<usize>
+        ensures { result ≡ line_on self.now row }
+    {
+        match row_kind(self.place(), shape_of(self.section), row) {
+            RowKind::Line(line) | RowKind::Context(line) => Some(line),
+            RowKind::Header | RowKind::Mark | RowKind::Blank => None,
+        }
     }
 
     /// Returns whether the section is editable and unfolded.

@@ -1,10 +1,9 @@
 //! The view of a section of a file.
-ghost use Rattle.std.specs.Prelude.{◌≡◌, ◌≤◌, ◌+◌, ◌-◌, ◌<◌, ◌^◌, ◌∷◌};
+ghost use Rattle.std.specs.Prelude.{◌≡◌, ◌<◌};
 ghost use Rattle.scm_document.specs.Counts.{rows_counts};
-ghost use Rattle.scm_document.specs.DocumentCalls.{row_call, rows_call, section_header_call, mark_call};
-ghost use Rattle.scm_types.specs.declared.section.Section.TheVariants.{Changed};
+ghost use Rattle.scm_document.specs.DocumentCalls.{row_call, section_header_call, mark_call};
 ghost use Rattle.scm_document.specs.Texts.{mode_change_text, binary_text, dots_text};
-ghost use Rattle.scm_document.specs.Rows.{DotsRow, mark_of, section_box, line_box, line_number, changed_rows, lines_count, line_rows, rows_from, view_row, context_rows, section_rows, is_selected, is_line_selected, rows_below, shown_lines, rows_of};
+ghost use Rattle.scm_document.specs.Rows.{mark_of, section_box, line_box, line_number, numbered_row, changed_row, gap_row, view_row, row_on, section_height, section_rows, is_selected, is_line_selected};
 ghost use Rattle.scm_types.specs.Keys.{line_key_of};
 ghost use Rattle.scm_document.specs.Pictures.{section_picture};
 ghost use Rattle.scm_render.specs.Draws.{CanDraw, HasDrawn};
@@ -16,8 +15,7 @@ use crate::title::Title;
 use scm_cells::Span;
 use scm_render::{Component, Viewport};
 use scm_types::{
-    FileMode, LineKey, RecordError, Section, SectionChangedLine, SectionKey, SelectionKey, Text,
-    Tristate,
+    FileMode, LineKey, RecordError, Section, SectionChangedLine, SectionKey, SelectionKey, Tristate,
 };
 use scm_widgets::clipped_drawing::{begin_row, show_blank_rest, show_box, show_span, show_text};
 use scm_widgets::ids::ComponentId;
@@ -32,27 +30,6 @@ pub enum SectionSelection {
     SectionHeader,
     /// The changed line at this index, counted from 0.
     ChangedLine(usize),
-}
-
-/// Lines of a section, each on a row of its own.
-#[derive(Clone, Copy)]
-enum Lines<'l, 'a> {
-    /// Lines of context.
-    Context(&'l [Text<'a>]),
-    /// Changed lines.
-    Changed(&'l [SectionChangedLine<'a>]),
-}
-
-impl<'l, 'a> Lines<'l, 'a> {
-    /// Returns how many lines there are.
-    fn len(self) -> usize
-        ensures { result ≡ lines_count self.entry }
-    {
-        match self {
-            Lines::Context(lines) => lines.len(),
-            Lines::Changed(lines) => lines.len(),
-        }
-    }
 }
 
 /// A section of a file.
@@ -154,77 +131,35 @@ impl<'a> SectionView<'a> {
         }
     }
 
-    /// Returns the view of line `index` of `lines`, which begin at line `first` of the section.
-    fn line_view<'l>(&self, first: usize, lines: Lines<'l, 'a>, index: usize) -> SectionLineView<'l>
-        requires index { index < lines_count lines }
-        requires last { first + lines_count lines ≤ 2 ^ 64 - 1 }
-        ensures { rows_from self.now first lines.entry index
-            ≡ view_row result ∷ rows_from self.now first lines.entry (index + 1) }
+    /// Returns the view of line `index`, a line of context.
+    fn context_view<'l>(&self, index: usize, line: &'l str) -> SectionLineView<'l>
+        ensures { view_row result ≡ numbered_row self.now index line.now }
     {
-        let at = first + index;
-        let line_key = self.section_key.line(at);
-        match lines {
-            Lines::Context(lines) => SectionLineView {
-                line_key,
-                inner: SectionLineViewInner::Unchanged {
-                    line: lines[index].as_str(),
-                    line_num: line_number(self.line_start_num, at),
-                },
+        SectionLineView {
+            line_key: self.section_key.line(index),
+            inner: SectionLineViewInner::Unchanged {
+                line,
+                line_num: line_number(self.line_start_num, index),
             },
-            Lines::Changed(lines) => {
-                let line = &lines[index];
-                SectionLineView {
-                    line_key,
-                    inner: SectionLineViewInner::Changed {
-                        toggle_box: self.line_box(at, line.is_checked),
-                        change_type: line.change_type,
-                        line: line.line.as_str(),
-                    },
-                }
-            }
         }
     }
 
-    /// Draws `lines` from row `y` on. They begin at line `first` of the section.
-    fn draw_lines(
+    /// Returns the view of line `index`, a changed line.
+    fn changed_view<'l>(
         &self,
-        viewport: &mut Viewport<ComponentId>,
-        x: isize,
-        y: isize,
-        first: usize,
-        lines: Lines<'_, 'a>,
-    ) -> Result<(), RecordError>
-        requires last { first + lines_count lines ≤ 2 ^ 64 - 1 }
-        requires picture { CanDraw viewport.old (rows_call (line_rows self.now first lines) x y) }
-        ensures { HasDrawn viewport.old viewport.new result
-            (rows_call (line_rows self.now first lines.entry) x y) }
+        index: usize,
+        line: &'l SectionChangedLine<'a>,
+    ) -> SectionLineView<'l>
+        ensures { view_row result ≡ changed_row self.now index line.now }
     {
-        let mut row = y;
-        for index in 0..lines.len() {
-            let view = self.line_view(first, lines, index);
-            draw_line_row(viewport, x, row, &view)?;
-            row += 1;
+        SectionLineView {
+            line_key: self.section_key.line(index),
+            inner: SectionLineViewInner::Changed {
+                toggle_box: self.line_box(index, line.is_checked),
+                change_type: line.change_type,
+                line: line.line.as_str(),
+            },
         }
-        Ok(())
-    }
-
-    /// Draws the changed lines `lines`, the first of them on row `y`. Where no boxes are kept,
-    /// draws only those on the screen.
-    fn draw_changed_lines(
-        &self,
-        viewport: &mut Viewport<ComponentId>,
-        x: isize,
-        y: isize,
-        lines: &[SectionChangedLine<'a>],
-    ) -> Result<(), RecordError>
-        requires { CanDraw viewport.old (rows_call (changed_rows self.now 0 lines.now) x y) }
-        ensures { HasDrawn viewport.old viewport.new result
-            (rows_call (changed_rows self.now 0 lines.now) x y) }
-    {
-        let (first, end) = viewport.rows_to_draw(y, lines.len());
-        let upper = &lines[..end];
-        let seen = Lines::Changed(&upper[first..]);
-        self.draw_lines(viewport, x, y.strict_add_unsigned(first), first, seen)
     }
 
     /// Draws the header of a section of changed lines.
@@ -278,21 +213,28 @@ impl<'a> SectionView<'a> {
         Ok(())
     }
 
-    /// Draws the row of dots.
-    fn draw_dots(
+    /// Draws a row of a section of context that shows none of the section's `count` lines: the dots,
+    /// or a blank row if there are no lines.
+    fn draw_gap(
         &self,
         viewport: &mut Viewport<ComponentId>,
         x: isize,
         y: isize,
+        count: usize,
     ) -> Result<(), RecordError>
-        requires { CanDraw viewport.old (row_call (DotsRow (dots_text self.now.use_unicode)) x y) }
+        requires { CanDraw viewport.old (row_call (gap_row self.now count) x y) }
         ensures { HasDrawn viewport.old viewport.new result
-            (row_call (DotsRow (dots_text self.now.use_unicode)) x y) }
+            (row_call (gap_row self.now count) x y) }
     {
         begin_row(viewport, y);
-        cover_rest(viewport, x, y);
-        show_span(viewport, x + 6, y, dots_text(self.use_unicode))?;
-        Ok(())
+        if count == 0 {
+            show_blank_rest(viewport, x, y)?;
+            Ok(())
+        } else {
+            cover_rest(viewport, x, y);
+            show_span(viewport, x + 6, y, dots_text(self.use_unicode))?;
+            Ok(())
+        }
     }
 }
 
@@ -304,86 +246,48 @@ fn line_number(start: usize, index: usize) -> usize
 }
 
 impl<'a> SectionView<'a> {
-    /// Draws the row of dots, if there is one, and the lines below it.
-    fn draw_below(
-        &self,
-        viewport: &mut Viewport<ComponentId>,
-        x: isize,
-        y: isize,
-        lines: &[Text<'a>],
-    ) -> Result<(), RecordError>
-        requires { CanDraw viewport.old (rows_call (rows_below self.now lines.now) x y) }
-        ensures { HasDrawn viewport.old viewport.new result
-            (rows_call (rows_below self.now lines.now) x y) }
-    {
-        let place = self.place();
-        let first = place.first_below(lines.len());
-        let below = Lines::Context(&lines[first..]);
-        if place.has_dots(lines.len()) {
-            self.draw_dots(viewport, x, y)?;
-            self.draw_lines(viewport, x, y + 1, first, below)
-        } else {
-            self.draw_lines(viewport, x, y, first, below)
-        }
-    }
-
-    /// Draws the visible lines of context.
-    fn draw_shown_lines(
-        &self,
-        viewport: &mut Viewport<ComponentId>,
-        x: isize,
-        y: isize,
-        lines: &[Text<'a>],
-    ) -> Result<(), RecordError>
-        requires { CanDraw viewport.old (rows_call (shown_lines self.now lines.now) x y) }
-        ensures { HasDrawn viewport.old viewport.new result
-            (rows_call (shown_lines self.now lines.now) x y) }
-    {
-        let place = self.place();
-        let above = place.lines_above(lines.len());
-        self.draw_lines(viewport, x, y, 0, Lines::Context(&lines[..above]))?;
-        self.draw_below(viewport, x, y.strict_add_unsigned(above), lines)
-    }
-
-    /// Draws a section of context.
-    fn draw_context(
-        &self,
-        viewport: &mut Viewport<ComponentId>,
-        x: isize,
-        y: isize,
-        lines: &[Text<'a>],
-    ) -> Result<(), RecordError>
-        requires { CanDraw viewport.old (rows_call (context_rows self.now lines.now) x y) }
-        ensures { HasDrawn viewport.old viewport.new result
-            (rows_call (context_rows self.now lines.now) x y) }
-    {
-        if lines.is_empty() {
-            begin_row(viewport, y);
-            show_blank_rest(viewport, x, y)?;
-            Ok(())
-        } else {
-            self.draw_shown_lines(viewport, x, y, lines)
-        }
-    }
-
-    /// Draws a section of changed lines.
-    fn draw_changed(
+    /// Draws row `row` of the section, counted from 0, on row `y` of the document.
+    fn draw_row(
         &self,
         alloc: Global,
         viewport: &mut Viewport<ComponentId>,
         x: isize,
         y: isize,
-        lines: &[SectionChangedLine<'a>],
+        row: usize,
     ) -> Result<(), RecordError>
-        requires { CanDraw viewport.old (rows_call (rows_of self.now (Changed lines.now)) x y) }
+        requires row { row < section_height self.now self.now.section.now }
+        requires picture { CanDraw viewport.old (row_call (row_on self.now row) x y) }
         ensures { HasDrawn viewport.old viewport.new result
-            (rows_call (rows_of self.now (Changed lines.now)) x y) }
+            (row_call (row_on self.now row) x y) }
     {
-        self.draw_header(alloc, viewport, x, y)?;
-        if self.expand_box.is_open() {
-            self.draw_changed_lines(viewport, x, y + 1, lines)
-        } else {
-            Ok(())
+        let line = self.line_on(row);
+        match self.section {
+            Section::Unchanged { lines } => match line {
+                Some(index) => {
+                    let text = lines.as_slice()[index].as_str();
+                    draw_line_row(viewport, x, y, &self.context_view(index, text))
+                }
+                None => self.draw_gap(viewport, x, y, lines.len()),
+            },
+            Section::Changed { lines } => match line {
+                Some(index) => {
+                    let changed = &lines.as_slice()[index];
+                    draw_line_row(viewport, x, y, &self.changed_view(index, changed))
+                }
+                None => self.draw_header(alloc, viewport, x, y),
+            },
+            Section::FileMode { is_checked, mode } => {
+                let text = mode_change_text(alloc, *mode)?;
+                self.draw_mark(viewport, x, y, *is_checked, text.as_str())
+            }
+            Section::Binary {
+                is_checked,
+                old_description,
+                new_description,
+            } => {
+                let text = binary_text(alloc, old_description, new_description)?;
+                self.draw_mark(viewport, x, y, *is_checked, text.as_str())
+            }
         }
     }
 }
@@ -412,23 +316,13 @@ impl<'a> Component for SectionView<'a> {
         x: isize,
         y: isize,
     ) -> Result<(), RecordError> {
-        match self.section {
-            Section::Unchanged { lines } => self.draw_context(viewport, x, y, lines.as_slice()),
-            Section::Changed { lines } => {
-                self.draw_changed(alloc, viewport, x, y, lines.as_slice())
-            }
-            Section::FileMode { is_checked, mode } => {
-                let text = mode_change_text(alloc, *mode)?;
-                self.draw_mark(viewport, x, y, *is_checked, text.as_str())
-            }
-            Section::Binary {
-                is_checked,
-                old_description,
-                new_description,
-            } => {
-                let text = binary_text(alloc, old_description, new_description)?;
-                self.draw_mark(viewport, x, y, *is_checked, text.as_str())
-            }
+        // Where no boxes are kept, rows off the screen are passed over.
+        let (first, end) = viewport.rows_to_draw(y, self.height());
+        let mut at = y.strict_add_unsigned(first);
+        for row in first..end {
+            self.draw_row(alloc, viewport, x, at, row)?;
+            at += 1;
         }
+        Ok(())
     }
 }

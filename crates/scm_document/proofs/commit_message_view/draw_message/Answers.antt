@@ -7,7 +7,7 @@ use Rattle.scm_render.specs.Canvas.{Sight}
 use Rattle.scm_render.specs.Picture.{PictureInRange, followed_by}
 use Rattle.scm_render.proofs.DrawLemmas.{blank_in_range}
 use Rattle.scm_render.proofs.PictureLemmas.{PictureInRange-left, PictureInRange-right}
-use Rattle.scm_render.proofs.StepLemmas.{three, second, third, InRange-fits}
+use Rattle.scm_render.proofs.StepLemmas.{three, sight-after, InRange-fits}
 use Rattle.scm_widgets.specs.declared.ids.ComponentId.{ComponentId}
 use Rattle.scm_widgets.specs.Pictures.{IdPicture, rest_of_row, blank_rest}
 use Rattle.scm_document.specs.Pictures.{button_row_picture, message_picture}
@@ -49,19 +49,16 @@ pub draw_button_row-requires : goal.draw_button_row-requires
 unfolding message_picture
 draw_button_row-requires c =
     let fr : FitsSigned w64 (c.args.y +ℤ pos 1) = one-more _ (first-row _ _ _ _ c.requires) in
-    let upper = rw c.begin_row.ensures.canvas at (simp (to_z-of_z, c.ranges.x, c.ranges.y, fr) at c.in_ok-show_blank_rest.ensures.ok) in
-    simp (to_z-of_z, c.ranges.x, c.ranges.y, fr) (second _ _ _ (middle c.args.commit_idx c.args.message.now c.args.x c.args.y) (lower c.args.x c.args.y) upper c.requires)
+    let same = sight-after _ _ _ c.in_ok-show_blank_rest.ensures.ok ∙ ap (λ v. v.sight) c.begin_row.ensures.canvas in
+    rw same (simp (to_z-of_z, c.ranges.x, c.ranges.y, fr) (PictureInRange-left _ _ (PictureInRange-right _ _ c.requires)))
 
 pub show_blank_rest-requires-2 : goal.show_blank_rest-requires-2
 unfolding message_picture
 show_blank_rest-requires-2 c =
-    let fx : FitsSigned w64 c.args.x = c.ranges.x in
-    let fy : FitsSigned w64 c.args.y = c.ranges.y in
-    let fr : FitsSigned w64 (c.args.y +ℤ pos 1) = one-more _ (first-row _ _ _ _ c.requires) in
     let fb : FitsSigned w64 (c.args.y +ℤ pos 2) = InRange-fits _ (last-row _ _ _ _ _ c.requires) in
-    let upper = rw c.begin_row.ensures.canvas at (simp to_z-of_z at c.in_ok-show_blank_rest.ensures.ok) in
-    let button = simp to_z-of_z at c.in_ok-draw_button_row.ensures.ok in
-    rw c.begin_row-2.ensures.canvas (simp to_z-of_z (third _ _ _ _ (middle c.args.commit_idx c.args.message.now c.args.x c.args.y) (lower c.args.x c.args.y) upper button c.requires))
+    let before = sight-after _ _ _ c.in_ok-show_blank_rest.ensures.ok ∙ ap (λ v. v.sight) c.begin_row.ensures.canvas in
+    let same = ap (λ v. v.sight) c.begin_row-2.ensures.canvas ∙ sight-after _ _ _ c.in_ok-draw_button_row.ensures.ok ∙ before in
+    rw same (simp (to_z-of_z, c.ranges.x, c.ranges.y, fb) (PictureInRange-right _ _ (PictureInRange-right _ _ c.requires)))
 
 pub returns : goal.returns
 unfolding message_picture

@@ -1,4 +1,4 @@
-use Rattle.std.proofs.Common.{rules, ◌≡◌, ◌∙◌, sym, ap, length, map, true, false, ◌==◌, FitsSigned, w64}
+use Rattle.std.proofs.Common.{◌≡◌, ◌∙◌, sym, ap, length, map, true, false, ◌==◌, FitsSigned, w64}
 use Rattle.std.specs.Prelude.{pos, ◌+ℤ◌}
 use Rattle.std.proofs.lemmas.Int.{to_z-of_z}
 use Rattle.scm_document.specs.Rows.{shown_file}
@@ -26,23 +26,11 @@ draw_files-requires c =
 pub returns-then-is_empty : goal.returns-then-is_empty
 returns-then-is_empty c =
     let none : (length (map shown_file c.args.files.now) == 0) ≡ true = ap (λ n. n == 0) (length-shown c.args.files.now) ∙ sym c.is_empty.ensures ∙ c.if-is_empty.true in
-    record {
-      ok = rw none (simp (to_z-of_z, c.ranges.x, c.ranges.y) at c.draw_no_files.ensures.ok);
-      counts = rw none (simp (to_z-of_z, c.ranges.x, c.ranges.y) at c.draw_no_files.ensures.counts);
-      rect = search rules;
-      err = search rules;
-    }
+    rw none (simp (to_z-of_z, c.ranges.x, c.ranges.y) at c.draw_no_files.ensures)
 
 pub returns-else-is_empty : goal.returns-else-is_empty
 returns-else-is_empty c =
-    let fx : FitsSigned w64 c.args.x = c.ranges.x in
-    let fy : FitsSigned w64 c.args.y = c.ranges.y in
     let some : (length (map shown_file c.args.files.now) == 0) ≡ false = ap (λ n. n == 0) (length-shown c.args.files.now) ∙ sym c.is_empty.ensures ∙ c.if-is_empty.false in
     let fits : FitsSigned w64 (c.args.y +ℤ pos c.args.height) = InRange-fits _ (files-top _ _ _ _ some (rw some at c.requires)) in
-    let row = simp to_z-of_z at c.strict_add_unsigned-first.ensures in
-    record {
-      ok = rw some (simp to_z-of_z at (rw row at c.draw_files.ensures.ok));
-      counts = rw some (simp to_z-of_z at (rw row at c.draw_files.ensures.counts));
-      rect = search rules;
-      err = search rules;
-    }
+    let row = simp (to_z-of_z, c.ranges.y) at c.strict_add_unsigned-first.ensures in
+    rw some (simp (to_z-of_z, c.ranges.x, c.ranges.y, fits) at (rw row at c.draw_files.ensures))

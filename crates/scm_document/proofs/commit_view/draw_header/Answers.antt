@@ -1,4 +1,3 @@
-use Rattle.std.proofs.Common.{rules}
 use Rattle.std.proofs.lemmas.Int.{to_z-of_z}
 use Rattle.scm_document.specs.Rows.{shown_file}
 use Rattle.scm_document.specs.Pictures.{row_picture, header_picture}
@@ -25,9 +24,4 @@ draw_under-requires-clause-picture c =
 pub returns : goal.returns
 unfolding row_picture header_picture shown_file
 returns c =
-    record {
-      ok = simp (to_z-of_z, c.ranges.x, c.ranges.y) at (rw (c.header-header.ensures.key, c.header-header.ensures.heading, c.pinned_mask-row.ensures.mask) at c.draw_under.ensures.ok);
-      counts = simp (to_z-of_z, c.ranges.x, c.ranges.y) at c.draw_under.ensures.counts;
-      rect = search rules;
-      err = search rules;
-    }
+    simp (to_z-of_z, c.ranges.x, c.ranges.y) at (rw (c.header-header.ensures.key, c.header-header.ensures.heading, c.pinned_mask-row.ensures.mask) at c.draw_under.ensures)

@@ -27,12 +27,7 @@ returns-then-is_between c =
     let fb : FitsSigned w64 c.args.below = c.ranges.below in
     let between = rw c.requires.below at (simp to_z-of_z at (rw c.mask_row-row.ensures.row at c.is_between.ensures)) in
     let test : is_pinned (mask_row s) c.args.y (length (file_rows (shown_file c.args.file.now))) ≡ true = sym between ∙ c.if-is_between.true in
-    record {
-      ok = rw test (simp to_z-of_z at (rw c.mask_row-row.ensures.row at c.draw_header.ensures.ok));
-      counts = rw test (simp to_z-of_z at (rw c.mask_row-row.ensures.row at c.draw_header.ensures.counts));
-      rect = search rules;
-      err = search rules;
-    }
+    rw test (simp to_z-of_z at (rw c.mask_row-row.ensures.row at c.draw_header.ensures))
 
 pub returns-else-is_between : goal.returns-else-is_between
 unfolding pinned_picture pinned_counts

@@ -16,14 +16,8 @@ cover_line-requires c =
     let width = front-width c.number_width.result (number_text c.args.number) (line_pieces c.args.line.now) c.number_width.ensures in
     simp (to_z-of_z, c.ranges.x, c.ranges.y) (cover-in-range _ _ _ _ (line_texts (number_text c.args.number) c.args.line.now) width c.requires)
 
-pub returns-in_ok-draw_line_texts : goal.returns-in_ok-draw_line_texts
-returns-in_ok-draw_line_texts c =
-    record {
-      ok = rw (c.as_str.ensures.value, c.in_ok-text.ensures.ok) at (simp (to_z-of_z, c.ranges.x, c.ranges.y) at c.in_ok-draw_line_texts.ensures.ok);
-      counts = search rules;
-      rect = search rules;
-      err = search rules;
-    }
+pub returns-in_ok-text : goal.returns-in_ok-text
+returns-in_ok-text c = rw (c.as_str.ensures.value, c.in_ok-text.ensures.ok) at (simp (to_z-of_z, c.ranges.x, c.ranges.y) at c.draw_line_texts.ensures)
 
 pub returns-else-is_on_screen : goal.returns-else-is_on_screen
 returns-else-is_on_screen c =

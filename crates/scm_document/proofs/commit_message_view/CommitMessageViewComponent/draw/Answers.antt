@@ -24,9 +24,4 @@ returns-in-None c =
 pub returns-in-Some : goal.returns-in-Some
 unfolding commit_message_picture
 returns-in-Some c =
-    record {
-      ok = rw c.in-Some.is (rw c.as_str.ensures at (simp (to_z-of_z, c.ranges.x, c.ranges.y) at c.draw_message.ensures.ok));
-      counts = rw c.in-Some.is (rw c.as_str.ensures at (simp (to_z-of_z, c.ranges.x, c.ranges.y) at c.draw_message.ensures.counts));
-      rect = search rules;
-      err = search rules;
-    }
+    rw c.in-Some.is (rw c.as_str.ensures at (simp (to_z-of_z, c.ranges.x, c.ranges.y) at c.draw_message.ensures))
