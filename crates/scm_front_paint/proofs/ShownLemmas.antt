@@ -81,9 +81,9 @@ module _ (effect : Effect) (olds styles : List Style) (first i : ℕ) (from to :
 -- ---- run by run
 
 -- one run of words more
-pub words-more : (columns : List Columns) (i : ℕ) (d : Columns) (c : ℕ) (style : Style) → i < length columns
+pub set_off-more : (columns : List Columns) (i : ℕ) (d : Columns) (c : ℕ) (style : Style) → i < length columns
     → style_after SetOff (get_or columns i d).start (get_or columns i d).end c (with_words (take i columns) c style) ≡ with_words (take (i + 1) columns) c style
-words-more columns i d c style within =
+set_off-more columns i d c style within =
     go (list_any (has_column c) (take i columns)) (has_column c (get_or columns i d))
     ∙ ap (λ (b : Bool). set_off b style) (sym (list_any_more (has_column c) columns i d within))
   where

@@ -4,7 +4,7 @@ use Rattle.scm_front_paint.specs.declared.restyling.Effect.TheVariants.{SetOff}
 use Rattle.scm_front_paint.specs.declared.words.Columns.{Columns}
 use Rattle.scm_front_paint.specs.Restyling.{style_after}
 use Rattle.scm_front_paint.specs.Words.{with_words}
-use Rattle.scm_front_paint.proofs.ShownLemmas.{words-more}
+use Rattle.scm_front_paint.proofs.ShownLemmas.{set_off-more}
 use Rattle.scm_front_paint.proofs.restyling.set_off_words.Goals as goal
 
 pub loop-run-preserved : goal.loop-run-preserved
@@ -18,7 +18,7 @@ loop-run-preserved c =
       each = λ k within.
           made.each k (omega arith)
           ∙ ap (style_after SetOff _ _ k) (held.each k within)
-          ∙ words-more c.args.columns.now c.loop-run.run-index _ k (get_or c.args.styles.now k plain_style) (omega arith);
+          ∙ set_off-more c.args.columns.now c.loop-run.run-index _ k (get_or c.args.styles.now k plain_style) (omega arith);
     }
 
 pub returns : goal.returns
