@@ -13,7 +13,7 @@ use Rattle.scm_front_paint.specs.declared.themes.Theme.{Theme}
 use Rattle.scm_front_paint.specs.declared.words.Columns.{Columns}
 use Rattle.scm_front_paint.specs.declared.restyling.Effect.{Effect}
 use Rattle.scm_front_paint.specs.declared.restyling.Effect.TheVariants.{SetOff}
-use Rattle.scm_front_paint.specs.Restyling.{effect_on, style_after}
+use Rattle.scm_front_paint.specs.Restyling.{restyled_by, style_after}
 use Rattle.scm_front_paint.specs.Themes.{themed}
 use Rattle.scm_front_paint.specs.Words.{has_column, set_off, with_words}
 
@@ -63,7 +63,7 @@ module _ (effect : Effect) (olds styles : List Style) (first i : ℕ) (from to :
   -- one place more
   pub one-more : first ≤ i → i < length styles
       → ((c : ℕ) → get_or styles c plain_style ≡ style_after effect first i c (get_or olds c plain_style))
-      → from ≡ get_or styles i plain_style → to ≡ effect_on effect from
+      → from ≡ get_or styles i plain_style → to ≡ restyled_by effect from
       → (c : ℕ) → get_or (set styles i to) c plain_style ≡ style_after effect first (i + 1) c (get_or olds c plain_style)
   one-more low h before is made c = ⊎_elim
       (λ e.
@@ -71,11 +71,11 @@ module _ (effect : Effect) (olds styles : List Style) (first i : ℕ) (from to :
       let not_yet : (nat_le first i && nat_lt i i) ≡ false = grind (arith, nat_tests) in
       let old = rw not_yet at (before i) in
       let new : get_or (set styles i to) i plain_style ≡ style_after effect first (i + 1) i (get_or olds i plain_style) =
-      get_or-set_same styles i to plain_style h ∙ made ∙ ap (effect_on effect) (is ∙ old) ∙ rw here refl in
+      get_or-set_same styles i to plain_style h ∙ made ∙ ap (restyled_by effect) (is ∙ old) ∙ rw here refl in
       subst (λ (n : ℕ). get_or (set styles i to) n plain_style ≡ style_after effect first (i + 1) n (get_or olds n plain_style)) (sym e) new)
       (λ away.
       let same : (nat_le first c && nat_lt c i) ≡ (nat_le first c && nat_lt c (i + 1)) = grind (arith, nat_tests) in
-      get_or-set_other styles i c to plain_style away ∙ before c ∙ ap (λ (b : Bool). if b then effect_on effect (get_or olds c plain_style) else get_or olds c plain_style) same)
+      get_or-set_other styles i c to plain_style away ∙ before c ∙ ap (λ (b : Bool). if b then restyled_by effect (get_or olds c plain_style) else get_or olds c plain_style) same)
       (cases_eq c i)
 
 -- ---- run by run

@@ -8,14 +8,14 @@ use Rattle.scm_front_paint.specs.Themes.{themed}
 use Rattle.scm_front_paint.specs.Words.{set_off}
 
 -- what a style becomes by an effect
-abbrev pub effect_on : Effect → Style → Style
-effect_on SetOff style = set_off true style
-effect_on (InTheme theme) style = themed theme style
+abbrev pub restyled_by : Effect → Style → Style
+restyled_by SetOff style = set_off true style
+restyled_by (InTheme theme) style = themed theme style
 
 -- a style becomes what the effect makes of it
 abbrev pub IsRestyled : Effect → Restyled → Type 0
-IsRestyled effect r = r.to ≡ effect_on effect r.from
+IsRestyled effect r = r.to ≡ restyled_by effect r.from
 
 -- the style at place c, after an effect on the places from..end
 abbrev pub style_after : Effect → ℕ → ℕ → ℕ → Style → Style
-style_after effect from end c style = if nat_le from c && nat_lt c end then effect_on effect style else style
+style_after effect from end c style = if nat_le from c && nat_lt c end then restyled_by effect style else style

@@ -1,7 +1,7 @@
 //! What becomes of the styles of a row: words are set off, and a theme has its colours.
 ghost use Rattle.std.specs.Prelude.{◌≡◌, ◌<◌, ℕ, length, slice_index_or};
 ghost use Rattle.scm_terminal.specs.Style.{plain_style};
-ghost use Rattle.scm_front_paint.specs.Restyling.{IsRestyled, effect_on, style_after};
+ghost use Rattle.scm_front_paint.specs.Restyling.{IsRestyled, restyled_by, style_after};
 ghost use Rattle.scm_front_paint.specs.Themes.{themed};
 ghost use Rattle.scm_front_paint.specs.Words.{with_words};
 
@@ -28,8 +28,8 @@ struct Restyled {
 }
 
 /// Returns what `style` becomes by `effect`.
-fn effect_on(effect: Effect, style: Style) -> Style
-    ensures { result ≡ effect_on effect style }
+fn restyled_by(effect: Effect, style: Style) -> Style
+    ensures { result ≡ restyled_by effect style }
 {
     match effect {
         Effect::SetOff => set_off(true, style),
@@ -44,7 +44,7 @@ fn restyle(effect: Effect, style: NumberedStyle) -> Restyled
 {
     Restyled {
         from: style,
-        to: NumberedStyle::new(effect_on(effect, style.style())),
+        to: NumberedStyle::new(restyled_by(effect, style.style())),
     }
 }
 
