@@ -35,7 +35,7 @@ none-plus a = counts-same (plus no_counts a) a (omega arith) (omega arith)
 
 -- ---- calls on one row
 
-on_row-plus : (v : Rect) (y : ℤ) (a b : Counts) → plus (on_row v y a) (on_row v y b) ≡ on_row v y (plus a b)
+pub on_row-plus : (v : Rect) (y : ℤ) (a b : Counts) → plus (on_row v y a) (on_row v y b) ≡ on_row v y (plus a b)
 unfolding on_row
 on_row-plus v y a b = elim (has_row v y) as (λ t. plus (if t then a else no_counts) (if t then b else no_counts) ≡ (if t then plus a b else no_counts)) [ true ↦ refl | false ↦ refl ]
 

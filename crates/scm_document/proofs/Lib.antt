@@ -6,7 +6,7 @@ pub mod HeadingLemmas
 pub mod WidthLemmas
 pub mod CountLemmas
 pub mod RowsLemmas
--- Draw calls on one row, in turn.
+-- Draw calls in turn.
 mod CallLemmas
 pub mod SectionsLemmas
 pub mod FilesLemmas

@@ -3,14 +3,15 @@ ghost use Rattle.scm_document.specs.declared.commit_view.CommitViewMode.TheVaria
 ghost use Rattle.scm_document.specs.ViewColumns.{view_count, view_width};
 ghost use Rattle.std.specs.Prelude.{◌≡◌, ◌+◌, ◌<◌, ◌^◌, ◌++◌, ◌&&◌, int_lt, pos, ◌+ℤ◌, Some, None, map, OnOk, IfOk, length};
 ghost use Rattle.scm_cells.specs.Rect.{InRange};
-ghost use Rattle.scm_cells.specs.Mask.{MaskInRange};
+ghost use Rattle.scm_cells.specs.Mask.{MaskInRange, SideInRange};
 ghost use Rattle.scm_document.specs.Counts.{document_counts};
 ghost use Rattle.scm_document.specs.DocumentCalls.{pinned_header_call, pinned_call, one_file_call, files_call, body_call};
 ghost use Rattle.scm_document.specs.Rows.{shown_file, file_rows, document_of};
 ghost use Rattle.scm_document.specs.ViewPieces.{files_height};
 ghost use Rattle.scm_document.specs.Pieces.{files_pieces};
-ghost use Rattle.scm_document.specs.Pictures.{mask_row, file_mask, pinned_mask, commit_picture};
+ghost use Rattle.scm_document.specs.Pictures.{mask_row, commit_picture};
 ghost use Rattle.scm_render.specs.Draws.{CanDraw, HasDrawn};
+ghost use Rattle.scm_widgets.specs.Pictures.{to_end};
 
 use crate::commit_message_view::CommitMessageView;
 use crate::file_view::FileView;
@@ -50,36 +51,25 @@ fn mask_row(viewport: &Viewport<ComponentId>) -> isize
     mask.y
 }
 
-/// Returns the mask from column `x` to the end of the mask in sight, on all rows from row `y` on.
-fn file_mask(viewport: &Viewport<ComponentId>, x: isize, y: isize) -> Mask
+/// Returns the mask from column `x` to the end of the mask in sight: on `height` rows from row `y` on,
+/// or on all of them.
+fn rest_mask(viewport: &Viewport<ComponentId>, x: isize, y: isize, height: Option<usize>) -> Mask
     requires x { InRange x }
     requires y { InRange y }
-    ensures mask { result ≡ file_mask viewport.now.canvas.sight x y }
+    requires end { SideInRange y height }
+    ensures mask { result ≡ record {
+      x = x;
+      y = y;
+      width = Some (to_end viewport.now.canvas.sight x);
+      height = height;
+    } }
     ensures in_range { MaskInRange result }
 {
-    let width = to_end(viewport, x);
     Mask {
         x,
         y,
-        width: Some(width),
-        height: None,
-    }
-}
-
-/// Returns the mask from column `x` to the end of the mask in sight, on row `y` alone.
-fn pinned_mask(viewport: &Viewport<ComponentId>, x: isize, y: isize) -> Mask
-    requires x { InRange x }
-    requires y { InRange y }
-    requires end { InRange (y +ℤ pos 1) }
-    ensures mask { result ≡ pinned_mask viewport.now.canvas.sight x y }
-    ensures in_range { MaskInRange result }
-{
-    let width = to_end(viewport, x);
-    Mask {
-        x,
-        y,
-        width: Some(width),
-        height: Some(1),
+        width: Some(to_end(viewport, x)),
+        height,
     }
 }
 
@@ -103,7 +93,7 @@ fn draw_header(
         (pinned_header_call (shown_file file.now) x y) }
 {
     let header = file.header();
-    let row = pinned_mask(viewport, x, y);
+    let row = rest_mask(viewport, x, y, Some(1));
     draw_under(viewport, row, x, y, &header)
 }
 
@@ -141,7 +131,7 @@ fn draw_file(
     ensures below { IfOk result (λ row. row ≡ y +ℤ pos (length (file_rows (shown_file file.now)))) }
 {
     let below = file.row_below(y);
-    let rows = file_mask(viewport, x, y);
+    let rows = rest_mask(viewport, x, y, None);
     draw_under(viewport, rows, x, y, file)?;
     draw_pinned(viewport, x, y, below, file)?;
     Ok(below)

@@ -25,20 +25,20 @@ unfolding one_file_picture
 row_below-below-requires-clause-end c =
     simp (to_z-of_z, c.ranges.y) (file-fits (shown_file c.args.file.now) _ _ _ (PictureInRange-part _ _ (PictureInRange-left _ _ c.requires))).end
 
-pub file_mask-rows-requires-clause-x : goal.file_mask-rows-requires-clause-x
+pub rest_mask-rows-requires-clause-x : goal.rest_mask-rows-requires-clause-x
 unfolding one_file_picture
-file_mask-rows-requires-clause-x c =
+rest_mask-rows-requires-clause-x c =
     simp (to_z-of_z, c.ranges.x) (file-fits (shown_file c.args.file.now) _ _ _ (PictureInRange-part _ _ (PictureInRange-left _ _ c.requires))).left
 
-pub file_mask-rows-requires-clause-y : goal.file_mask-rows-requires-clause-y
+pub rest_mask-rows-requires-clause-y : goal.rest_mask-rows-requires-clause-y
 unfolding one_file_picture
-file_mask-rows-requires-clause-y c =
+rest_mask-rows-requires-clause-y c =
     simp (to_z-of_z, c.ranges.y) (file-fits (shown_file c.args.file.now) _ _ _ (PictureInRange-part _ _ (PictureInRange-left _ _ c.requires))).top
 
 pub draw_under-requires-clause-picture : goal.draw_under-requires-clause-picture
 unfolding one_file_picture file_picture shown_file
 draw_under-requires-clause-picture c =
-    rw c.file_mask-rows.ensures.mask (simp (to_z-of_z, c.ranges.x, c.ranges.y) (PictureInRange-left _ _ c.requires))
+    rw c.rest_mask-rows.ensures.mask (simp (to_z-of_z, c.ranges.x, c.ranges.y) (PictureInRange-left _ _ c.requires))
 
 pub draw_pinned-requires-clause-below : goal.draw_pinned-requires-clause-below
 unfolding one_file_picture
@@ -52,7 +52,7 @@ draw_pinned-requires-clause-below c =
 pub draw_pinned-requires-clause-picture : goal.draw_pinned-requires-clause-picture
 unfolding one_file_picture file_picture shown_file
 draw_pinned-requires-clause-picture c =
-    let drawn = simp (to_z-of_z, c.ranges.x, c.ranges.y) at (rw c.file_mask-rows.ensures.mask at c.in_ok-draw_under.ensures.ok) in
+    let drawn = simp (to_z-of_z, c.ranges.x, c.ranges.y) at (rw c.rest_mask-rows.ensures.mask at c.in_ok-draw_under.ensures.ok) in
     simp (to_z-of_z, c.ranges.x, c.ranges.y) (rest _ _ _ (pinned c.args.file.now c.args.x c.args.y) drawn c.requires)
 
 pub returns-clause-draws : goal.returns-clause-draws
@@ -60,7 +60,7 @@ unfolding one_file_picture file_picture shown_file
 returns-clause-draws c =
     let fx : FitsSigned w64 c.args.x = c.ranges.x in
     let fy : FitsSigned w64 c.args.y = c.ranges.y in
-    let drawn = simp to_z-of_z at (rw c.file_mask-rows.ensures.mask at c.in_ok-draw_under.ensures.ok) in
+    let drawn = simp to_z-of_z at (rw c.rest_mask-rows.ensures.mask at c.in_ok-draw_under.ensures.ok) in
     let counted = simp to_z-of_z at c.in_ok-draw_under.ensures.counts in
     record {
       ok = step _ _ _ _ (pinned c.args.file.now c.args.x c.args.y) drawn (simp to_z-of_z at c.in_ok-draw_pinned.ensures.ok);

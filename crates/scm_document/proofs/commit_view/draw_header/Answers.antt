@@ -4,24 +4,24 @@ use Rattle.scm_document.specs.Pictures.{row_picture, header_picture}
 use Rattle.scm_document.proofs.SectionsLemmas.{header-fits}
 use Rattle.scm_document.proofs.commit_view.draw_header.Goals as goal
 
-pub pinned_mask-row-requires-clause-x : goal.pinned_mask-row-requires-clause-x
-pinned_mask-row-requires-clause-x c =
+pub rest_mask-row-requires-clause-x : goal.rest_mask-row-requires-clause-x
+rest_mask-row-requires-clause-x c =
     simp (to_z-of_z, c.ranges.x) (header-fits (shown_file c.args.file.now) _ _ _ c.requires).0
 
-pub pinned_mask-row-requires-clause-y : goal.pinned_mask-row-requires-clause-y
-pinned_mask-row-requires-clause-y c =
+pub rest_mask-row-requires-clause-y : goal.rest_mask-row-requires-clause-y
+rest_mask-row-requires-clause-y c =
     simp (to_z-of_z, c.ranges.y) (header-fits (shown_file c.args.file.now) _ _ _ c.requires).1
 
-pub pinned_mask-row-requires-clause-end : goal.pinned_mask-row-requires-clause-end
-pinned_mask-row-requires-clause-end c =
+pub rest_mask-row-requires-clause-end : goal.rest_mask-row-requires-clause-end
+rest_mask-row-requires-clause-end c =
     simp (to_z-of_z, c.ranges.y) (header-fits (shown_file c.args.file.now) _ _ _ c.requires).2
 
 pub draw_under-requires-clause-picture : goal.draw_under-requires-clause-picture
 unfolding row_picture header_picture shown_file
 draw_under-requires-clause-picture c =
-    rw (c.header-header.ensures.key, c.header-header.ensures.heading, c.pinned_mask-row.ensures.mask) (simp (to_z-of_z, c.ranges.x, c.ranges.y) c.requires)
+    rw (c.header-header.ensures.key, c.header-header.ensures.heading, c.rest_mask-row.ensures.mask) (simp (to_z-of_z, c.ranges.x, c.ranges.y) c.requires)
 
 pub returns : goal.returns
 unfolding row_picture header_picture shown_file
 returns c =
-    simp (to_z-of_z, c.ranges.x, c.ranges.y) at (rw (c.header-header.ensures.key, c.header-header.ensures.heading, c.pinned_mask-row.ensures.mask) at c.draw_under.ensures)
+    simp (to_z-of_z, c.ranges.x, c.ranges.y) at (rw (c.header-header.ensures.key, c.header-header.ensures.heading, c.rest_mask-row.ensures.mask) at c.draw_under.ensures)

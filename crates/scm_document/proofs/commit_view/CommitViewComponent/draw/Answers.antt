@@ -1,4 +1,4 @@
-use Rattle.std.proofs.Common.{rules, List, ℕ, map, FitsSigned, w64}
+use Rattle.std.proofs.Common.{List, ℕ, map, FitsSigned, w64}
 use Rattle.std.specs.Prelude.{ℤ, pos, ◌+ℤ◌}
 use Rattle.std.proofs.lemmas.Int.{to_z-of_z}
 use Rattle.scm_render.specs.Canvas.{Sight}
@@ -7,10 +7,9 @@ use Rattle.scm_rows.specs.Heights.{message_height}
 use Rattle.scm_document.specs.Rows.{ShownFile, shown_file}
 use Rattle.scm_widgets.specs.Pictures.{IdPicture}
 use Rattle.scm_document.specs.Pictures.{commit_message_picture, body_picture, document_picture, commit_picture}
-use Rattle.scm_render.proofs.StepLemmas.{rest, sight-after, step}
-use Rattle.scm_document.proofs.RowsLemmas.{on-ok}
-use Rattle.scm_document.specs.Counts.{document_counts}
-use Rattle.scm_render.proofs.CountLemmas.{counts-then}
+use Rattle.scm_render.proofs.StepLemmas.{rest}
+use Rattle.scm_document.proofs.CallLemmas.{after}
+use Rattle.scm_document.specs.Counts.{body_counts, document_counts}
 use Rattle.scm_document.proofs.commit_view.CommitViewComponent.draw.Goals as goal
 
 abbrev body : List ShownFile → ℕ → ℤ → ℤ → Sight → IdPicture
@@ -33,16 +32,7 @@ unfolding commit_picture document_picture commit_message_picture document_counts
 returns c =
     let fx : FitsSigned w64 c.args.x = c.ranges.x in
     let fy : FitsSigned w64 c.args.y = c.ranges.y in
-    let v = c.args.self.now in
-    let message = simp to_z-of_z at c.in_ok-draw_part.ensures.ok in
-    let counted = simp to_z-of_z at c.in_ok-draw_part.ensures.counts in
-    record {
-      ok =
-          on-ok _ (step _ _ _ _ (body (map shown_file v.file_views) (message_height v.commit_message_view.commit.now.message) c.args.x c.args.y) message)
-          (rw (c.as_slice-files.ensures, c.height-height.ensures) at (simp to_z-of_z at c.draw_body.ensures.ok));
-      counts =
-          on-ok _ (counts-then _ _ _ _ _ counted)
-          (rw (c.as_slice-files.ensures, c.height-height.ensures, sight-after _ _ _ message) at (simp to_z-of_z at c.draw_body.ensures.counts));
-      rect = search rules;
-      err = search rules;
-    }
+    let files = map shown_file c.args.self.now.file_views in
+    let n = message_height c.args.self.now.commit_message_view.commit.now.message in
+    after _ (body files n c.args.x c.args.y) _ (λ s. body_counts files s c.args.y (c.args.y +ℤ pos n)) (simp to_z-of_z at c.in_ok-draw_part.ensures)
+    (rw (c.as_slice-files.ensures, c.height-height.ensures) at (simp to_z-of_z at c.draw_body.ensures))

@@ -6,14 +6,14 @@ use Rattle.scm_cells.proofs.RectLemmas.{places}
 use Rattle.scm_render.specs.Canvas.{Sight, with_picture}
 use Rattle.scm_render.proofs.PictureLemmas.{PictureInRange-left, PictureInRange-part}
 use Rattle.scm_cells.specs.Counts.{added, plus}
-use Rattle.scm_document.specs.Counts.{file_counts, header_counts}
+use Rattle.scm_document.specs.Counts.{file_counts, header_counts, sections_counts}
 use Rattle.scm_document.specs.Rows.{ShownSection, shown_file, shown_sections}
 use Rattle.scm_widgets.specs.Pictures.{IdPicture}
 use Rattle.scm_document.specs.Pictures.{row_picture, header_picture, sections_picture, shown_file_picture, file_picture}
-use Rattle.scm_render.proofs.StepLemmas.{rest, step, InRange-fits}
+use Rattle.scm_render.proofs.StepLemmas.{rest, InRange-fits}
 use Rattle.scm_document.proofs.HeadingLemmas.{heading-rect}
-use Rattle.scm_document.proofs.RowsLemmas.{row-end, on-ok, followed-nothing}
-use Rattle.scm_render.proofs.CountLemmas.{counts-then}
+use Rattle.scm_document.proofs.RowsLemmas.{row-end, followed-nothing}
+use Rattle.scm_document.proofs.CallLemmas.{after}
 use Rattle.scm_document.proofs.CountLemmas.{plus-none, sections_counts-none}
 use Rattle.scm_document.proofs.file_view.FileViewComponent.draw.Goals as goal
 
@@ -64,18 +64,9 @@ returns-then-is_open c =
     let all = rw shown at c.requires in
     let wide : FitsSigned w64 (c.args.x +ℤ pos 2) = two-more _ (heading-rect _ _ _ _ (PictureInRange-part _ _ (PictureInRange-left _ _ all))).x in
     let fits : FitsSigned w64 (c.args.y +ℤ pos 1) = InRange-fits _ (heading-rect _ _ _ _ (PictureInRange-part _ _ (PictureInRange-left _ _ all))).end_y in
-    record {
-      ok =
-          let header = rw (c.header-header.ensures.key, c.header-header.ensures.heading) at (simp to_z-of_z at c.in_ok-draw_part.ensures.ok) in
-          rw shown (on-ok _ (step _ _ _ _ (below (shown_sections false c.args.self.now.section_views) c.args.x c.args.y) header)
-          (rw c.as_slice.ensures at (simp to_z-of_z at c.draw_sections.ensures.ok)));
-      counts =
-          let header = simp to_z-of_z at c.in_ok-draw_part.ensures.counts in
-          rw shown (on-ok _ (counts-then _ _ _ _ _ header)
-          (rw (c.as_slice.ensures, c.in_ok-draw_part.ensures.rect) at (simp to_z-of_z at c.draw_sections.ensures.counts)));
-      rect = search rules;
-      err = search rules;
-    }
+    let sections = shown_sections false c.args.self.now.section_views in
+    let header = rw (c.header-header.ensures.key, c.header-header.ensures.heading) at (simp to_z-of_z at c.in_ok-draw_part.ensures) in
+    rw shown (after _ (below sections c.args.x c.args.y) _ (λ s. sections_counts sections s.rect (c.args.y +ℤ pos 1)) header (rw c.as_slice.ensures at (simp to_z-of_z at c.draw_sections.ensures)))
 
 pub returns-else-is_open : goal.returns-else-is_open
 unfolding file_picture shown_file_picture shown_file row_picture header_picture sections_picture file_counts

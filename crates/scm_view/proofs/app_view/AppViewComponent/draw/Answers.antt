@@ -1,11 +1,11 @@
-use Rattle.std.proofs.Common.{rules, FitsSigned, w64}
+use Rattle.std.proofs.Common.{rules, ◌∙◌, FitsSigned, w64}
 use Rattle.std.specs.Prelude.{ℤ, Option}
 use Rattle.std.proofs.lemmas.Int.{to_z-of_z}
 use Rattle.scm_cells.specs.Rect.{RectInRange}
 use Rattle.scm_render.specs.Canvas.{Sight}
-use Rattle.scm_render.specs.Picture.{Picture, followed_by, part}
+use Rattle.scm_render.specs.Picture.{Picture, part}
 use Rattle.scm_render.proofs.PictureLemmas.{PictureInRange-left, PictureInRange-right, PictureInRange-part}
-use Rattle.scm_render.proofs.StepLemmas.{InRange-fits, second-of-four, rest, four}
+use Rattle.scm_render.proofs.StepLemmas.{InRange-fits, sight-after, four}
 use Rattle.scm_widgets.specs.declared.ids.ComponentId.{ComponentId}
 use Rattle.scm_widgets.specs.declared.ids.ComponentId.TheVariants as ids
 use Rattle.scm_overlay.specs.declared.menu_bar.MenuBar.{MenuBar}
@@ -45,39 +45,21 @@ draw_documents-requires-clause-picture c =
 pub draw_part-requires : goal.draw_part-requires
 unfolding app_picture
 draw_part-requires c =
-    let s = c.args.viewport.now.canvas.sight in
-    let a = c.args.self.now in
-    let r : RectInRange s.rect = rw c.rect-screen.ensures.value at c.rect-screen.ensures.in_range in
-    let fy : FitsSigned w64 s.rect.y = InRange-fits _ r.y in
-    let views = simp (to_z-of_z, c.ranges.x, fy) at (rw (c.shown_views.ensures, c.view_width-width.ensures, c.rect-screen.ensures.value) at c.in_ok-draw_documents.ensures.ok) in
-    let over = second-of-four _ _ _ (bar a.menu_bar c.args.x s.rect.y) (quit a.quit_dialog) (help a.help_dialog) views c.requires in
-    rw c.rect-screen.ensures.value (simp (to_z-of_z, c.ranges.x, fy) (PictureInRange-left _ _ over))
+    let r : RectInRange c.args.viewport.now.canvas.sight.rect = rw c.rect-screen.ensures.value at c.rect-screen.ensures.in_range in
+    let fy : FitsSigned w64 c.args.viewport.now.canvas.sight.rect.y = InRange-fits _ r.y in
+    rw (c.rect-screen.ensures.value, sight-after _ _ _ c.in_ok-draw_documents.ensures.ok) (simp (to_z-of_z, c.ranges.x, fy) (PictureInRange-left _ _ (PictureInRange-right _ _ c.requires)))
 
 pub draw_quit-requires : goal.draw_quit-requires
 unfolding app_picture
 draw_quit-requires c =
-    let s = c.args.viewport.now.canvas.sight in
-    let a = c.args.self.now in
-    let r : RectInRange s.rect = rw c.rect-screen.ensures.value at c.rect-screen.ensures.in_range in
-    let fy : FitsSigned w64 s.rect.y = InRange-fits _ r.y in
-    let views = simp (to_z-of_z, c.ranges.x, fy) at (rw (c.shown_views.ensures, c.view_width-width.ensures, c.rect-screen.ensures.value) at c.in_ok-draw_documents.ensures.ok) in
-    let over = second-of-four _ _ _ (bar a.menu_bar c.args.x s.rect.y) (quit a.quit_dialog) (help a.help_dialog) views c.requires in
-    let menus = simp (to_z-of_z, c.ranges.x, fy) at (rw c.rect-screen.ensures.value at c.in_ok-draw_part.ensures.ok) in
-    let dialogs = rest _ _ _ (λ t. followed_by (quit a.quit_dialog t) (help a.help_dialog t)) menus over in
-    PictureInRange-left _ _ dialogs
+    let same = sight-after _ _ _ c.in_ok-draw_part.ensures.ok ∙ sight-after _ _ _ c.in_ok-draw_documents.ensures.ok in
+    rw same (PictureInRange-left _ _ (PictureInRange-right _ _ (PictureInRange-right _ _ c.requires)))
 
 pub draw_help-requires : goal.draw_help-requires
 unfolding app_picture
 draw_help-requires c =
-    let s = c.args.viewport.now.canvas.sight in
-    let a = c.args.self.now in
-    let r : RectInRange s.rect = rw c.rect-screen.ensures.value at c.rect-screen.ensures.in_range in
-    let fy : FitsSigned w64 s.rect.y = InRange-fits _ r.y in
-    let views = simp (to_z-of_z, c.ranges.x, fy) at (rw (c.shown_views.ensures, c.view_width-width.ensures, c.rect-screen.ensures.value) at c.in_ok-draw_documents.ensures.ok) in
-    let over = second-of-four _ _ _ (bar a.menu_bar c.args.x s.rect.y) (quit a.quit_dialog) (help a.help_dialog) views c.requires in
-    let menus = simp (to_z-of_z, c.ranges.x, fy) at (rw c.rect-screen.ensures.value at c.in_ok-draw_part.ensures.ok) in
-    let dialogs = rest _ _ _ (λ t. followed_by (quit a.quit_dialog t) (help a.help_dialog t)) menus over in
-    rest _ _ _ (help a.help_dialog) c.in_ok-draw_quit.ensures.ok dialogs
+    let same = sight-after _ _ _ c.in_ok-draw_quit.ensures.ok ∙ sight-after _ _ _ c.in_ok-draw_part.ensures.ok ∙ sight-after _ _ _ c.in_ok-draw_documents.ensures.ok in
+    rw same (PictureInRange-right _ _ (PictureInRange-right _ _ (PictureInRange-right _ _ c.requires)))
 
 pub returns : goal.returns
 unfolding app_picture
