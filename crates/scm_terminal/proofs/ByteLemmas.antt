@@ -9,14 +9,14 @@ use Rattle.scm_terminal.specs.PassedOver.{IsPassedOver}
 use Rattle.scm_terminal.specs.Sent.{blank_after, sent_cell, stays_on_row}
 use Rattle.scm_terminal.specs.StyledCell.{StyledCell, First, Later, cell_of, symbol_of_cell}
 
-letter-is : (cell : StyledCell) (style : Style) (b : ℕ) → ShowsLetter cell b → cell ≡ cell_of (symbol_of_cell cell) style → cell ≡ First (b ∷ []) style
+pub letter-is : (cell : StyledCell) (style : Style) (b : ℕ) → ShowsLetter cell b → cell ≡ cell_of (symbol_of_cell cell) style → cell ≡ First (b ∷ []) style
 letter-is cell style b shows e = e ∙ ap (λ (o : Option (List ℕ)). cell_of o style) shows.is_it
 
-one-sent : (w column b : ℕ) (blank : Option Style) (style : Style) → sent_cell w column blank (First (b ∷ []) style) ≡ First (b ∷ []) style
+pub one-sent : (w column b : ℕ) (blank : Option Style) (style : Style) → sent_cell w column blank (First (b ∷ []) style) ≡ First (b ∷ []) style
 unfolding stays_on_row
 one-sent w column b blank style = refl
 
-no-blank : (w column b : ℕ) (blank : Option Style) (style : Style) → blank_after w column blank (First (b ∷ []) style) ≡ None
+pub no-blank : (w column b : ℕ) (blank : Option Style) (style : Style) → blank_after w column blank (First (b ∷ []) style) ≡ None
 unfolding stays_on_row
 no-blank w column b blank style = refl
 

@@ -45,3 +45,5 @@ pub mod GrammarLemmas
 pub mod MeaningLemmas
 -- the first two passes put nothing of a symbol of one byte
 pub mod ByteLemmas
+-- letters that follow one another in one style
+pub mod LetterRunLemmas

@@ -22,6 +22,8 @@ pub mod Painting
 pub mod NumberedStyle
 -- cells of which a pass puts nothing
 pub mod PassedOver
+-- letters that follow one another in one style
+pub mod LetterRun
 -- the cell that the fields of `StyledCell` represent
 pub mod StyledCellView
 -- the line that the fields of `Row` represent

@@ -13,6 +13,7 @@ mod cell_text;
 mod characters;
 pub mod decoder;
 pub mod laws;
+mod letter_run;
 mod mouse;
 mod numbered_style;
 mod painter;

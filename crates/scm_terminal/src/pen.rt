@@ -1,5 +1,5 @@
 //! The pen: the cursor and the style of the terminal while a row is written, as far as known.
-ghost use Rattle.std.specs.Prelude.{◌≡◌, ◌<◌, ◌^◌, ◌∷◌, [], ◌++◌, IfOk, OnOk, option_map, string_bytes};
+ghost use Rattle.std.specs.Prelude.{◌≡◌, ◌&&◌, ◌<◌, ◌^◌, ◌∷◌, [], ◌++◌, IfOk, OnOk, option_map, string_bytes};
 ghost use Rattle.std.specs.List.{flat_map};
 ghost use Rattle.scm_terminal.specs.Painting.{
   is_style_set,
@@ -202,6 +202,14 @@ impl Pen {
                 }
             },
         }
+    }
+
+    /// Returns whether the terminal writes at the pen's cell in `style` as it is.
+    pub(crate) fn writes(&self, style: NumberedStyle) -> bool
+        ensures { result ≡ (self.now.is_there && is_style_set self.now.style style) }
+    {
+        // `&`: one branch for the prover
+        self.is_there & is_style_set(self.style, style)
     }
 
     /// Returns the pen after a cell where nothing is put.

@@ -20,6 +20,7 @@ ghost use Rattle.scm_terminal.specs.StyledCell.{Later, cell_of, row_in};
 ghost use Rattle.scm_terminal.specs.RowView.{line_of};
 ghost use Rattle.scm_terminal.specs.Terminal.{bytes_of};
 
+use crate::letter_run::push_letters;
 use crate::numbered_style::NumberedStyle;
 use crate::pen::{Pass, Pen};
 use crate::sent::Sent;
@@ -263,11 +264,17 @@ fn push_pass(
             blank = None;
             column = end;
         } else {
-            let cell = &cells[column];
-            let after = push_place(text, row, column, cells.len(), cell, pass, pen, blank)?;
-            pen = after.pen;
-            blank = after.blank;
-            column += 1;
+            let end = push_letters(text, cells, column, &pen, pass)?;
+            if column < end {
+                blank = None;
+                column = end;
+            } else {
+                let cell = &cells[column];
+                let after = push_place(text, row, column, cells.len(), cell, pass, pen, blank)?;
+                pen = after.pen;
+                blank = after.blank;
+                column += 1;
+            }
         }
     }
     Ok(())
