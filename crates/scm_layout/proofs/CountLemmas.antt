@@ -141,7 +141,7 @@ file_size-bare f =
     ap (λ n. n + sum_by section_size (bare f.sections)) (length-map f.sections bare_section)
     ∙ ap (λ n. length f.sections + n) (sum-mapped section_size bare_section size-bare f.sections)
 
-file_size-same : (f g : File) → bare_file f ≡ bare_file g → file_size f ≡ file_size g
+pub file_size-same : (f g : File) → bare_file f ≡ bare_file g → file_size f ≡ file_size g
 file_size-same f g e = sym (file_size-bare f) ∙ ap (λ (h : File). file_size h) e ∙ file_size-bare g
 
 pub length-sections_counts : (editable lines : ℕ) (ss : List Section) → length (sections_counts editable lines ss) ≡ length ss

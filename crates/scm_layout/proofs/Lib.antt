@@ -8,6 +8,8 @@ pub mod ModeLemmas
 pub mod CountLemmas
 -- the counts of the files of a state
 pub mod FilesLemmas
+-- how much of the files is marked
+pub mod MarkedLemmas
 -- the rows of sections and files
 pub mod RowLemmas
 -- files one below the other

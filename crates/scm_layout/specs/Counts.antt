@@ -8,6 +8,7 @@ use Rattle.scm_rows.specs.Lines.{old_lines}
 use Rattle.scm_layout.specs.declared.section_counts.SectionCounts.{SectionCounts}
 use Rattle.scm_layout.specs.declared.file_counts.FileCounts.{FileCounts}
 use Rattle.scm_layout.specs.declared.state_counts.StateCounts.{StateCounts}
+use Rattle.scm_layout.specs.Marked.{changed_files, checked_lines}
 
 -- the number of items of a section
 abbrev pub items_in : Section → ℕ
@@ -60,4 +61,8 @@ file_counts file = record {
 
 -- the counts of the files of a state
 abbrev pub counts_of : List File → StateCounts
-counts_of files = record { files = map file_counts files }
+counts_of files = record {
+  files = map file_counts files;
+  checked_lines = checked_lines files;
+  changed_files = changed_files files;
+}

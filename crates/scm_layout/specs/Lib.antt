@@ -1,3 +1,5 @@
+-- how much of the files is marked
+pub mod Marked
 -- the counts of a state
 pub mod Counts
 -- what a toggle changes of them

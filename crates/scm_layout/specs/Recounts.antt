@@ -11,7 +11,10 @@ use Rattle.scm_types.specs.Mode.{is_absent}
 use Rattle.scm_selection.specs.Toggle.{line_mark, with_line_toggled}
 use Rattle.scm_layout.specs.declared.section_counts.SectionCounts.{SectionCounts}
 use Rattle.scm_layout.specs.declared.file_counts.FileCounts.{FileCounts}
-use Rattle.scm_layout.specs.Counts.{checked_in, file_counts}
+use Rattle.scm_layout.specs.declared.marked.Share.{Share}
+use Rattle.scm_layout.specs.declared.state_counts.StateCounts.{StateCounts}
+use Rattle.scm_layout.specs.Counts.{checked_in, counts_of, file_counts}
+use Rattle.scm_layout.specs.Marked.{changed_in_file, checked_in_file, part_at}
 
 -- each of `xs` changed by what stands at its index in `ys`; those past the end of `ys` are unchanged
 abbrev pub zipped : {A B : Type 0} → (A → B → A) → List A → List B → List A
@@ -139,4 +142,36 @@ pub record AreCountsButAllMarks (counts : List FileCounts) (files : List File) :
   pub before : List File
   pub is_counted : counts ≡ files_counts before
   pub same : map (file_with_marks (λ _. false)) before ≡ map (file_with_marks (λ _. false)) files
+  pub fits : sum_by file_size before ≤ max_items
+
+-- ---- the totals of a state
+
+-- what file `index` adds to the totals of `files`
+abbrev pub share_at : List File → ℕ → Share
+share_at files index = record { lines = part_at checked_in_file files index; changed = part_at changed_in_file files index }
+
+-- the counts with `before` taken from the totals, and `after` added
+abbrev pub exchanged : StateCounts → Share → Share → StateCounts
+exchanged c before after = record c {
+  checked_lines = c.checked_lines - before.lines + after.lines;
+  changed_files = c.changed_files - before.changed + after.changed;
+}
+
+-- the counts are those of files that became `files` when marks of file `index` changed, which added `share` to the totals
+pub record AreStateCountsButFile (c : StateCounts) (files : List File) (index : ℕ) (share : Share) : Type 0 where
+  pub before : List File
+  pub change : File → File
+  pub is_counted : c ≡ counts_of before
+  pub after : files ≡ modify change before index
+  pub same : (file : File) → file_with_marks (λ _. false) (change file) ≡ file_with_marks (λ _. false) file
+  pub share_is : share ≡ share_at before index
+  pub fits : sum_by file_size before ≤ max_items
+
+-- the counts are those of files that became `files` when the line that a key names was set to `checked`; its file added `changed` to the number of changed files
+pub record AreStateCountsButLine (c : StateCounts) (files : List File) (key : LineKey) (checked : Bool) (changed : ℕ) : Type 0 where
+  pub before : List File
+  pub is_counted : c ≡ counts_of before
+  pub mark : line_mark_at key before ≡ Some (not checked)
+  pub after : files ≡ modify (with_line_toggled key.section_idx key.line_idx) before key.file_idx
+  pub changed_is : changed ≡ part_at changed_in_file before key.file_idx
   pub fits : sum_by file_size before ≤ max_items

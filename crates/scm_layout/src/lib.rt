@@ -1,12 +1,14 @@
 //! The layout that a session keeps beside its state, so that a frame need not walk the whole document.
 //!
 //! [`StateCounts`] has what the views of a few files and sections need to know of all others: items,
-//! checked items, lines of the old file and editable sections. A toggle mends it in place.
+//! checked items, lines of the old file and editable sections. It also has how much is marked in all. A
+//! toggle mends it in place.
 //! [`StateRows`] has the rows of each file and section. A fold mends it in place.
 #![tactic(auto)]
 
 pub mod file_counts;
 pub mod file_rows;
+pub mod marked;
 pub mod row_search;
 pub mod section_counts;
 mod section_folds;
@@ -18,6 +20,7 @@ pub mod state_rows;
 
 pub use file_counts::FileCounts;
 pub use file_rows::FileRows;
+pub use marked::Share;
 pub use scm_rows::SectionShape;
 pub use section_counts::SectionCounts;
 pub use section_rows::SectionRows;

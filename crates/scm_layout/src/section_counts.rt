@@ -75,7 +75,7 @@ fn checked_lines(lines: &[SectionChangedLine<'_>]) -> usize
 }
 
 /// Returns the number of checked items of a section that is one item: 1 if `is_checked`, else 0.
-fn mark_count(is_checked: bool) -> usize
+pub(crate) fn mark_count(is_checked: bool) -> usize
     ensures { result ≡ (if is_checked then 1 else 0) }
 {
     if is_checked { 1 } else { 0 }

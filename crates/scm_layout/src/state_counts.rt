@@ -1,12 +1,14 @@
 //! The counts of a state, which each toggle keeps.
-ghost use Rattle.std.specs.Prelude.{◌≡◌, ◌≤◌, sum_by, IfOk};
+ghost use Rattle.std.specs.Prelude.{◌≡◌, ◌+◌, ◌-◌, ◌≤◌, ◌<◌, ◌^◌, sum_by, IfOk};
 ghost use Rattle.scm_types.specs.declared.keys.SelectionKey.TheVariants as keys;
 ghost use Rattle.scm_types.specs.Limits.{file_size, max_items};
 ghost use Rattle.scm_selection.specs.Toggle.{line_mark, with_all_inverted, with_all_set, with_key_toggled};
 ghost use Rattle.scm_layout.specs.Counts.{counts_of};
-ghost use Rattle.scm_layout.specs.Recounts.{AreCountsButAllMarks, AreCountsButFile, AreCountsButLineAt, files_counts, has_modes_at, line_mark_at, line_mark_in};
+ghost use Rattle.scm_layout.specs.Recounts.{AreCountsButAllMarks, AreCountsButFile, AreCountsButLineAt, AreStateCountsButFile, AreStateCountsButLine, exchanged, files_counts, has_modes_at, line_mark_at, line_mark_in};
 
 use crate::file_counts::FileCounts;
+use crate::marked::{Share, changed_at, changed_in_files, checked_in_files, share_at};
+use crate::section_counts::mark_count;
 use scm_selection::toggles;
 use scm_types::keys::{FileKey, LineKey, SectionKey};
 use scm_types::{File, Items, Section, SelectionKey};
@@ -17,6 +19,10 @@ use std::alloc::{AllocError, Global};
 pub struct StateCounts {
     /// The counts of each file.
     pub files: Items<FileCounts>,
+    /// The number of checked lines of all files.
+    pub checked_lines: usize,
+    /// The number of files that are not wholly unchecked.
+    pub changed_files: usize,
 }
 
 /// Returns the mark of line `line` of `section`, if it has such a changed line.
@@ -117,9 +123,70 @@ impl StateCounts {
         for file in files {
             counts.push(FileCounts::new(alloc, file)?)?;
         }
-        Ok(StateCounts {
+        let mut counts = StateCounts {
             files: Items::from(counts),
-        })
+            checked_lines: 0,
+            changed_files: 0,
+        };
+        counts.add_up(files);
+        Ok(counts)
+    }
+
+    /// Sets the totals to those of `files`, whose counts `self` has.
+    fn add_up(&mut self, files: &[File<'_>])
+        requires counted { self.old.files ≡ files_counts files.now }
+        requires fits { sum_by file_size files.now ≤ max_items }
+        ensures { self.new ≡ counts_of files.now }
+    {
+        let counts = self.files.as_slice();
+        let checked_lines = checked_in_files(files, counts);
+        let changed_files = changed_in_files(counts);
+        self.checked_lines = checked_lines;
+        self.changed_files = changed_files;
+    }
+
+    /// Takes what a file added to the totals, `before`, from them, and adds what it adds now, `after`.
+    fn exchange(&mut self, before: Share, after: Share)
+        requires lines { before.lines ≤ self.old.checked_lines }
+        requires lines_fit { self.old.checked_lines - before.lines + after.lines < 2 ^ 64 }
+        requires changed { before.changed ≤ self.old.changed_files }
+        requires changed_fit { self.old.changed_files - before.changed + after.changed < 2 ^ 64 }
+        ensures { self.new ≡ exchanged self.old before after }
+    {
+        self.checked_lines = self.checked_lines - before.lines + after.lines;
+        self.changed_files = self.changed_files - before.changed + after.changed;
+    }
+
+    /// Counts file `index` of `files` anew, if there is one. `before` is what it added to the totals
+    /// before its marks changed.
+    fn recount_at(&mut self, files: &[File<'_>], index: usize, before: Share)
+        requires { AreStateCountsButFile self.old files.now index before }
+        ensures { self.new ≡ counts_of files.now }
+    {
+        recount_file(self.files.as_mut_slice(), files, index);
+        let after = share_at(self.files.as_slice(), files, index);
+        self.exchange(before, after);
+    }
+
+    /// Counts the line that `key` names as `checked` now, and what followed in its file. `changed` is 1
+    /// if the file had a checked item before, else 0.
+    fn count_line_at(&mut self, files: &[File<'_>], key: LineKey, checked: bool, changed: usize)
+        requires { AreStateCountsButLine self.old files.now key checked changed }
+        ensures { self.new ≡ counts_of files.now }
+    {
+        count_line(self.files.as_mut_slice(), files, key, checked);
+        let had = mark_count(!checked);
+        let has = mark_count(checked);
+        let still_changed = changed_at(self.files.as_slice(), files, key.file_idx);
+        let before = Share {
+            lines: had,
+            changed,
+        };
+        let after = Share {
+            lines: has,
+            changed: still_changed,
+        };
+        self.exchange(before, after);
     }
 
     /// Toggles the file that `key` names, and counts it anew.
@@ -129,8 +196,9 @@ impl StateCounts {
         ensures files { files.new ≡ with_key_toggled (keys.File key) files.old }
         ensures counts { self.new ≡ counts_of files.new }
     {
+        let before = share_at(self.files.as_slice(), files, key.file_idx);
         toggles::toggle_key(files, SelectionKey::File(key));
-        recount_file(self.files.as_mut_slice(), files, key.file_idx);
+        self.recount_at(files, key.file_idx, before);
     }
 
     /// Toggles the section that `key` names, and counts its file anew.
@@ -140,8 +208,9 @@ impl StateCounts {
         ensures files { files.new ≡ with_key_toggled (keys.Section key) files.old }
         ensures counts { self.new ≡ counts_of files.new }
     {
+        let before = share_at(self.files.as_slice(), files, key.file_idx);
         toggles::toggle_key(files, SelectionKey::Section(key));
-        recount_file(self.files.as_mut_slice(), files, key.file_idx);
+        self.recount_at(files, key.file_idx, before);
     }
 
     /// Toggles the line that `key` names, and counts it and the marks that follow. Reads other
@@ -153,11 +222,10 @@ impl StateCounts {
         ensures counts { self.new ≡ counts_of files.new }
     {
         let mark = line_mark_at(files, key);
+        let changed = changed_at(self.files.as_slice(), files, key.file_idx);
         toggle_line_in(self.files.as_slice(), files, key);
         match mark {
-            Some(was_checked) => {
-                count_line(self.files.as_mut_slice(), files, key, !was_checked);
-            }
+            Some(was_checked) => self.count_line_at(files, key, !was_checked, changed),
             None => {}
         }
     }
@@ -187,6 +255,7 @@ impl StateCounts {
     {
         toggles::invert_all(files);
         recount_files(self.files.as_mut_slice(), files);
+        self.add_up(files);
     }
 
     /// Sets every mark of `files`, as [`toggles::set_all`] does, and keeps their counts.
@@ -198,5 +267,6 @@ impl StateCounts {
     {
         toggles::set_all(files);
         recount_files(self.files.as_mut_slice(), files);
+        self.add_up(files);
     }
 }

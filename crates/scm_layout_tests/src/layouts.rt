@@ -18,13 +18,16 @@ fn file_counts<'a>(rt: &impl Abort, layout: &'a Layout) -> &'a FileCounts {
     &files[0]
 }
 
-/// Checks that the file has `checked` checked items: `lines` lines and `modes` modes.
+/// Checks that the file has `checked` checked items: `lines` lines and `modes` modes, and the totals that
+/// follow.
 fn check_marks(rt: &impl Abort, layout: &Layout, checked: usize, lines: usize, modes: usize) {
     let counts = file_counts(rt, layout);
     let sections = counts.sections.as_slice();
     assert!(rt; sections.len() == 4);
     let found = [counts.checked, sections[1].checked, sections[2].checked];
     check_equal(rt, found, [checked, lines, modes]);
+    let totals = (layout.counts.checked_lines, layout.counts.changed_files);
+    check_equal(rt, totals, (lines, checked.min(1)));
 }
 
 /// Checks that `found` has `numbers`: its items, checked items, and the editable sections and lines
@@ -44,6 +47,8 @@ fn check_counts(rt: &impl Abort, layout: &Layout) {
     let counts = file_counts(rt, layout);
     check_equal(rt, (counts.editable, counts.modes), (2, 1));
     check_equal(rt, (counts.items, counts.checked), (3, 2));
+    let totals = (layout.counts.checked_lines, layout.counts.changed_files);
+    check_equal(rt, totals, (1, 1));
     let sections = counts.sections.as_slice();
     assert!(rt; sections.len() == 4);
     check_section(rt, &sections[0], [0, 0, 0, 0]);

@@ -46,5 +46,3 @@ pub mod JumpLemmas
 pub mod TypedLemmas
 -- what a session shows on a terminal
 pub mod PaintedLemmas
--- how many lines are marked
-pub mod MarkedLemmas

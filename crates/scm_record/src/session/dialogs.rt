@@ -1,29 +1,12 @@
 //! The help and the quit dialog: how they are opened, closed and used.
-ghost use Rattle.std.specs.Prelude.{◌≡◌, count_by, nat_lt};
-ghost use Rattle.scm_layout.specs.declared.file_counts.FileCounts.{FileCounts};
-
 use super::{ActiveSession, Flow};
-use scm_layout::FileCounts;
 use scm_selection::counts::message_count;
 use scm_view::{QuitDialog, QuitDialogButtonId};
 
-/// Returns whether an item of the file with the counts `counts` is checked.
-fn has_checked(counts: &FileCounts) -> bool
-    ensures { result ≡ nat_lt 0 counts.now.checked }
-{
-    counts.checked > 0
-}
-
-/// Returns how many of the files with the counts `counts` have a checked item.
-fn checked_count(counts: &[FileCounts]) -> usize
-    ensures { result ≡ count_by (λ (c : FileCounts). nat_lt 0 c.checked) counts.now }
-{
-    counts.iter().filter(|counts| has_checked(counts)).count()
-}
-
 impl<'state> ActiveSession<'state> {
-    ghost use Rattle.std.specs.Prelude.{◌≡◌, not, None, option_map, if◌then◌else◌};
+    ghost use Rattle.std.specs.Prelude.{◌≡◌, ◌-◌, ◌^◌, min, not, None, option_map, if◌then◌else◌};
     ghost use Rattle.scm_selection.specs.Counts.{changed_count};
+    ghost use Rattle.scm_record.specs.Marked.{checked_lines};
     ghost use Rattle.scm_record.specs.Session.{with_dialog, with_help};
     ghost use Rattle.scm_record.specs.Change.{accepts, cancels, stays};
     ghost use Rattle.scm_record.specs.Dialogs.{after_quit_request, button_of, dialog_closed_or, with_focus, help_closed_or, is_quit_dialog_open, after_press};
@@ -35,11 +18,18 @@ impl<'state> ActiveSession<'state> {
         self.view_state.quit_dialog.is_some()
     }
 
-    /// Returns the number of files that are not wholly unchecked. Reads the layout's counts, and no line.
+    /// Returns the number of files that are not wholly unchecked. Reads the layout's total, and no file.
     pub(crate) fn changed_files(&self) -> usize
         ensures { result ≡ changed_count self.now.shown.state }
     {
-        checked_count(self.layout.counts.files.as_slice())
+        self.layout.counts.changed_files
+    }
+
+    /// Returns the number of checked lines, at most `usize::MAX`. Reads the layout's total, and no file.
+    pub(crate) fn checked_lines(&self) -> usize
+        ensures { result ≡ min (checked_lines self.now.shown.state.files) (2 ^ 64 - 1) }
+    {
+        self.layout.counts.checked_lines
     }
 
     /// Opens the quit dialog if changes or messages would be lost; otherwise cancels.

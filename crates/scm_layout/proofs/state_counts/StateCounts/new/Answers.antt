@@ -21,10 +21,9 @@ loop-file-preserved c =
     ∙ made-more file_counts made files i c.file-item.result c.loop-file-test.true c.file-item.is
     ∙ c.loop-file.invariant)
 
-pub returns : goal.returns
-returns c =
+pub add_up-requires-clause-counted : goal.add_up-requires-clause-counted
+add_up-requires-clause-counted c =
     let files = c.args.files.now in
     let made = c.loop-file.counts.items in
     let none : map file_counts (drop c.loop-file.file-index files) ≡ [] = rw (drop_all c.loop-file.file-index files c.loop-file-test.false) refl in
-    let all : c.from.result ≡ map file_counts files = c.from.ensures ∙ sym (append-nil made) ∙ ap (λ xs. made ++ xs) (sym none) ∙ c.loop-file.invariant in
-    rw all refl
+    c.from.ensures ∙ sym (append-nil made) ∙ ap (λ xs. made ++ xs) (sym none) ∙ c.loop-file.invariant

@@ -2,6 +2,7 @@ use Rattle.std.proofs.Common.{◌∙◌, List, map, ap, sym}
 use Rattle.scm_types.specs.declared.file.File.{File}
 use Rattle.scm_layout.specs.declared.state_counts.StateCounts.{StateCounts}
 use Rattle.scm_layout.proofs.BareLemmas.{bare_file, all_set-hidden}
+use Rattle.scm_layout.proofs.MarkedLemmas.{all-fit}
 use Rattle.scm_layout.proofs.state_counts.StateCounts.set_all.Goals as goal
 
 pub recount_files-requires : goal.recount_files-requires
@@ -11,3 +12,6 @@ recount_files-requires c = record {
   same = sym (all_set-hidden c.args.files.now) ∙ ap (λ (fs : List File). map bare_file fs) (sym c.set_all.ensures);
   fits = c.requires.fits;
 }
+
+pub add_up-requires-clause-fits : goal.add_up-requires-clause-fits
+add_up-requires-clause-fits c = all-fit c.args.files.now _ (sym (all_set-hidden c.args.files.now) ∙ ap (λ (fs : List File). map bare_file fs) (sym c.set_all.ensures)) c.requires.fits

@@ -7,14 +7,15 @@ use Rattle.scm_layout.proofs.FilesLemmas.{missing-line}
 use Rattle.scm_layout.proofs.state_counts.StateCounts.toggle_line.Goals as goal
 
 pub toggle_line_in-requires : goal.toggle_line_in-requires
-toggle_line_in-requires c = c.as_slice.ensures ∙ ap (λ (d : StateCounts). d.files) c.requires.counted
+toggle_line_in-requires c = c.as_slice-2.ensures ∙ ap (λ (d : StateCounts). d.files) c.requires.counted
 
-pub count_line-requires : goal.count_line-requires
-count_line-requires c = record {
+pub count_line_at-requires : goal.count_line_at-requires
+count_line_at-requires c = record {
   before = c.args.files.now;
-  is_counted = c.as_mut_slice.ensures.value ∙ ap (λ (d : StateCounts). d.files) c.requires.counted;
+  is_counted = c.requires.counted;
   mark = sym c.line_mark_at-mark.ensures ∙ c.in-Some.is ∙ ap Some (sym (not-not c.in-Some.was_checked));
   after = c.toggle_line_in.ensures;
+  changed_is = c.changed_at-changed.ensures;
   fits = c.requires.fits;
 }
 

@@ -2,8 +2,8 @@ use Rattle.std.proofs.Common.{◌≡◌, ◌∙◌, List, length, get_or, sym, a
 use Rattle.scm_layout.specs.declared.section_counts.SectionCounts.{SectionCounts}
 use Rattle.scm_layout.specs.Counts.{checked_in}
 use Rattle.scm_layout.proofs.CountLemmas.{length-sections_counts}
-use Rattle.scm_record.proofs.MarkedLemmas.{checked-at}
-use Rattle.scm_record.proofs.live.marked.checked_in_sections.Goals as goal
+use Rattle.scm_layout.proofs.MarkedLemmas.{checked-at}
+use Rattle.scm_layout.proofs.marked.checked_in_sections.Goals as goal
 
 pub bounds-counts-index : goal.bounds-counts-index
 bounds-counts-index c =
