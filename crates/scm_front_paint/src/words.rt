@@ -1,5 +1,5 @@
 //! The words that differ in a removed line and the added line that replaces it.
-ghost use Rattle.std.specs.Prelude.{◌≡◌, ◌-◌, ◌<◌, ◌≤◌, [], IfErr, IfOk, IfSome, IsTrue, length, map, option_map, slice_index_or, string_bytes};
+ghost use Rattle.std.specs.Prelude.{◌≡◌, ◌-◌, ◌<◌, ◌≤◌, [], IfErr, IfOk, IfSome, IsTrue, map, option_map, slice_index_or, string_bytes};
 ghost use Rattle.std.specs.List.{list_any};
 ghost use Rattle.std.specs.Str.{IsCharBoundary};
 ghost use Rattle.scm_errors.specs.declared.error.RecordError.TheVariants.{OutOfMemory};
@@ -223,34 +223,36 @@ fn are_for(words: &LineWords, pair: PairOfLines<'_>) -> bool
 }
 
 /// Returns whether `words` were found for `pair`, if there are any.
-fn is_for(words: &Option<LineWords>, pair: PairOfLines<'_>) -> bool {
+fn is_for(words: &Option<LineWords>, pair: PairOfLines<'_>) -> bool
+    ensures { IsTrue result → IfSome words.now (λ words. AreFor words (pair_value pair.entry)) }
+{
     match words {
         None => false,
         Some(words) => are_for(words, pair),
     }
 }
 
-/// Returns where `kept` has what was found for `pair`, if that is there: at `row`, if it is there too.
-fn index_for(kept: &[Option<LineWords>], row: usize, pair: PairOfLines<'_>) -> Option<usize>
-    ensures { IfSome result (λ index. index < length kept.now) }
+/// Takes `kept`, if it was found for `pair`.
+fn take_if_for(kept: &mut Option<LineWords>, pair: PairOfLines<'_>) -> Option<LineWords>
+    ensures { IfSome result (λ words. AreFor words (pair_value pair.entry)) }
 {
-    if row < kept.len() && is_for(&kept[row], pair) {
-        Some(row)
+    if is_for(kept, pair) {
+        kept.take()
     } else {
-        kept.iter().position(|words| is_for(words, pair))
+        None
     }
 }
 
 /// Takes from `kept` what was found for `pair`, if that is there. Where no row moved, it is at `row`.
-fn take_for(
-    kept: &mut [Option<LineWords>],
-    row: usize,
-    pair: PairOfLines<'_>,
-) -> Option<LineWords> {
-    match index_for(kept, row, pair) {
-        None => None,
-        Some(index) => kept[index].take(),
+fn take_for(kept: &mut [Option<LineWords>], row: usize, pair: PairOfLines<'_>) -> Option<LineWords>
+    ensures { IfSome result (λ words. AreFor words (pair_value pair.entry)) }
+{
+    if row < kept.len() {
+        if let Some(words) = take_if_for(&mut kept[row], pair) {
+            return Some(words);
+        }
     }
+    kept.iter_mut().find_map(|words| take_if_for(words, pair))
 }
 
 /// Returns what is set off in the line of `pair` that is meant, on row `row`: what is in `kept`, if that was
@@ -267,13 +269,7 @@ fn words_for(
 {
     match take_for(kept, row, pair) {
         None => words_of_pair(alloc, pair),
-        Some(words) => {
-            if !are_for(&words, pair) {
-                return words_of_pair(alloc, pair);
-            }
-            let _ = &words.columns;
-            Ok(words)
-        }
+        Some(words) => Ok(words),
     }
 }
 
