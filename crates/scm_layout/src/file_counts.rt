@@ -184,7 +184,7 @@ impl FileCounts {
 
     /// Counts the checked items of `file` anew, if no more than its marks changed since `self` was
     /// counted.
-    pub fn recount(&mut self, file: &File<'_>)
+    pub(crate) fn recount(&mut self, file: &File<'_>)
         requires { AreCountsButMarks self.old file.now }
         ensures { self.new ≡ file_counts file.now }
     {
@@ -193,7 +193,7 @@ impl FileCounts {
 
     /// Counts a line of section `section` of `file` that was just set to `checked`, and the marks
     /// that followed. Reads no other line.
-    pub fn count_line(&mut self, file: &File<'_>, section: usize, checked: bool)
+    pub(crate) fn count_line(&mut self, file: &File<'_>, section: usize, checked: bool)
         requires { AreCountsButLine self.old file.now section checked }
         ensures { self.new ≡ file_counts file.now }
     {

@@ -8,7 +8,7 @@
 
 pub mod file_counts;
 pub mod file_rows;
-pub mod marked;
+mod marked;
 pub mod row_search;
 pub mod section_counts;
 mod section_folds;
@@ -20,7 +20,6 @@ pub mod state_rows;
 
 pub use file_counts::FileCounts;
 pub use file_rows::FileRows;
-pub use marked::Share;
 pub use scm_rows::SectionShape;
 pub use section_counts::SectionCounts;
 pub use section_rows::SectionRows;

@@ -12,11 +12,11 @@ use scm_types::{File, Section};
 
 /// What one file adds to the totals of a state.
 #[derive(Clone, Copy, Debug)]
-pub struct Share {
+pub(crate) struct Share {
     /// The number of checked lines.
-    pub lines: usize,
+    pub(crate) lines: usize,
     /// 1 if the file is not wholly unchecked, else 0.
-    pub changed: usize,
+    pub(crate) changed: usize,
 }
 
 /// Returns the number of checked lines of `section`, whose counts are `counts`.

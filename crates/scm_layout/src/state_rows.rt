@@ -186,7 +186,7 @@ impl StateRows {
 
     /// Mends the rows of `files` after `key` was folded or unfolded, and `set` changed by it alone:
     /// those of its file, and the files below it move. It does not allocate.
-    pub fn refold_key(
+    pub(crate) fn refold_key(
         &mut self,
         set: &KeySet,
         commit_idx: usize,

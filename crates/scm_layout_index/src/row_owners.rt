@@ -91,7 +91,7 @@ impl LayoutIndex {
 
     /// Returns the component that owns the place at `column` of the screen, on the row of `owners`,
     /// if any. Columns off the screen have no owner.
-    pub fn owner_on(&self, owners: &RowOwners, column: usize) -> Option<ComponentId>
+    pub(crate) fn owner_on(&self, owners: &RowOwners, column: usize) -> Option<ComponentId>
         requires { AreRowOwners self.now owners.now }
         ensures { (w h s : ℕ) (shown : ViewState) → IsLayoutIndexOf w h s shown self.now →
             result ≡ (if nat_lt column w then owner w h s shown owners.now.row column else None) }
