@@ -1,5 +1,5 @@
 //! A style by its number, which compares and copies it at once.
-ghost use Rattle.std.specs.Prelude.{◌≡◌, IsTrue};
+ghost use Rattle.std.specs.Prelude.{◌≡◌, ◌==◌, IsTrue};
 ghost use Rattle.scm_terminal.specs.Style.{plain_style, style_code};
 
 use crate::style::{code_of, style_of_code};
@@ -55,7 +55,8 @@ impl NumberedStyle {
 
     /// Returns whether both styles are the same.
     pub fn is_same(self, other: NumberedStyle) -> bool
-        ensures { IsTrue result → self ≡ other }
+        ensures same { IsTrue result → self ≡ other }
+        ensures code { result ≡ (style_code self == style_code other) }
     {
         self.code() == other.code()
     }
