@@ -13,7 +13,7 @@ use Rattle.scm_terminal.proofs.RunLemmas.{Runs-append}
 use Rattle.scm_terminal.proofs.SentLemmas.{length-row}
 use Rattle.scm_record.specs.Painted.{screen_of}
 use Rattle.scm_front_paint.specs.declared.themes.Theme.{Theme}
-use Rattle.scm_front_paint.specs.declared.words.Columns.{Columns}
+use Rattle.scm_front_paint.specs.declared.columns.Columns.{Columns}
 use Rattle.scm_front_paint.specs.Pane.{offset}
 use Rattle.scm_front_paint.specs.Seen.{Seen}
 use Rattle.scm_front_paint.specs.Status.{left_text, right_of}

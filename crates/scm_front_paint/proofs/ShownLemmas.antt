@@ -10,7 +10,7 @@ use Rattle.std.proofs.lemmas.List.FromFn.{fill_by_all, get_or-range_with_len, le
 use Rattle.scm_cells.specs.declared.style.Style.{Style}
 use Rattle.scm_terminal.specs.Style.{plain_style}
 use Rattle.scm_front_paint.specs.declared.themes.Theme.{Theme}
-use Rattle.scm_front_paint.specs.declared.words.Columns.{Columns}
+use Rattle.scm_front_paint.specs.declared.columns.Columns.{Columns}
 use Rattle.scm_front_paint.specs.declared.restyling.Effect.{Effect}
 use Rattle.scm_front_paint.specs.declared.restyling.Effect.TheVariants.{SetOff}
 use Rattle.scm_front_paint.specs.Restyling.{restyled_by, style_after}

@@ -5,7 +5,7 @@ use Rattle.std.proofs.lemmas.Bool.{cases_lt}
 use Rattle.std.proofs.lemmas.List.{get_or_append_left, get_or_push, get_or-map, length-map, length_push}
 use Rattle.scm_diff.specs.Words.{AreSpans, AreSpansFrom}
 use Rattle.scm_diff.specs.declared.words.WordSpan.{WordSpan}
-use Rattle.scm_front_paint.specs.declared.words.Columns.{Columns}
+use Rattle.scm_front_paint.specs.declared.columns.Columns.{Columns}
 use Rattle.scm_front_paint.specs.LineValue.{LineValue}
 use Rattle.scm_record.specs.Frames.{scene_of}
 use Rattle.scm_record.specs.Live.{Live}

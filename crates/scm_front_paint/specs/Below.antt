@@ -11,7 +11,7 @@ use Rattle.scm_record.specs.Frames.{columns_of, scene_of}
 use Rattle.scm_record.specs.Painted.{screen_of, style_at}
 use Rattle.scm_front_paint.specs.declared.painter.FrontPainter.{FrontPainter}
 use Rattle.scm_front_paint.specs.declared.themes.Theme.{Theme}
-use Rattle.scm_front_paint.specs.declared.words.Columns.{Columns}
+use Rattle.scm_front_paint.specs.declared.columns.Columns.{Columns}
 use Rattle.scm_front_paint.specs.Blank.{PaintsLast, blank_cells}
 use Rattle.scm_front_paint.specs.Pane.{offset}
 use Rattle.scm_front_paint.specs.Seen.{Seen}

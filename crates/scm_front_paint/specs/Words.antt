@@ -19,7 +19,7 @@ use Rattle.scm_document.specs.declared.commit_view.CommitViewMode.TheVariants.{I
 use Rattle.scm_record.specs.Frames.{scene_of}
 use Rattle.scm_record.specs.Live.{Live}
 use Rattle.scm_record.specs.ShownLines.{line_on}
-use Rattle.scm_front_paint.specs.declared.words.Columns.{Columns}
+use Rattle.scm_front_paint.specs.declared.columns.Columns.{Columns}
 use Rattle.scm_front_paint.specs.Capped.{capped}
 use Rattle.scm_front_paint.specs.Pane.{is_free}
 

@@ -4,8 +4,8 @@ use Rattle.scm_record.specs.Live.{Live}
 use Rattle.scm_record.specs.ShownLines.{line_after, line_on}
 use Rattle.scm_front_paint.specs.Words.{Pair}
 use Rattle.scm_front_paint.specs.LineValue.{LineValue}
-use Rattle.scm_front_paint.specs.declared.words.Columns.{Columns}
-use Rattle.scm_front_paint.specs.declared.words.PairOfLines.{PairOfLines}
+use Rattle.scm_front_paint.specs.declared.columns.Columns.{Columns}
+use Rattle.scm_front_paint.specs.declared.pairs.PairOfLines.{PairOfLines}
 use Rattle.scm_front_paint.specs.declared.words.Stretch.{Stretch}
 
 -- the pair of the code's value

@@ -5,10 +5,13 @@
 #![tactic(auto)]
 
 mod blanks;
+mod columns;
 mod cut;
 pub mod laws;
 mod line_words;
 mod painter;
+mod pair_words;
+mod pairs;
 pub mod pane;
 mod restyling;
 mod shown;

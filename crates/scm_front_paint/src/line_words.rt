@@ -1,5 +1,5 @@
 //! What is set off in a line, as a painter keeps it.
-use crate::words::Columns;
+use crate::columns::Columns;
 use std::marker::Model;
 
 /// What is set off in a line of a pair, with the lines for which it was found.

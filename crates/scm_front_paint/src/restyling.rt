@@ -5,8 +5,8 @@ ghost use Rattle.scm_front_paint.specs.Restyling.{IsRestyled, restyled_by, style
 ghost use Rattle.scm_front_paint.specs.Themes.{themed};
 ghost use Rattle.scm_front_paint.specs.Words.{with_words};
 
+use crate::columns::{Columns, set_off};
 use crate::themes::{Theme, themed};
-use crate::words::{Columns, set_off};
 use scm_record::{NumberedStyle, Style};
 
 /// What changes a style.

@@ -3,10 +3,11 @@ ghost use Rattle.std.specs.Prelude.{◌≡◌, length};
 ghost use Rattle.scm_terminal.specs.StyledCell.{row_of_styles};
 ghost use Rattle.scm_front_paint.specs.ShownView.{moved_style, style_in};
 
+use crate::columns::with_words;
 use crate::line_words::LineWords;
 use crate::restyling::{put_in_theme, set_off_words};
 use crate::themes::{Theme, themed};
-use crate::words::{columns_on, with_words};
+use crate::words::columns_on;
 use scm_record::{LiveSession, NumberedStyle, Style, Styles};
 
 /// The styles of a session's screen.

@@ -1,7 +1,7 @@
 use Rattle.std.proofs.Common.{◌≡◌, List, ◌∙◌, ap, get_or, take, take_all, arith}
 use Rattle.scm_terminal.specs.Style.{plain_style}
 use Rattle.scm_front_paint.specs.declared.restyling.Effect.TheVariants.{SetOff}
-use Rattle.scm_front_paint.specs.declared.words.Columns.{Columns}
+use Rattle.scm_front_paint.specs.declared.columns.Columns.{Columns}
 use Rattle.scm_front_paint.specs.Restyling.{style_after}
 use Rattle.scm_front_paint.specs.Words.{with_words}
 use Rattle.scm_front_paint.proofs.ShownLemmas.{set_off-more}

@@ -1,5 +1,5 @@
 use Rattle.scm_front_paint.proofs.WordsLemmas.{borders}
-use Rattle.scm_front_paint.proofs.words.columns_of_spans.Goals as goal
+use Rattle.scm_front_paint.proofs.pair_words.columns_of_spans.Goals as goal
 
 pub columns_of_span-requires : goal.columns_of_span-requires
 columns_of_span-requires c =

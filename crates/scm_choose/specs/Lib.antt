@@ -1,0 +1,2 @@
+-- what is offered to the user, and what they chose
+pub mod Choice
