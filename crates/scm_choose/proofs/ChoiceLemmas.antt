@@ -1,5 +1,5 @@
 -- The file that a user marked.
-use Rattle.std.proofs.Common.{◌≡◌, ℕ, List, [], ◌∷◌, map, refl, true, ap, subst, absurd, ◌∙◌}
+use Rattle.std.proofs.Common.{◌≡◌, ℕ, List, [], ◌∷◌, map, refl, true, ap, subst, ◌∙◌}
 use Rattle.scm_types.specs.declared.file.File.{File}
 use Rattle.scm_types.specs.declared.state.RecordState.{RecordState}
 use Rattle.scm_input.specs.declared.inputs.TerminalKind.{TerminalKind}
@@ -20,4 +20,4 @@ pub chosen-of : (path old new chosen : List ℕ) (kind : TerminalKind) (given an
 chosen-of path old new chosen kind given answer o a e =
     let files : map unchecked (o.file ∷ []) ≡ map unchecked answer.files = subst (λ (fs : List File). map unchecked fs ≡ map unchecked answer.files) o.alone (ap (λ (s : RecordState). s.files) a.kept.same) in
     let m = one-marked o.file answer.files files in
-    record { given = given; answer = answer; offers = o; accepted = a; marked = m.0; alone = m.1.0; same = m.1.1.0; are = e ∙ m.1.1.1 }
+    record { given = given; answer = answer; offers = o; accepted = a; marked = m.0; alone = m.1; same = m.2; are = e ∙ m.3 }

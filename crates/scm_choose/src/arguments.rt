@@ -9,8 +9,10 @@ use std::env;
 pub struct Arguments {
     /// The path of the old version.
     pub old: String,
-    /// The path of the new version, which the screen shows.
+    /// The path of the new version.
     pub new: String,
+    /// The path that the screen shows.
+    pub path: String,
     /// The size of the terminal.
     pub kind: TerminalKind,
     /// The path of the file that the bytes from the terminal are read from.
@@ -59,6 +61,7 @@ pub fn read_arguments(rt: &HostRuntime) -> Result<Arguments, ChooseError> {
     Ok(Arguments {
         old: next_word(&mut words)?,
         new: next_word(&mut words)?,
+        path: next_word(&mut words)?,
         kind: next_size(&mut words)?,
         keys: next_word(&mut words)?,
         screen: next_word(&mut words)?,

@@ -9,7 +9,7 @@ use thiserror::Error;
 #[derive(Debug, Drop, Error)]
 pub enum ChooseError {
     /// The arguments are not those that the program takes.
-    #[error("usage: choose OLD NEW COLUMNS ROWS KEYS SCREEN")]
+    #[error("usage: choose OLD NEW PATH COLUMNS ROWS KEYS SCREEN")]
     Usage,
     /// A file cannot be read, or the terminal is gone.
     #[error("{0}")]

@@ -1,9 +1,9 @@
 //! Selects changed lines of a file at a terminal.
 //!
-//! The arguments are OLD NEW COLUMNS ROWS KEYS SCREEN: the two versions of the file, the size of the
-//! terminal, and the files that the bytes from the terminal are read from and the bytes to it are
-//! written to. Both may be the terminal itself, in raw mode. If the user accepts, writes OLD with the
-//! marked changes to standard output.
+//! The arguments are OLD NEW PATH COLUMNS ROWS KEYS SCREEN: the two versions of the file, the path that
+//! the screen shows for them, the size of the terminal, and the files that the bytes from the terminal
+//! are read from and the bytes to it are written to. Both may be the terminal itself, in raw mode. If the
+//! user accepts, writes OLD with the marked changes to standard output.
 #![tactic(auto)]
 
 mod arguments;
@@ -30,7 +30,7 @@ fn run(rt: &HostRuntime, arguments: &Arguments) -> Result<(), ChooseError> {
         .open(rt, arguments.screen.as_str())?;
     let chosen = chosen_bytes(
         rt.alloc(),
-        arguments.new.as_str(),
+        arguments.path.as_str(),
         old.as_slice(),
         new.as_slice(),
         arguments.kind,

@@ -31,6 +31,16 @@ fn show<W: Write>(
     Ok(())
 }
 
+/// Hands in a silence, if the session of `turn` waits.
+fn after_silence<'a>(turn: Turn<'a>, decoder: &mut Decoder) -> Result<Turn<'a>, RecordError>
+    ensures path { IfOk result (λ next. (calls : List Call) × Path turn.entry calls next) }
+{
+    match turn {
+        Turn::Waiting(session) => session.idle(decoder),
+        ended => Ok(ended),
+    }
+}
+
 /// Hands in `typed`, the bytes of a read, and a silence behind them, unless the read took all that it
 /// has room for.
 fn hand_in<'a>(
@@ -41,16 +51,12 @@ fn hand_in<'a>(
     ensures path { IfOk result (λ turn.
         (calls : List Call) × Path (Waiting session.entry) calls turn) }
 {
-    match session.typed(decoder, typed)? {
-        Turn::Waiting(session) => {
-            if typed.len() < ROOM {
-                session.idle(decoder)
-            } else {
-                Ok(Turn::Waiting(session))
-            }
-        }
-        ended => Ok(ended),
+    let turn = session.typed(decoder, typed)?;
+    if typed.len() == ROOM {
+        return Ok(turn);
     }
+    let next = after_silence(turn, decoder)?;
+    Ok(next)
 }
 
 /// Reads from `keys`, and hands in what was read.
@@ -87,7 +93,8 @@ pub fn accepted_state<'a, R: Read, W: Write>(
     let mut session = session;
     'turns: for _ in 0..u64::MAX {
         show(&session, &mut painter, screen)?;
-        session = match take_turn(session, &mut decoder, keys)? {
+        let turn = take_turn(session, &mut decoder, keys)?;
+        session = match turn {
             Turn::Waiting(session) => session,
             Turn::Accepted(state) => return Ok(state),
             // no commit has a message, so no event asks for one

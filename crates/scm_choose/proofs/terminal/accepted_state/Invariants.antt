@@ -5,4 +5,4 @@ use Rattle.scm_choose.proofs.terminal.accepted_state.Given as goal
 
 -- the calls so far lead here
 abbrev pub invariant-turns : goal.invariant-turns
-invariant-turns l = (calls : List Call) × Path (Waiting l.initial.session) calls (Waiting l.session)
+invariant-turns g l = (calls : List Call) × Path (Waiting l.initial.session) calls (Waiting l.session)
