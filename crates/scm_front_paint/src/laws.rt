@@ -15,7 +15,7 @@ ghost use Rattle.scm_record.specs.declared.live.Turn.TheVariants as turns;
 ghost use Rattle.scm_front.specs.Fronts.{beneath_of};
 ghost use Rattle.scm_front_paint.specs.declared.themes.Theme.{Theme};
 ghost use Rattle.scm_front_paint.specs.declared.view.ViewTurn.{ViewTurn};
-ghost use Rattle.scm_front_paint.specs.declared.words.Columns.{Columns};
+ghost use Rattle.scm_front_paint.specs.declared.columns.Columns.{Columns};
 ghost use Rattle.scm_front_paint.specs.Below.{AreWhole, Before, LeadsToBoth, PaintsBoth, Pictures, StayApart, commands_of, rows_shown, view_pictures, width_of};
 ghost use Rattle.scm_front_paint.specs.Seen.{IsSeen, Seen};
 ghost use Rattle.scm_front_paint.specs.Sideways.{sideways_picture, sideways_row};
