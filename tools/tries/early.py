@@ -22,15 +22,11 @@ def lines_before_the_library(place):
     more = {"PATH": programs + os.pathsep + os.environ["PATH"], "PROGRAM": trying.program("scm_choose")}
 
     def chosen(*keys, old="old"):
-        into = os.path.join(folder, "into")
-        status, _ = place.type([NOW, "-o", into, old, "new"], keys, folder, **more)
-        found = changed.read_file(into) if os.path.exists(into) else None
-        if found is not None:
-            os.unlink(into)
-        return status, found
+        status, _ = place.type(["sh", "-c", '"$0" "$1" new > into', NOW, old], keys, folder, **more)
+        return status, changed.read_file(os.path.join(folder, "into"))
 
     ends = [chosen("l", "space", "c"), chosen("c"), chosen("a", "c"), chosen("down", "z", "q"), chosen(old="nothing")]
-    return ends == [(0, b"a\nB\n\xff\nd"), (0, OLD), (0, NEW), (1, None), (2, None)] and place.has_left_nothing()
+    return ends == [(0, b"a\nB\n\xff\nd"), (0, OLD), (0, NEW), (1, b""), (2, b"")] and place.has_left_nothing()
 
 
 ALL = lines_before_the_library,
