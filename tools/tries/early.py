@@ -21,12 +21,13 @@ def lines_before_the_library(place):
     programs = place.folder("programs", {"rt": ("run", RT)})
     more = {"PATH": programs + os.pathsep + os.environ["PATH"], "PROGRAM": trying.program("scm_choose")}
 
-    def chosen(*keys, old="old"):
-        status, _ = place.type(["sh", "-c", '"$0" "$1" new > into', NOW, old], keys, folder, **more)
+    def chosen(*keys, old="old", how=""):
+        status, _ = place.type(["sh", "-c", '"$0" %s "$1" new > into' % how, NOW, old], keys, folder, **more)
         return status, changed.read_file(os.path.join(folder, "into"))
 
     ends = [chosen("l", "space", "c"), chosen("c"), chosen("a", "c"), chosen("down", "z", "q"), chosen(old="nothing")]
-    return ends == [(0, b"a\nB\n\xff\nd"), (0, OLD), (0, NEW), (1, b""), (2, b"")] and place.has_left_nothing()
+    ends.append(chosen("l", "space", "c", how="--proved"))
+    return ends == [(0, b"a\nB\n\xff\nd"), (0, OLD), (0, NEW), (1, b""), (2, b""), ends[0]] and place.has_left_nothing()
 
 
 ALL = lines_before_the_library,
