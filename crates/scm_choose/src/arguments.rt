@@ -51,6 +51,17 @@ fn next_size(words: &mut env::Args) -> Result<TerminalKind, ChooseError> {
     Ok(TerminalKind::Testing { width, height })
 }
 
+/// Checks that none of `words` is left.
+///
+/// # Errors
+/// `Usage`: a word is left.
+fn check_end(words: &mut env::Args) -> Result<(), ChooseError> {
+    match words.next() {
+        Some(_word) => Err(ChooseError::Usage),
+        None => Ok(()),
+    }
+}
+
 /// Reads the arguments of the program.
 ///
 /// # Errors
@@ -58,12 +69,14 @@ fn next_size(words: &mut env::Args) -> Result<TerminalKind, ChooseError> {
 pub fn read_arguments(rt: &HostRuntime) -> Result<Arguments, ChooseError> {
     let mut words = env::args(rt)?;
     let _program = next_word(&mut words)?;
-    Ok(Arguments {
+    let arguments = Arguments {
         old: next_word(&mut words)?,
         new: next_word(&mut words)?,
         path: next_word(&mut words)?,
         kind: next_size(&mut words)?,
         keys: next_word(&mut words)?,
         screen: next_word(&mut words)?,
-    })
+    };
+    check_end(&mut words)?;
+    Ok(arguments)
 }

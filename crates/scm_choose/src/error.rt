@@ -1,4 +1,6 @@
 //! The errors of the program.
+ghost use Rattle.std.specs.Prelude.{◌≡◌};
+ghost use Rattle.scm_choose.specs.Status.{status_of};
 
 use scm_record::RecordError;
 use std::alloc::{AllocError, AllocFailed};
@@ -30,7 +32,9 @@ pub enum ChooseError {
 
 impl ChooseError {
     /// Returns the exit status of the program: 1 if the user cancelled or no more keys come, 2 otherwise.
-    pub fn status(&self) -> u8 {
+    pub fn status(&self) -> u8
+        ensures { result ≡ status_of self.now }
+    {
         match self {
             ChooseError::NoMoreKeys | ChooseError::Session(RecordError::Cancelled) => 1,
             ChooseError::Usage
