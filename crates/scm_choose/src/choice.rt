@@ -1,12 +1,15 @@
 //! What is offered to the user, and what they chose.
-ghost use Rattle.std.specs.Prelude.{◌≡◌, IfOk};
+ghost use Rattle.std.specs.Prelude.{◌≡◌, ℕ, IsFalse, List, Err, IfErr, IfOk};
+ghost use Rattle.std.specs.Io.KnownBytes.{Consumes};
+ghost use Rattle.scm_types.specs.Limits.{is_accepted_state};
 ghost use Rattle.scm_diff.specs.Bytes.{text_of_bytes};
-ghost use Rattle.scm_choose.specs.Choice.{IsAccepted, IsChosen, Offers, bytes_of_first};
+ghost use Rattle.scm_choose.specs.Choice.{IsChosen, IsTooLarge, Offers, bytes_of_first};
+ghost use Rattle.scm_choose.specs.Keys.{IsAccepted};
+ghost use Rattle.scm_choose.specs.declared.error.ChooseError.TheVariants.{TooLarge};
 
 use crate::error::ChooseError;
 use crate::terminal::accepted_state;
 use scm_diff::{Version, changed_file, side_bytes, text_of_bytes};
-use scm_record::live::sessions_are_runs;
 use scm_record::{File, LiveSession, RecordState, TerminalKind, Text};
 use std::alloc::{AllocError, Global};
 use std::io::{Read, Write};
@@ -61,15 +64,17 @@ fn marked_state<'a, R: Read, W: Write>(
     keys: &mut R,
     screen: &mut W,
 ) -> Result<RecordState<'a>, ChooseError>
-    ensures { IfOk result (λ marked. IsAccepted kind state.entry marked) }
+    ensures ok { IfOk result (λ marked.
+        (typed : List ℕ) × Consumes (R.remaining keys.old) (R.remaining keys.new) typed
+        × IsAccepted kind state.entry typed marked) }
+    ensures is_too_large { IsFalse (is_accepted_state state.entry) → result ≡ Err TooLarge }
+    ensures err { IfErr result (λ e. e ≡ TooLarge → IsFalse (is_accepted_state state.entry)) }
 {
     if !state.is_accepted() {
         return Err(ChooseError::TooLarge);
     }
     let session = LiveSession::new(alloc, kind, state)?;
-    let marked = accepted_state(alloc, session, keys, screen)?;
-    sessions_are_runs();
-    Ok(marked)
+    accepted_state(alloc, session, keys, screen)
 }
 
 /// Returns the bytes that the user chooses of two texts, which stand for bytes.
@@ -82,7 +87,10 @@ fn chosen_of_texts<R: Read, W: Write>(
     keys: &mut R,
     screen: &mut W,
 ) -> Result<Vec<u8>, ChooseError>
-    ensures { IfOk result (λ chosen. IsChosen path.now old.now new.now kind chosen.items) }
+    ensures ok { IfOk result (λ chosen.
+        (typed : List ℕ) × Consumes (R.remaining keys.old) (R.remaining keys.new) typed
+        × IsChosen path.now old.now new.now kind typed chosen.items) }
+    ensures err { IfErr result (λ e. e ≡ TooLarge → IsTooLarge path.now old.now new.now) }
 {
     let state = offered_state(alloc, path, old, new)?;
     let marked = marked_state(alloc, kind, state, keys, screen)?;
@@ -110,9 +118,12 @@ pub fn chosen_bytes<R: Read, W: Write>(
     keys: &mut R,
     screen: &mut W,
 ) -> Result<Vec<u8>, ChooseError>
-    ensures { IfOk result (λ chosen.
-        IsChosen path.now (text_of_bytes old.now) (text_of_bytes new.now)
-        kind chosen.items) }
+    ensures ok { IfOk result (λ chosen.
+        (typed : List ℕ) × Consumes (R.remaining keys.old) (R.remaining keys.new) typed
+        × IsChosen path.now (text_of_bytes old.now) (text_of_bytes new.now)
+        kind typed chosen.items) }
+    ensures err { IfErr result (λ e. e ≡ TooLarge
+        → IsTooLarge path.now (text_of_bytes old.now) (text_of_bytes new.now)) }
 {
     let old = text_of_bytes(alloc, old)?;
     let new = text_of_bytes(alloc, new)?;

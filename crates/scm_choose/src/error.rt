@@ -1,6 +1,8 @@
 //! The errors of the program.
 ghost use Rattle.std.specs.Prelude.{◌≡◌};
+ghost use Rattle.scm_errors.specs.declared.error.RecordError.TheVariants.{OutOfMemory};
 ghost use Rattle.scm_choose.specs.Status.{status_of};
+ghost use Rattle.scm_choose.specs.declared.error.ChooseError.TheVariants.{Io, Session};
 
 use scm_record::RecordError;
 use std::alloc::{AllocError, AllocFailed};
@@ -47,24 +49,32 @@ impl ChooseError {
 }
 
 impl From<io::Error> for ChooseError {
+    ghost from_gives = { λ error e. e ≡ Io error };
+
     fn from(error: io::Error) -> ChooseError {
         ChooseError::Io(error)
     }
 }
 
 impl From<RecordError> for ChooseError {
+    ghost from_gives = { λ error e. e ≡ Session error };
+
     fn from(error: RecordError) -> ChooseError {
         ChooseError::Session(error)
     }
 }
 
 impl From<AllocError> for ChooseError {
+    ghost from_gives = { λ _ e. e ≡ Session OutOfMemory };
+
     fn from(error: AllocError) -> ChooseError {
         ChooseError::Session(error.into())
     }
 }
 
 impl<T: Drop> From<AllocFailed<T>> for ChooseError {
+    ghost from_gives = { λ _ e. e ≡ Session OutOfMemory };
+
     fn from(error: AllocFailed<T>) -> ChooseError {
         ChooseError::Session(error.into())
     }

@@ -1,7 +1,9 @@
 //! A session at a terminal.
-ghost use Rattle.std.specs.Prelude.{List, IfOk};
-ghost use Rattle.scm_record.specs.LiveCalls.{Call, Path};
-ghost use Rattle.scm_record.specs.declared.live.Turn.TheVariants.{Waiting, Accepted};
+ghost use Rattle.std.specs.Prelude.{◌≢◌, ℕ, List, IfErr, IfOk};
+ghost use Rattle.std.specs.Io.KnownBytes.{Consumes};
+ghost use Rattle.scm_record.specs.declared.live.Turn.TheVariants.{Accepted};
+ghost use Rattle.scm_choose.specs.Keys.{IsTyped, ReadLeads, SilenceFollows};
+ghost use Rattle.scm_choose.specs.declared.error.ChooseError.TheVariants.{TooLarge};
 
 use crate::error::ChooseError;
 use scm_record::{Decoder, LiveSession, Painter, RecordError, RecordState, Turn};
@@ -22,7 +24,9 @@ fn show<W: Write>(
     session: &LiveSession<'_>,
     painter: &mut Painter,
     screen: &mut W,
-) -> Result<(), ChooseError> {
+) -> Result<(), ChooseError>
+    ensures { IfErr result (λ e. e ≢ TooLarge) }
+{
     let frame = session.paint(painter)?;
     screen.write_all(BEGIN_UPDATE)?;
     screen.write_all(frame.as_bytes())?;
@@ -33,11 +37,13 @@ fn show<W: Write>(
 
 /// Hands in a silence, if the session of `turn` waits.
 fn after_silence<'a>(turn: Turn<'a>, decoder: &mut Decoder) -> Result<Turn<'a>, RecordError>
-    ensures path { IfOk result (λ next. (calls : List Call) × Path turn.entry calls next) }
+    ensures follows { IfOk result (λ next.
+        SilenceFollows turn.entry decoder.old decoder.new next) }
 {
     match turn {
         Turn::Waiting(session) => session.idle(decoder),
-        ended => Ok(ended),
+        Turn::Editing(editing) => Ok(Turn::Editing(editing)),
+        Turn::Accepted(state) => Ok(Turn::Accepted(state)),
     }
 }
 
@@ -48,8 +54,8 @@ fn hand_in<'a>(
     decoder: &mut Decoder,
     typed: &[u8],
 ) -> Result<Turn<'a>, RecordError>
-    ensures path { IfOk result (λ turn.
-        (calls : List Call) × Path (Waiting session.entry) calls turn) }
+    ensures leads { IfOk result (λ turn.
+        ReadLeads session.entry decoder.old decoder.new typed.now turn) }
 {
     let turn = session.typed(decoder, typed)?;
     if typed.len() == ROOM {
@@ -65,8 +71,10 @@ fn take_turn<'a, R: Read>(
     decoder: &mut Decoder,
     keys: &mut R,
 ) -> Result<Turn<'a>, ChooseError>
-    ensures path { IfOk result (λ turn.
-        (calls : List Call) × Path (Waiting session.entry) calls turn) }
+    ensures leads { IfOk result (λ turn.
+        (typed : List ℕ) × Consumes (R.remaining keys.old) (R.remaining keys.new) typed
+        × ReadLeads session.entry decoder.old decoder.new typed turn) }
+    ensures err { IfErr result (λ e. e ≢ TooLarge) }
 {
     let mut room = [0u8; ROOM];
     let count = keys.read(&mut room)?;
@@ -85,8 +93,10 @@ pub fn accepted_state<'a, R: Read, W: Write>(
     keys: &mut R,
     screen: &mut W,
 ) -> Result<RecordState<'a>, ChooseError>
-    ensures path { IfOk result (λ state.
-        (calls : List Call) × Path (Waiting session.entry) calls (Accepted state)) }
+    ensures accepted { IfOk result (λ state.
+        (typed : List ℕ) × Consumes (R.remaining keys.old) (R.remaining keys.new) typed
+        × IsTyped session.entry typed (Accepted state)) }
+    ensures err { IfErr result (λ e. e ≢ TooLarge) }
 {
     let mut decoder = Decoder::new();
     let mut painter = Painter::new(alloc);

@@ -1,8 +1,10 @@
-use Rattle.std.proofs.Common.{List}
-use Rattle.scm_record.specs.LiveCalls.{Call, Path}
+use Rattle.std.proofs.Common.{List, ℕ}
+use Rattle.std.specs.Io.KnownBytes.{Consumes}
 use Rattle.scm_record.specs.declared.live.Turn.TheVariants.{Waiting}
+use Rattle.scm_choose.proofs.TurnLemmas.{Continues}
 use Rattle.scm_choose.proofs.terminal.accepted_state.Given as goal
 
--- the calls so far lead here
+-- the bytes so far lead here
 abbrev pub invariant-turns : goal.invariant-turns
-invariant-turns g l = (calls : List Call) × Path (Waiting l.initial.session) calls (Waiting l.session)
+invariant-turns g l = (typed : List ℕ) × Consumes (g.R.Read.remaining l.initial.keys) (g.R.Read.remaining l.keys) typed
+    × Continues l.initial.session typed l.decoder (Waiting l.session)
