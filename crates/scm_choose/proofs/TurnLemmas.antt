@@ -53,7 +53,7 @@ silence-over t u decoder e h = subst (λ (x : Turn). SilenceFollows x decoder de
 -- a read
 pub continues-read : (first l : Live) (typed more : List ℕ) (old new : Decoder) (turn : Turn) → Continues first typed old (Waiting l)
     → ReadLeads l old new more turn → Continues first (typed ++ more) new turn
-continues-read first l typed more old new turn k (goes_on leads) = continues-bytes first l typed more old new turn k leads
+continues-read first l typed more old new turn k (goes_on full leads) = continues-bytes first l typed more old new turn k leads
 continues-read first l typed more old new turn k (rests leads follows) =
     continues-silence first (typed ++ more) _ new _ turn (continues-bytes first l typed more old _ _ k leads) follows
 

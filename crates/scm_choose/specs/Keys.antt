@@ -1,5 +1,5 @@
 -- What a terminal sends while a user chooses, and where it leads.
-use Rattle.std.specs.Prelude.{◌≡◌, ℕ, Bool, true, false, IsTrue, List, [], ◌∷◌, ◌++◌}
+use Rattle.std.specs.Prelude.{◌≡◌, ℕ, Bool, true, false, IsTrue, List, [], ◌∷◌, ◌++◌, length}
 use Rattle.scm_types.specs.declared.state.RecordState.{RecordState}
 use Rattle.scm_input.specs.declared.inputs.TerminalKind.{TerminalKind}
 use Rattle.scm_terminal.specs.declared.decoder.Decoder.{Decoder}
@@ -33,11 +33,14 @@ pub data SilenceFollows : Turn → Decoder → Decoder → Turn → Type 0 where
   waits : {l : Live} {old new : Decoder} {after : Turn} → SilenceLeads l old new after → SilenceFollows (Waiting l) old new after
   over : {turn : Turn} {decoder : Decoder} → is_waiting turn ≡ false → SilenceFollows turn decoder decoder turn
 
--- The bytes `typed`, which one read gave, lead from the session `l` to a turn.
+-- the most bytes that one read takes
+abbrev pub room : ℕ
+room = 1024
+
+-- The bytes `typed`, which one read gave, lead from the session `l` to a turn. A silence is behind them, unless the read was full.
 pub data ReadLeads : Live → Decoder → Decoder → List ℕ → Turn → Type 0 where
-  -- more may be there already
-  goes_on : {l : Live} {old new : Decoder} {typed : List ℕ} {turn : Turn} → BytesLead l old new typed turn → ReadLeads l old new typed turn
-  -- a silence is behind them
+  goes_on : {l : Live} {old new : Decoder} {typed : List ℕ} {turn : Turn}
+      → length typed ≡ room → BytesLead l old new typed turn → ReadLeads l old new typed turn
   rests : {l : Live} {old middle new : Decoder} {typed : List ℕ} {turn last : Turn}
       → BytesLead l old middle typed turn → SilenceFollows turn middle new last → ReadLeads l old new typed last
 
