@@ -16,5 +16,7 @@ pub mod SideLemmas
 pub mod ByteLemmas
 -- the words of a line
 pub mod WordLemmas
+-- what two lines have in common at their ends
+pub mod EndLemmas
 -- worked examples of the definitions
 pub mod Examples

@@ -1,5 +1,5 @@
 //! The changed lines of a hunk, in pairs.
-ghost use Rattle.std.specs.Prelude.{◌≡◌, ◌<◌, ◌≤◌, [], ◌∷◌, ◌++◌, IfOk, IfSome, OnOk, length, map};
+ghost use Rattle.std.specs.Prelude.{◌≡◌, ◌<◌, ◌≤◌, [], ◌∷◌, ◌++◌, ℕ, IfNone, IfOk, IfSome, OnOk, Some, length, map, slice_get};
 ghost use Rattle.scm_diff.specs.Pairs.{IsMerge, unchecked_line};
 
 use crate::likeness::partners;
@@ -59,7 +59,9 @@ fn paired_lines<'a>(
 /// Returns the added line that `partners` names for removed line `i`, if it is line `least` or a
 /// later one, and before line `end`.
 fn partner_of(partners: &[usize], i: usize, least: usize, end: usize) -> Option<usize>
-    ensures { IfSome result (λ j. (least ≤ j) × (j < end)) }
+    ensures some { IfSome result (λ j. (least ≤ j) × (j < end)) }
+    ensures none { IfNone result ((j : ℕ) → slice_get partners.now i ≡ Some j
+        → least ≤ j → j < end → ⊥) }
 {
     let j = match partners.get(i) {
         Some(place) => *place,

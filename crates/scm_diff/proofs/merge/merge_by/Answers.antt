@@ -14,10 +14,10 @@ loop-i-preserved c =
     elim c.match-partner_of.branch [
       | in-Some+in_ok-push_lines+in_ok-push_line+in_ok-push_line-2 w ↦
           (let j = w.in-Some.j in
-          let half = merge-added r a i next j ls w.push_lines.new.lines.items c.loop-i.invariant.merged w.in-Some.ensures.0 w.in_ok-push_lines.ensures in
+          let half = merge-added r a i next j ls w.push_lines.new.lines.items c.loop-i.invariant.merged w.in-Some.ensures.some.0 w.in_ok-push_lines.ensures in
           record {
-            merged = rw (w.lines-is, w.next-is) (merge-pair r a i j x w.index-added-j.result w.push_lines.new.lines.items w.push_line.new.lines.items w.push_line-in-Some.new.lines.items half c.loop-i-test.true w.in-Some.ensures.1 c.index-removed-i.is w.index-added-j.is w.in_ok-push_line.ensures w.in_ok-push_line-2.ensures);
-            within = let h = w.in-Some.ensures.1 in omega arith;
+            merged = rw (w.lines-is, w.next-is) (merge-pair r a i j x w.index-added-j.result w.push_lines.new.lines.items w.push_line.new.lines.items w.push_line-in-Some.new.lines.items half c.loop-i-test.true w.in-Some.ensures.some.1 c.index-removed-i.is w.index-added-j.is w.in_ok-push_line.ensures w.in_ok-push_line-2.ensures);
+            within = let h = w.in-Some.ensures.some.1 in omega arith;
           })
       | in_default+in_ok-push_line-3 w ↦
           record {
