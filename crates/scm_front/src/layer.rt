@@ -23,6 +23,7 @@ ghost use Rattle.scm_front.specs.Handing.{HandsOn};
 ghost use Rattle.scm_front.specs.Restoring.{RestoresTo};
 ghost use Rattle.scm_front.specs.Recording.{RecordsAt, Returns, back_of};
 ghost use Rattle.scm_front_items.specs.Runs.{marks_of_files, marks_with};
+ghost use Rattle.scm_front_items.specs.Histories.{no_history};
 ghost use Rattle.scm_front.specs.Fronts.{Does, FrontFails, IsGiven, RemembersIn, beneath_of, files_of, front, front_of, found, heard, is_elsewhere, mode_of, notice_of, restoring};
 
 use crate::accepted::AcceptedState;
@@ -246,7 +247,8 @@ fn with_back(kept: Kept, way: Way, back: Step) -> Kept
 
 /// Returns `kept` without steps, and with the word that marks are not restored.
 fn without_steps(kept: Kept) -> Kept
-    ensures { KeepsAs kept kept.anchor NotRestored result }
+    ensures keeps { KeepsAs kept kept.anchor NotRestored result }
+    ensures history { result.history ≡ no_history }
 {
     let mut kept = kept;
     kept.history.forget(kept.alloc);
@@ -369,6 +371,8 @@ impl<'state> Front<'state> {
     pub fn begin(self, folds: Folds, first: SelectionKey) -> Result<FrontTurn<'state>, RecordError>
         ensures ok { IfOk result (λ turn. (calls : List Call)
             × Path (Waiting self.entry.beneath) calls (beneath_of turn)) }
+        ensures kept { IfOk result (λ turn.
+            turn ≡ front_of (beneath_of turn) self.entry.query self.entry.kept) }
         ensures err { IfErr result (λ e. FrontFails self.entry e) }
     {
         let Front {

@@ -1,7 +1,8 @@
 //! The deeds of the layer's actions: marks of a range, and marks that were.
-ghost use Rattle.std.specs.Prelude.{◌≡◌, [], ◌++◌, IfErr, IfOk, IfSome, IsTrue, OnOk};
+ghost use Rattle.std.specs.Prelude.{◌≡◌, [], ◌++◌, IfErr, IfOk, IfSome, IsTrue, OnOk, map};
+ghost use Rattle.scm_front_items.specs.Targets.{key_of};
 ghost use Rattle.scm_errors.specs.declared.error.RecordError.TheVariants.{OutOfMemory};
-ghost use Rattle.scm_front_items.specs.Plans.{file_folds, section_folds};
+ghost use Rattle.scm_front_items.specs.Plans.{file_folds, section_folds, with_plan};
 ghost use Rattle.scm_front_items.specs.Runs.{marks_of_files, marks_with};
 ghost use Rattle.scm_front_items.specs.Steps.{runs_of_range};
 ghost use Rattle.scm_front.specs.Deeds.{SomeDeedsLead, SomeRoundLeads};
@@ -115,6 +116,9 @@ fn with_folds(
     deeds: Vec<Deed>,
     view: &ViewState<'_>,
 ) -> Result<Vec<Deed>, RecordError>
+    ensures ok { IfOk result (λ all. all.items
+        ≡ (deeds.items ++ section_folds view.now.expanded (map key_of deeds.items))
+        ++ file_folds view.now.expanded (map key_of deeds.items)) }
     ensures err { IfErr result (λ e. e ≡ OutOfMemory) }
 {
     let mut deeds = deeds;
@@ -130,6 +134,10 @@ fn deeds_towards(
     part: Part,
     wanted: &Marks,
 ) -> Result<Vec<Deed>, RecordError>
+    ensures ok { let plan = with_plan part wanted.now 0 (files_of session.now) [] in
+        IfOk result (λ deeds. deeds.items
+        ≡ (plan ++ section_folds session.now.session.shown.expanded (map key_of plan))
+        ++ file_folds session.now.session.shown.expanded (map key_of plan)) }
     ensures err { IfErr result (λ e. e ≡ OutOfMemory) }
 {
     let mut deeds = Vec::new(alloc);

@@ -1,5 +1,5 @@
 //! The marks before an action are kept, if it changes them.
-ghost use Rattle.std.specs.Prelude.{◌≡◌, [], IfSome};
+ghost use Rattle.std.specs.Prelude.{◌≡◌, [], IfSome, Some};
 ghost use Rattle.std.specs.List.{list_any};
 ghost use Rattle.scm_input.specs.declared.events.Event.{Event as Input};
 ghost use Rattle.scm_front.specs.Driving.{turn_of};
@@ -264,7 +264,8 @@ fn restarted(
 /// Returns `history` after an action that led to a message that is edited. The marks after it are not
 /// read, so all steps are dropped, unless the action could change none.
 fn recorded_unread(history: History, alloc: Global, before: Option<Items<Run>>) -> History
-    ensures { RecordsUnread history before result }
+    ensures records { RecordsUnread history before result }
+    ensures stays { before ≡ Some [] → result ≡ history }
 {
     match before {
         Some(before) if before.is_empty() => history,

@@ -1,9 +1,17 @@
 //! The folds and the selection at the start.
+ghost use Rattle.std.specs.List.{All};
 ghost use Rattle.std.specs.Prelude.{◌≡◌, IfErr, IfOk};
 ghost use Rattle.scm_errors.specs.declared.error.RecordError.TheVariants.{OutOfMemory};
 ghost use Rattle.scm_record.specs.declared.live.Turn.TheVariants.{Waiting};
+ghost use Rattle.scm_input.specs.declared.events.Event.{Event as Input};
+ghost use Rattle.scm_input.specs.declared.events.Event.TheVariants.{ExpandAll};
 ghost use Rattle.scm_front.specs.Begun.{LeadsOn};
+ghost use Rattle.scm_record.specs.Jumps.{after_selecting};
 ghost use Rattle.scm_front.specs.Driving.{turn_of};
+ghost use Rattle.scm_front.specs.declared.starting.Folds.TheVariants.{AsIs};
+ghost use Rattle.scm_front_items.specs.declared.targets.Deed.{Deed as Done};
+ghost use Rattle.scm_front_items.specs.declared.targets.Deed.TheVariants.{Mark};
+ghost use Rattle.scm_front_items.specs.declared.targets.Target.{Target as Aim};
 ghost use Rattle.scm_front.specs.Failing.{SessionFails};
 
 use crate::begun::{Begun, BegunTurn};
@@ -65,6 +73,7 @@ fn events_for(
     view: &ViewState<'_>,
     is_open: bool,
 ) -> Result<&'static [Event], RecordError>
+    ensures folds { IfOk result (λ events. All (λ (event : Input). event ≡ ExpandAll) events.now) }
     ensures err { IfErr result (λ e. e ≡ OutOfMemory) }
 {
     let is_all_open = view.are_all_keys_expanded(alloc)?;
@@ -96,6 +105,8 @@ fn folds_of(
     expanded: &KeySet,
     keys: &[SelectionKey],
 ) -> Result<Vec<Deed>, RecordError>
+    ensures folds { IfOk result (λ deeds.
+        All (λ (d : Done). (t : Aim) → d ≡ Mark t → ⊥) deeds.items) }
     ensures err { IfErr result (λ e. e ≡ OutOfMemory) }
 {
     let mut deeds = Vec::new(alloc);
@@ -155,6 +166,7 @@ pub(crate) fn fold_at_start<'state>(
     session: Begun<'state>,
     folds: Folds,
 ) -> Result<BegunTurn<'state>, RecordError>
+    ensures as_is { folds ≡ AsIs → IfOk result (λ turn. turn_of turn ≡ Waiting session.entry) }
     ensures ok { IfOk result (λ turn. LeadsOn (Waiting session.entry) (turn_of turn)) }
     ensures err { IfErr result (λ e. SessionFails session.entry e) }
 {
@@ -171,6 +183,8 @@ fn select_in<'state>(
     session: Begun<'state>,
     first: SelectionKey,
 ) -> Result<BegunTurn<'state>, RecordError>
+    ensures selected { IfOk result (λ last.
+        turn_of last ≡ Waiting (after_selecting session.entry first)) }
     ensures ok { IfOk result (λ last. LeadsOn (Waiting session.entry) (turn_of last)) }
     ensures err { IfErr result (λ e. e ≡ OutOfMemory) }
 {

@@ -1,5 +1,5 @@
 //! Marks that were: runs of items of a section, with the mark of each.
-ghost use Rattle.std.specs.Prelude.{◌≡◌, ◌++◌, IfErr, IfOk, OnOk, IsTrue, fold, length, map, slice_get};
+ghost use Rattle.std.specs.Prelude.{◌≡◌, ◌++◌, false, IfErr, IfOk, OnOk, IsTrue, fold, length, map, slice_get};
 ghost use Rattle.scm_types.specs.declared.line.SectionChangedLine.{SectionChangedLine as Line};
 ghost use Rattle.scm_errors.specs.declared.error.RecordError.TheVariants.{OutOfMemory};
 ghost use Rattle.scm_types.specs.Edits.{modify};
@@ -134,7 +134,8 @@ pub(crate) fn is_mode(section: &Section<'_>) -> bool
 
 /// Returns whether `section` has exactly `marks`.
 fn has_marks(section: &Section<'_>, marks: &[bool]) -> bool
-    ensures { IsTrue result → section_marks section.now ≡ marks.now }
+    ensures same { IsTrue result → section_marks section.now ≡ marks.now }
+    ensures unlike { result ≡ false → section_marks section.now ≡ marks.now → ⊥ }
 {
     if mark_count(section) != marks.len() {
         return false;
@@ -150,7 +151,8 @@ fn has_marks(section: &Section<'_>, marks: &[bool]) -> bool
 
 /// Returns whether `sections` have exactly `marks`, one list a section.
 fn have_marks(sections: &[Section<'_>], marks: &[Items<bool>]) -> bool
-    ensures { IsTrue result → map section_marks sections.now ≡ marks.now }
+    ensures same { IsTrue result → map section_marks sections.now ≡ marks.now }
+    ensures unlike { result ≡ false → map section_marks sections.now ≡ marks.now → ⊥ }
 {
     if sections.len() != marks.len() {
         return false;
@@ -165,7 +167,8 @@ fn have_marks(sections: &[Section<'_>], marks: &[Items<bool>]) -> bool
 
 /// Returns whether the marks of `files` are exactly `marks`.
 pub fn are_marks(files: &[File<'_>], marks: &[Items<Items<bool>>]) -> bool
-    ensures { IsTrue result → marks_of_files files.now ≡ marks.now }
+    ensures same { IsTrue result → marks_of_files files.now ≡ marks.now }
+    ensures unlike { result ≡ false → marks_of_files files.now ≡ marks.now → ⊥ }
 {
     if files.len() != marks.len() {
         return false;
