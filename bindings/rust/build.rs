@@ -9,6 +9,8 @@ use std::process::Command;
 
 const LIBRARY: &str = "libscm_c.a";
 const MEMORY: &str = "liblibc_c.a";
+/// The file that says of an installed library that nothing was proved.
+const UNPROVED: &str = "gabrosty/unproved";
 const MISSING: &str = "the library for C is not found. One of these commands makes it, in a clone of Gabrosty:
 
     tools/build-c            builds it for a crate in that clone
@@ -52,6 +54,9 @@ fn link(folder: &Path) {
             folder.display()
         ))
     });
+    if let Ok(words) = std::fs::read_to_string(folder.join(UNPROVED)) {
+        println!("cargo:warning=gabrosty: {}", words.trim_end());
+    }
     println!("cargo:rerun-if-changed={}", folder.join(LIBRARY).display());
     for (place, name) in [(folder, "scm_c"), (&of_memory, "libc_c")] {
         println!("cargo:rustc-link-search=native={}", place.display());

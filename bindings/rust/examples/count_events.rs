@@ -2,13 +2,10 @@
 //! the terminal's input, as a tool does that looks at events itself, or edits messages. With `panic` it panics at the
 //! second read, to see the terminal given back.
 use scm_record::helpers::CrosstermInput;
-use scm_record::{
-    ChangeType, Commit, Event, File, FileMode, RecordError, RecordInput, RecordState, Recorder,
-    Section, SectionChangedLine, TerminalKind,
-};
-use std::borrow::Cow;
-use std::path::Path;
+use scm_record::{Event, RecordError, RecordInput, Recorder, TerminalKind};
 use std::process::ExitCode;
+
+mod two_lines;
 
 struct Counting {
     inner: CrosstermInput,
@@ -37,27 +34,6 @@ impl RecordInput for Counting {
     }
 }
 
-fn state() -> RecordState<'static> {
-    let line = |line| SectionChangedLine {
-        is_checked: false,
-        change_type: ChangeType::Added,
-        line: Cow::Borrowed(line),
-    };
-    let lines = vec![line("one\n"), line("two\n")];
-    let file = File {
-        old_path: None,
-        path: Cow::Borrowed(Path::new("text")),
-        file_mode: FileMode::FILE_DEFAULT,
-        sections: vec![Section::Changed { lines }],
-    };
-    let message = Some("message".to_owned());
-    RecordState {
-        is_read_only: false,
-        commits: vec![Commit { message }],
-        files: vec![file],
-    }
-}
-
 fn main() -> ExitCode {
     let mut input = Counting {
         inner: CrosstermInput,
@@ -65,7 +41,7 @@ fn main() -> ExitCode {
         events: 0,
         panics: std::env::args().nth(1).as_deref() == Some("panic"),
     };
-    let ended = Recorder::new(state(), &mut input).run();
+    let ended = Recorder::new(two_lines::state(), &mut input).run();
     println!("{} events of {} reads", input.events, input.reads);
     match ended {
         Ok(state) => {

@@ -1,34 +1,35 @@
 //! The events of one read.
 use crate::recorder::failure;
 use crate::run::Run;
-use crate::screen::Size;
+use crate::screen::{Screen, Size};
 use crate::session::{Error, Stage};
 use crate::{Event, RecordError, RecordInput};
 
 /// The longest message that the library takes, in words.
 const MESSAGE_TOO_LONG: &str = "commit message too long";
 
-/// The word of `Event::Help`.
-const HELP: &str = "?";
-
-/// The words of events that end any session that handles them: the second one confirms the first.
+/// The words of events that cancel any session that handles them: the second one confirms the first.
 const CANCELS: &str = "ctrl-c ctrl-c";
 
+/// The words of events that accept any session that handles them: the first two close the help and the quit dialog.
+const ACCEPTS: &str = "esc esc c";
+
 /// Handles `events`, which one read returned, in order, as one batch: each acts on the frame that was drawn before. If one of them
-/// asks for a message, `input` edits it, and then the later ones are handled. `size` is that of the screen.
+/// asks for a message, `input` edits it while `screen` is given back, and then the later ones are handled.
 pub(crate) fn press_batch(
     run: &mut Run<'_, '_>,
     input: &mut dyn RecordInput,
-    size: Size,
+    screen: &mut dyn Screen,
     events: &[Event],
 ) -> Result<(), RecordError> {
+    let size = screen.size()?;
     let mut frame = frame_for(run, events)?;
     press(run, events)?;
     let mut begin = 0;
     while run.stage() == Stage::Editing {
         let end = asked_count(run, events).map_err(failure)?;
         take_screenshots(&mut frame, size, &events[begin..end]);
-        edit_message(run, input)?;
+        edit_message(run, input, screen)?;
         begin = end;
     }
     let end = handled_count(run, events).map_err(failure)?;
@@ -108,18 +109,19 @@ fn take_screenshots(frame: &mut String, size: Size, events: &[Event]) {
 /// last screenshot are tried, and of those only the ones that `may_stop`. If none of them stopped it, returns the count of all.
 ///
 /// The library does not say which event has stopped a session. But it can be asked of another session, which gets the same calls and
-/// then only the first events, and `words` behind them: `has_stopped` tells by the stage to which those lead.
+/// then only the first events, and `words` behind them. If the first events stop that session, it drops `words`. Otherwise it handles
+/// them, before any event that a menu left for later, and they lead to another stage than `stopped`.
 fn stopped_count(
     run: &Run<'_, '_>,
     events: &[Event],
     may_stop: impl Fn(&Event) -> bool,
     words: &str,
-    has_stopped: impl Fn(Stage) -> bool,
+    stopped: Stage,
 ) -> Result<usize, Error> {
     let last = events.iter().rposition(is_screenshot).unwrap_or(0);
     for (_, count) in events[..last].iter().zip(1..).filter(|it| may_stop(it.0)) {
         let first = words_of(&events[..count]);
-        if has_stopped(run.stage_after(&format!("{first} {words}"))?) {
+        if run.stage_after(&format!("{first} {words}"))? == stopped {
             return Ok(count);
         }
     }
@@ -127,31 +129,33 @@ fn stopped_count(
 }
 
 /// Returns how many of `events`, the last batch, were handled: those up to the one that has ended the session, if one has and a
-/// screenshot is behind it, and else all.
-///
-/// A click may leave a menu's event for later, which ends the session too, but then it does not end with the help open.
+/// screenshot is behind it, and else all. An event that a menu left for later ends a session behind all of them.
 fn handled_count(run: &Run<'_, '_>, events: &[Event]) -> Result<usize, Error> {
-    let is_end = |stage| matches!(stage, Stage::Accepted | Stage::Ended);
-    if is_end(run.stage()) {
-        stopped_count(run, events, may_end, HELP, is_end)
-    } else {
-        Ok(events.len())
+    match run.stage() {
+        Stage::Accepted => stopped_count(run, events, may_end, CANCELS, Stage::Accepted),
+        Stage::Ended => stopped_count(run, events, may_end, ACCEPTS, Stage::Ended),
+        _ => Ok(events.len()),
     }
 }
 
 /// Returns how many of `events`, the last batch, were handled before the session waits for a message: those up to the one that asked for
 /// it, if one did and a screenshot is behind it, and else all.
-///
-/// A click may leave a menu's event for later, which asks too, but not if the session ends before.
 fn asked_count(run: &Run<'_, '_>, events: &[Event]) -> Result<usize, Error> {
-    let is_editing = |stage| stage == Stage::Editing;
-    stopped_count(run, events, may_ask, CANCELS, is_editing)
+    stopped_count(run, events, may_ask, CANCELS, Stage::Editing)
 }
 
-/// Has `input` edit the message that the session waits for. The terminal may show anything after that, so every row is drawn again.
-fn edit_message(run: &mut Run<'_, '_>, input: &mut dyn RecordInput) -> Result<(), RecordError> {
+/// Has `input` edit the message that the session waits for, while `screen` is given back. The terminal may show anything after that, so
+/// every row is drawn again.
+fn edit_message(
+    run: &mut Run<'_, '_>,
+    input: &mut dyn RecordInput,
+    screen: &mut dyn Screen,
+) -> Result<(), RecordError> {
     let before = run.session().text().map_err(failure)?;
-    let message = input.edit_commit_message(&before)?;
+    screen.give_back()?;
+    let edited = input.edit_commit_message(&before);
+    screen.take_again()?;
+    let message = edited?;
     run.answer(message).map_err(|error| match error {
         Error::TooLong => RecordError::Other(MESSAGE_TOO_LONG.to_owned()),
         _ => failure(error),

@@ -112,6 +112,7 @@ impl File<'_> {
     /// # Panics
     ///
     /// If a text of the file passes a limit of the library, with words that name the text; or if an allocation fails.
+    #[must_use]
     pub fn get_selected_contents(&self) -> (SelectedChanges<'_>, SelectedChanges<'_>) {
         if let Err(error) = limits::check_file("the file", self) {
             panic!("{error}");
@@ -174,6 +175,7 @@ impl File<'_> {
     }
 
     /// Returns the mark of the file: `Tristate::False` if it has no items.
+    #[must_use]
     pub fn tristate(&self) -> Tristate {
         let counts = self.sections.iter().map(Section::mark_counts);
         counts

@@ -4,6 +4,7 @@ use std::collections::VecDeque;
 use std::fmt;
 
 /// Returns a description of binary contents, by their hash and their number of bytes: `abc123 (42 bytes)`.
+#[must_use]
 pub fn make_binary_description(hash: &str, num_bytes: u64) -> String {
     format!("{hash} ({num_bytes} bytes)")
 }
@@ -70,6 +71,7 @@ impl fmt::Debug for TestingInput {
 
 impl TestingInput {
     /// Returns an input of `events` for a screen of `width` columns and `height` rows, without messages.
+    #[must_use]
     pub fn new(
         width: usize,
         height: usize,

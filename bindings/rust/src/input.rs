@@ -32,6 +32,9 @@ pub trait RecordInput {
     /// Returns what the user makes of `message`, the whole message of a commit. A run calls this only for commits that have a
     /// message.
     ///
+    /// If the run has taken the program's terminal, it gives the terminal back before this call: raw mode, the second screen and
+    /// clicks. An editor may have it. The run takes the terminal again behind the call, also behind an error.
+    ///
     /// # Errors
     ///
     /// The error ends the run, which returns it.

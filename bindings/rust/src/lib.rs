@@ -44,6 +44,7 @@
 //! - `debug`: [`Recorder::run`] writes its state to a file, if [`consts::ENV_VAR_DUMP_UI_STATE`] is set.
 #![warn(missing_docs, missing_debug_implementations, unsafe_op_in_unsafe_fn)]
 #![warn(clippy::all, clippy::undocumented_unsafe_blocks)]
+#![warn(clippy::must_use_candidate)]
 
 mod batch;
 mod error;

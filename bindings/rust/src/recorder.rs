@@ -8,6 +8,7 @@ use crate::{Commit, RecordError, RecordInput, RecordState, TerminalKind};
 use std::{fmt, iter};
 
 /// The selector over a state, with the input that drives it.
+#[must_use = "a recorder shows nothing before it runs"]
 pub struct Recorder<'state, 'input> {
     state: RecordState<'state>,
     input: &'input mut dyn RecordInput,
@@ -75,7 +76,7 @@ fn drive(
     while run.stage() == Stage::Waiting {
         screen.show(&mut run)?;
         let events = input.next_events()?;
-        batch::press_batch(&mut run, input, screen.size()?, &events)?;
+        batch::press_batch(&mut run, input, screen, &events)?;
     }
     Ok(run.into_session())
 }

@@ -28,6 +28,12 @@ pub trait Screen {
 
     /// Shows `run`, at the size that the screen has now.
     fn show(&mut self, run: &mut Run<'_, '_>) -> Result<(), RecordError>;
+
+    /// Gives back what the screen has taken, so that another program can have it.
+    fn give_back(&mut self) -> Result<(), RecordError>;
+
+    /// Takes it again.
+    fn take_again(&mut self) -> Result<(), RecordError>;
 }
 
 /// A screen that nobody sees.
@@ -53,6 +59,14 @@ impl Screen for TestingScreen {
     }
 
     fn show(&mut self, _run: &mut Run<'_, '_>) -> Result<(), RecordError> {
+        Ok(())
+    }
+
+    fn give_back(&mut self) -> Result<(), RecordError> {
+        Ok(())
+    }
+
+    fn take_again(&mut self) -> Result<(), RecordError> {
         Ok(())
     }
 }

@@ -14,6 +14,7 @@ pub struct TestingScreenshot {
 
 impl TestingScreenshot {
     /// Returns the event that takes the screenshot: it keeps the frame that was drawn last.
+    #[must_use]
     pub fn event(&self) -> Event {
         Event::TakeScreenshot(self.clone())
     }

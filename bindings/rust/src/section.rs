@@ -122,11 +122,13 @@ pub enum Section<'a> {
 
 impl Section<'_> {
     /// Returns whether the user can change marks of the section: whether it is not context.
+    #[must_use]
     pub fn is_editable(&self) -> bool {
         !matches!(self, Section::Unchanged { .. })
     }
 
     /// Returns the mark of the section: `Tristate::False` if it has no items.
+    #[must_use]
     pub fn tristate(&self) -> Tristate {
         self.mark_counts().tristate()
     }

@@ -24,12 +24,10 @@
 use crate::ffi::{self, Handle, NOTHING};
 use crate::{ChangeType, Event, FileMode, Tristate};
 use std::cell::UnsafeCell;
-use std::ffi::CString;
 use std::fmt;
-use std::fs::File;
-use std::io;
-use std::os::raw::{c_char, c_int};
-use std::os::unix::io::AsRawFd;
+use std::os::raw::c_char;
+
+mod at_terminal;
 
 pub use crate::ffi::{MAX_COLUMNS, MAX_ROWS};
 
@@ -160,6 +158,7 @@ pub enum LineKind {
 
 impl LineKind {
     /// Returns the kind of an unchecked line that is added or removed.
+    #[must_use]
     pub fn changed(change_type: ChangeType) -> LineKind {
         let is_checked = false;
         LineKind::Changed {
@@ -308,6 +307,7 @@ const OWNERS: [Owner; 15] = [
 ];
 
 /// Returns the version of the library: 10,000 times its major number, 100 times its minor number, and its patch number.
+#[must_use]
 pub fn version() -> u32 {
     // SAFETY: the call takes nothing.
     unsafe { ffi::scm_version() }
@@ -384,10 +384,6 @@ fn text_of(call: impl FnMut(*mut c_char, usize, &mut usize) -> u32) -> Result<St
 
 fn text(bytes: Vec<u8>) -> String {
     String::from_utf8(bytes).expect("the library writes UTF-8")
-}
-
-extern "C" {
-    fn raise(signal: c_int) -> c_int;
 }
 
 /// Returns the events of words that the library wrote.
@@ -683,6 +679,7 @@ impl Session {
     // ---- the user's input
 
     /// Returns what the session waits for.
+    #[must_use]
     pub fn stage(&self) -> Stage {
         match unsafe { ffi::scm_stage(self.at()) } {
             0 => Stage::Waiting,
@@ -695,6 +692,7 @@ impl Session {
     }
 
     /// Returns how the session ended, or `None` if it has not.
+    #[must_use]
     pub fn end(&self) -> Option<End> {
         match unsafe { ffi::scm_end(self.at()) } {
             0 => None,
@@ -836,6 +834,7 @@ impl Session {
     }
 
     /// Returns the owner of a place of the screen, and its key.
+    #[must_use]
     pub fn owner(&self, row: u16, column: u16) -> (Owner, Key) {
         let mut key = ffi::Key::from(Key::default());
         let code = unsafe { ffi::scm_owner(self.at(), row, column, &mut key) };
@@ -861,6 +860,7 @@ impl Session {
 
     /// Returns the symbol that begins at a place of the screen. It is empty at the second column of a wide symbol, and outside
     /// the screen.
+    #[must_use]
     pub fn symbol(&self, row: u16, column: u16) -> String {
         let symbol = bytes_of(SYMBOL_ROOM, |out, room, length| {
             *length = unsafe { ffi::scm_symbol(self.at(), row, column, out, room) };
@@ -877,30 +877,6 @@ impl Session {
     /// `NoMemory`.
     pub fn text(&self) -> Result<String, Error> {
         text_of(|out, room, length| unsafe { ffi::scm_text(self.at(), out, room, length) })
-    }
-
-    // ---- at a terminal
-
-    /// Has the user choose at the program's terminal, until the session waits no more: in raw mode, with new sizes, stops, and the
-    /// editor of a message. The window's title is `title`, in ASCII without controls. [`end`](Session::end) says how it ended.
-    ///
-    /// If a signal asks the process to end, the terminal is given back first, and then the signal acts. One thread of a process at
-    /// a time does this.
-    ///
-    /// # Errors
-    ///
-    /// There is no terminal, or it is gone; or an allocation failed.
-    pub fn run(&mut self, title: &str) -> io::Result<()> {
-        let terminal = File::options().read(true).write(true).open("/dev/tty")?;
-        let title = CString::new(title)?;
-        match unsafe { ffi::scm_run(self.at(), terminal.as_raw_fd(), title.as_ptr()) } {
-            0 => Ok(()),
-            number if number > 0 => {
-                unsafe { raise(number) };
-                Ok(())
-            }
-            _ => Err(io::Error::last_os_error()),
-        }
     }
 
     // ---- the answer

@@ -43,27 +43,16 @@ impl Terminal {
 
     /// Takes the terminal.
     pub fn take() -> Result<Terminal, RecordError> {
-        let is_ours = !device::is_raw().map_err(not_set_up)?;
         // if what follows fails, this is dropped
-        let terminal = Terminal {
+        let mut terminal = Terminal {
             shown: None,
-            is_ours,
+            is_ours: !device::is_raw().map_err(not_set_up)?,
         };
-        if is_ours {
+        if terminal.is_ours {
             give_back_at_panics();
-            device::set_raw().map_err(not_set_up)?;
-            *taken_by() = Some(thread::current().id());
-            write(TAKE).map_err(not_set_up)?;
         }
+        terminal.take_again()?;
         Ok(terminal)
-    }
-
-    /// Gives the terminal back.
-    pub fn give_back(self) -> Result<(), RecordError> {
-        if self.is_ours {
-            release().map_err(|error| RecordError::CleanUpTerminal(error.into()))?;
-        }
-        Ok(())
     }
 }
 
@@ -90,6 +79,23 @@ impl Screen for Terminal {
         }
         let frame = run.paint().map_err(failure)?;
         write(frame).map_err(not_drawn)
+    }
+
+    fn give_back(&mut self) -> Result<(), RecordError> {
+        if self.is_ours {
+            release().map_err(|error| RecordError::CleanUpTerminal(error.into()))?;
+        }
+        Ok(())
+    }
+
+    fn take_again(&mut self) -> Result<(), RecordError> {
+        if self.is_ours {
+            device::set_raw().map_err(not_set_up)?;
+            *taken_by() = Some(thread::current().id());
+            write(TAKE).map_err(not_set_up)?;
+        }
+        self.shown = None;
+        Ok(())
     }
 }
 

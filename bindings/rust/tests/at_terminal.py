@@ -17,6 +17,7 @@ import time
 
 EXAMPLES = pathlib.Path(sys.argv[1])
 TAKEN, GIVEN_BACK, TITLE_BACK = b"\x1b[?1049h", b"\x1b[?1049l", b"\x1b[23;2t"
+MOUSE_GIVEN_BACK = b"\x1b[?1000;1006l"
 OLD, NEW = "same\nold\nend\n", "same\nnew one\nnew two\nend\n"
 
 
@@ -27,6 +28,7 @@ class Terminal:
         self.shown = b""
         self.program, self.file = pty.fork()
         if self.program == 0:
+            signal.signal(signal.SIGINT, signal.SIG_DFL)  # it is ignored where a shell has begun this in the background
             time.sleep(0.1)  # until the size is set
             os.execv(str(EXAMPLES / words[0]), [str(word) for word in words])
         self.resize(24, 80)
@@ -103,6 +105,68 @@ def count(*keys):
     return status, said.split("\r\n"), is_as_before
 
 
+class Edited:
+    """`message` at a terminal, whose editor has begun: a command of the shell. What it writes from then on is behind `place`."""
+
+    def __init__(self, editor, begins_with):
+        self.terminal = Terminal("message", editor)
+        self.terminal.wait_for_silence()
+        self.place = len(self.terminal.shown)
+        self.terminal.type("e")
+        self.terminal.wait_for(begins_with, self.place)
+        # how the terminal is while the editor has it
+        self.is_as_before = termios.tcgetattr(self.terminal.file) == self.terminal.settings
+        self.is_given_back = self.has_in_order(GIVEN_BACK, begins_with) and MOUSE_GIVEN_BACK in self.shown()
+
+    def shown(self):
+        return self.terminal.shown[self.place:]
+
+    def has_in_order(self, *texts):
+        return re.search(b".*".join(map(re.escape, texts)), self.shown(), re.S) is not None
+
+    def end(self, *keys):
+        """Types keys. Returns the status, what stood on the main screen behind the run, and whether the terminal is as it was."""
+        self.terminal.type(*keys)
+        return self.terminal.end()
+
+
+def try_line_editor():
+    """An editor that reads a line, as the terminal hands it in at Enter: the screen is taken again and drawn whole behind it."""
+    edited = Edited('printf "new message: "; read line; printf %s "$line" > "$1"', b"new message: ")
+    edited.terminal.type("a wrod\x7f\x7f\x7ford\r")
+    edited.terminal.wait_for_silence()
+    is_taken_again = edited.has_in_order(b"new message: ", TAKEN, b"[File]", b"text")
+    ended = edited.end("c")
+    return edited.is_as_before and edited.is_given_back and is_taken_again and ended == (0, "a word\r\n", True)
+
+
+def try_interrupted_editor():
+    """Ctrl-c is a signal, which ends the example too."""
+    edited = Edited("echo begun; exec sleep 20", b"begun")
+    status, _, is_as_before = edited.end("\x03")
+    return edited.is_as_before and edited.is_given_back and (status, is_as_before) == (-signal.SIGINT, True)
+
+
+def try_screen_editor():
+    """An editor that takes the second screen, and gives it back, as vi does."""
+    screen = r'printf "\033[?1049h\033[2Jon a screen of its own"; read line; printf %s "$line" > "$1"; printf "\033[?1049l"'
+    edited = Edited(screen, b"on a screen of its own")
+    edited.terminal.type("by hand\r")
+    edited.terminal.wait_for_silence()
+    # the one that ends the editor's screen, and then ours
+    is_taken_again = edited.has_in_order(GIVEN_BACK, TAKEN, b"on a screen of its own", GIVEN_BACK, TAKEN, b"[File]", b"text")
+    ended = edited.end("c")
+    return edited.is_as_before and edited.is_given_back and is_taken_again and ended == (0, "by hand\r\n", True)
+
+
+def try_failing_editor():
+    """The terminal is taken again before the error ends the run, which gives it back."""
+    edited = Edited("echo will fail; exit 3", b"will fail")
+    status, said, is_as_before = edited.end()
+    is_taken_again = edited.has_in_order(GIVEN_BACK, b"will fail", TAKEN, GIVEN_BACK)
+    return is_taken_again and status == 1 and said.startswith("message: the editor failed: ") and is_as_before
+
+
 def try_panic():
     terminal = Terminal("count_events", "panic")
     terminal.type("j", "j")
@@ -153,6 +217,10 @@ def tries():
     yield "events are counted", status == 0 and has_counts(said, 4) and said[1] == "message: True" and is_as_before
     status, said, is_as_before = count("e", "c")
     yield "a message is edited", status == 0 and said[1] == "MESSAGE: False" and is_as_before
+    yield "an editor of a message reads a line", try_line_editor()
+    yield "ctrl-c is heard while a message is edited", try_interrupted_editor()
+    yield "an editor of a message takes the screen", try_screen_editor()
+    yield "an editor of a message fails", try_failing_editor()
     yield "a panic gives the terminal back first", try_panic()
     yield "a new size", try_new_size()
     yield "no terminal", try_no_terminal()

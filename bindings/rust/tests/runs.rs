@@ -267,6 +267,53 @@ fn screenshots_are_taken_up_to_the_event_that_ends_the_run() {
     assert_eq!(accepted.unwrap().files[0].tristate(), Tristate::True);
 }
 
+/// Returns whether the session goes on behind each event of `batch`, by the rules of quitting and of the help. Nothing is lost by a quit,
+/// so it needs no dialog, and a click on an item of a menu leaves the item's event for later.
+fn goes_on_behind(batch: &[Event]) -> Vec<bool> {
+    let (mut is_help_open, mut goes_on) = (false, true);
+    let behind = batch.iter().map(|event| {
+        goes_on &= match event {
+            Event::QuitInterrupt => false,
+            Event::QuitAccept | Event::QuitCancel => is_help_open,
+            _ => true,
+        };
+        is_help_open = match event {
+            Event::Help => !is_help_open,
+            Event::QuitAccept | Event::QuitCancel => false,
+            _ => is_help_open,
+        };
+        goes_on
+    });
+    behind.collect()
+}
+
+#[test]
+fn an_item_of_a_menu_takes_no_screenshot_away() {
+    let click = |row, column| Event::Click { row, column };
+    // Confirm and Quit of the open menu
+    let events = [
+        click(1, 0),
+        click(2, 0),
+        Event::Help,
+        Event::QuitAccept,
+        Event::QuitCancel,
+        Event::QuitInterrupt,
+    ];
+    let mut batches: Vec<Vec<Event>> = vec![Vec::new()];
+    for _ in 0..3 {
+        let longer = batches.iter().flat_map(|batch| {
+            let behind = |event: &Event| [batch.as_slice(), std::slice::from_ref(event)].concat();
+            events.iter().map(behind)
+        });
+        batches = longer.collect();
+        for batch in &batches {
+            let opened = vec![vec![click(0, 0)]];
+            let taken = shots_behind(RecordState::default(), opened, batch.clone());
+            assert_eq!(taken, goes_on_behind(batch), "{batch:?}");
+        }
+    }
+}
+
 #[test]
 fn a_screenshot_parts_no_batch() {
     // the second click acts on the frame before the batch, in which no menu is open

@@ -348,7 +348,7 @@ fn a_text_at_the_limit_is_accepted() {
 )]
 fn a_file_past_a_limit_is_not_split() {
     let long = "x".repeat(1_000_001);
-    file("f", vec![changed(vec![added(true, &long)])]).get_selected_contents();
+    let _ = file("f", vec![changed(vec![added(true, &long)])]).get_selected_contents();
 }
 
 #[test]

@@ -50,27 +50,28 @@
  *     the caller's memory points into the session. The caller must keep these rules. Nothing checks them:
  *     - A scm_session is all zeros before its first call ({0}), and only these functions write to it.
  *     - It is not copied: a call on a copy of an open session may use freed memory.
- *     - A pointer with a length points to `length` bytes, and to at least one byte. No pointer is null: no text is "" with the
- *       length 0, and to ask for a length alone is to pass a byte and the length 0.
+ *     - A pointer with a length points to `length` bytes. With the length 0 it may be null, or point anywhere: that is no text, or
+ *       asks for a length alone. No other pointer is null, nor is that of the session, also for scm_free.
  *     - What a call writes to (`out`, `written`, `side`, `key` and so on) overlaps neither the session, nor what the call
  *       reads, nor each other.
  *     - A bool is 0 or 1.
- *     - A call that takes a `const` session leaves it as it is. But the session itself is no constant: within the call its members
- *       may be written.
+ *     - A call that takes a `const` session leaves it as it was. But within the call it may write the members and what they point
+ *       to. So the session is not defined as `const`, and two threads never use it at once, also not by two such calls.
  *     - Each open session is closed in the end (scm_free), or its memory leaks. To close a closed session is a no-op.
  *
  * THREADS
- *     The library has no state of its own. One thread at a time uses a session, and different threads may use different
- *     sessions at once. A session may move to another thread, by a lock or a join. No signal handler calls the library, and
- *     neither does the child of a fork of a process with threads. Memory comes from malloc and realloc, and goes to free.
+ *     Apart from scm_run, the library has no state of its own. One thread at a time uses a session, and different threads may use
+ *     different sessions at once. A session may move to another thread, by a lock or a join. No signal handler calls the library,
+ *     and neither does the child of a fork of a process with threads. Memory comes from malloc and realloc, and goes to free.
+ *     scm_run sets the handlers of signals, which a process has once: while one call runs, a second one is refused.
  *
  * ERRORS
  *     A call returns a code, or what its comment says. If a call returns another code than SCM_DONE, it wrote nothing, and the
  *     session is as it was. The exceptions are said at scm_new, scm_state_new, scm_begin and scm_paint. A failed allocation
- *     always has the code SCM_NO_MEMORY, with one exception: in scm_press, scm_type, scm_click, scm_idle, scm_start and
- *     scm_answer the user's input is handled, and if an allocation fails in this, the call returns SCM_DONE and the session has ended. Its
- *     stage is SCM_ENDED, scm_end returns SCM_END_NO_MEMORY, and its text is "out of memory". The changes of such a session are
- *     lost.
+ *     always has the code SCM_NO_MEMORY, with one exception: in scm_press, scm_press_all, scm_type, scm_type_to_key, scm_click,
+ *     scm_idle, scm_start and scm_answer the user's input is handled, and if an allocation fails in this, the call returns SCM_DONE
+ *     and the session has ended. Its stage is SCM_ENDED, scm_end returns SCM_END_NO_MEMORY, and its text is "out of memory". The
+ *     changes of such a session are lost.
  *
  *     A code is never a length. A call that returns a code writes a length to its own parameter (`written`, `count`,
  *     `side->length`), and only if the code is SCM_DONE: ask for the code first, since any call that takes memory may fail.
@@ -395,7 +396,8 @@ uint32_t scm_log(scm_session *session);
  *
  * docs/RULES.md says, under "The log of a layer", which moves do what a jump does, and how the lines are a script.
  *
- * Returns SCM_DONE, SCM_CLOSED, SCM_NOT_NOW if there is no log or the session has ended in an error, or SCM_NO_MEMORY, also if an
+ * Returns SCM_DONE, SCM_CLOSED, SCM_NOT_NOW if there is no log, the session has ended in an error or the user cancelled it, or
+ * SCM_NO_MEMORY, also if an
  * allocation failed before for the log. */
 SCM_USE_CODE uint32_t scm_logged(const scm_session *session, char *out, size_t length, size_t *written);
 
@@ -435,7 +437,8 @@ uint32_t scm_idle(scm_session *session);
 /* Writes the words of what `length` bytes from a terminal mean to `out`, if they fit into its `room` bytes, and their length to
  * `written`. Each word has a space behind it. A key that means nothing has the word "none". Nothing is handled: a program that
  * only wants to know what was typed makes a session for that (scm_state_new), which it need not begin. The bytes may be any part
- * of a terminal's output, as for scm_type, and `scm_press_all` takes the words.
+ * of a terminal's output, as for scm_type, and `scm_press_all` takes the words. The beginning of a key that was cut is kept where
+ * `scm_type` keeps it: what one of the two calls began, the other one ends.
  *
  * Returns SCM_DONE, SCM_CLOSED or SCM_NO_MEMORY. If `written` is more than `room` after SCM_DONE, no byte was written and none was
  * heard: call again with a larger buffer. */
@@ -482,7 +485,7 @@ uint32_t scm_resize(scm_session *session, uint16_t width, uint16_t height);
 /* Writes the bytes that make the terminal show the session, in colours, to `out`, if they fit into its `length` bytes, and
  * their number to `written`. The terminal has the session's size. The first call writes every row. A later call writes the
  * rows that changed since the last call, and expects that nobody else wrote to the terminal. The bytes are one synchronized
- * update (`ESC [ ? 2026 h` to `ESC [ ? 2026 l`). After it no colour is set. While rows are written no symbol wraps
+ * update (`ESC [ ? 2026 h` to `ESC [ ? 2026 l`), also if no row changed: then it has 20 bytes, which show nothing. After it no colour is set. While rows are written no symbol wraps
  * (`ESC [ ? 7 l`), and after them symbols wrap (`ESC [ ? 7 h`).
  *
  * The terminal that shows these bytes
@@ -604,18 +607,20 @@ uint32_t scm_version(void);
  * or SCM_MAX_ROWS shows the screen at its top left.
  *
  * When it returns, the terminal and the handlers of signals are as before. Meanwhile it hears the signals SIGTSTP, SIGCONT,
- * SIGWINCH, SIGINT, SIGQUIT, SIGHUP and SIGTERM. One run at a time is in a process.
+ * SIGWINCH, SIGINT, SIGQUIT, SIGHUP and SIGTERM. Other signals of the program end no run, whatever their handlers (also without
+ * SA_RESTART), and neither does an open file that never waits (O_NONBLOCK). One run at a time is in a process: while one goes on,
+ * another call changes nothing, and returns -1 with EBUSY.
  *
  * This call is written in C, over the others (crates/scm_c/terminal/run.c): no proof covers it.
  *
  * Returns 0 if the session waits no more, or did not wait; the number of a signal that asked the process to end, which the caller
- * then raises; or -1 with errno set: EIO if the terminal is gone, ENOMEM if an allocation failed, or the error of tcgetattr or
- * pipe2. If it does not return 0, the session has not ended. */
+ * then raises; or -1 with errno set: EIO if the terminal is gone, ENOMEM if an allocation failed, EBUSY if another run goes on, or
+ * the error of tcgetattr or pipe2. If it does not return 0, the session has not ended. */
 SCM_USE_CODE int scm_run(scm_session *session, int terminal, const char *title);
 
 /* ---- The rest ---- */
 
-/* Closes the session and frees its memory. If it is closed, this is a no-op. */
+/* Closes the session and frees its memory. If it is closed, this is a no-op. `session` is not null. */
 void scm_free(scm_session *session);
 
 #ifdef __cplusplus

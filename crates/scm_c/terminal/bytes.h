@@ -7,7 +7,9 @@
 
 #include <errno.h>
 #include <fcntl.h>
+#include <poll.h>
 #include <stdlib.h>
+#include <sys/stat.h>
 #include <unistd.h>
 
 /* Bytes with a zero behind them, which is not counted. Before the first call all members are zeros; the caller frees `bytes`. */
@@ -66,44 +68,78 @@ static inline uint32_t text_of_stage(scm_session *session, char *out, size_t len
 /* Sets `into` to the text of the session's stage, as `read_session` does. */
 static inline uint32_t read_text(scm_session *session, text *into) { return read_session(session, text_of_stage, into); }
 
-/* Reads on behind the first `*length` bytes, and adds to `*length`. Returns 0 at the end of the file, and -1 with errno set if that
- * fails. */
-static inline ssize_t read_more(int file, text *into, size_t *length) {
+/* The most bytes that are read of a file. */
+enum { MOST_BYTES = 1 << 30 };
+
+/* Reads on behind the first `*length` bytes, up to `most` bytes in all, and adds to `*length`. Returns 0 at the end, and -1 with errno
+ * set if that fails. */
+static inline ssize_t read_more(int file, text *into, size_t *length, size_t most) {
     if (!make_room(into, *length < into->room ? into->room : *length + MORE_ROOM)) {
         return -1;
     }
-    ssize_t count = read(file, into->bytes + *length, into->room - *length);
+    size_t room = into->room - *length, left = most - *length;
+    ssize_t count;
+    do {
+        count = read(file, into->bytes + *length, room < left ? room : left);
+    } while (count < 0 && errno == EINTR);
     *length += count > 0 ? (size_t)count : 0;
     return count;
 }
 
-/* Sets `into` to the bytes of the file at `path`. Returns false with errno set if that fails. */
-static inline bool read_file(const char *path, text *into) {
-    int file = open(path, O_RDONLY | O_CLOEXEC);
-    ssize_t count = file < 0 ? -1 : 1;
-    size_t length = 0;
+/* Sets `size` to how many bytes are read of an open file: as many as it has at this moment, so nothing that grows is read without an end.
+ * What has no size, as a pipe, is read up to its end, and one byte more than MOST_BYTES says that it is too large. Returns false with
+ * errno set to EOVERFLOW if a file has more than that. */
+static inline bool find_size(int file, size_t *size) {
+    struct stat now;
+    bool has_size = fstat(file, &now) == 0 && S_ISREG(now.st_mode) && now.st_size > 0;
+    bool is_too_large = has_size && now.st_size > MOST_BYTES;
+    *size = has_size && !is_too_large ? (size_t)now.st_size : (size_t)MOST_BYTES + 1;
+    errno = is_too_large ? EOVERFLOW : errno;
+    return !is_too_large;
+}
+
+/* Sets `into` to the bytes of an open file, or does nothing if `file` is -1. Closes it. Returns false with errno set if that fails:
+ * EOVERFLOW if the file has more than MOST_BYTES bytes. */
+static inline bool read_and_close(int file, text *into) {
+    size_t most = 0, length = 0;
+    bool is_opened = file >= 0 && find_size(file, &most) && make_room(into, most <= MOST_BYTES ? most : MORE_ROOM);
+    ssize_t count = is_opened ? 1 : -1;
     while (count > 0) {
-        count = read_more(file, into, &length);
+        count = read_more(file, into, &length, most);
     }
-    int error = errno;
-    end_at(into, count == 0 ? length : 0);
+    bool is_read = count == 0 && length <= MOST_BYTES;
+    int error = count == 0 && !is_read ? EOVERFLOW : errno;
+    end_at(into, is_read ? length : 0);
     if (file >= 0) {
         close(file);
     }
     errno = error;
-    return count == 0;
+    return is_read;
 }
 
-/* Writes `length` bytes to a file, a pipe or a terminal. Returns false with errno set if that fails. A signal that is handled
- * ends a write that waits: errno is EINTR, and a part may be written. */
+/* Sets `into` to the bytes of the file at `path`. Returns false with errno set if that fails. */
+static inline bool read_file(const char *path, text *into) {
+    return read_and_close(open(path, O_RDONLY | O_NOCTTY | O_CLOEXEC), into);
+}
+
+/* Waits until a file can be written to again, but not for longer than `milliseconds`, or without an end if that is -1. */
+static inline void wait_to_write(int file, int milliseconds) {
+    struct pollfd written = {.fd = file, .events = POLLOUT};
+    poll(&written, 1, milliseconds);
+}
+
+/* Writes `length` bytes to a file or a pipe. A signal that is handled, and a file that takes nothing for a while (O_NONBLOCK), are no
+ * errors. Returns false with errno set if it fails. */
 static inline bool write_bytes(int file, const char *bytes, size_t length) {
     while (length > 0) {
         ssize_t count = write(file, bytes, length);
-        if (count < 0) {
+        if (count < 0 && errno == EAGAIN) {
+            wait_to_write(file, -1);
+        } else if (count < 0 && errno != EINTR) {
             return false;
         }
-        bytes += count;
-        length -= (size_t)count;
+        bytes += count > 0 ? count : 0;
+        length -= count > 0 ? (size_t)count : 0;
     }
     return true;
 }

@@ -4,22 +4,24 @@
 #include "bytes.h"
 
 #include <limits.h>
-#include <poll.h>
 #include <signal.h>
+#include <stdatomic.h>
 #include <stdio.h>
 #include <string.h>
 #include <sys/ioctl.h>
 #include <sys/wait.h>
 #include <termios.h>
+#include <time.h>
 
 /* Keeps the title; takes the second screen, a title, the mouse, and marks around what is pasted; and gives the terminal back, also
  * where a paint was cut off: an update ends, and symbols wrap. */
 static const char KEEP_TITLE[] = "\x1b[22;2t";
-static const char TAKE[] = "\x1b]2;%s (? for help)\x1b\\\x1b[?1049h\x1b[?25l\x1b[?1000;1006h\x1b[?2004h";
+static const char TITLE[] = "\x1b]2;";
+static const char TAKE[] = " (? for help)\x1b\\\x1b[?1049h\x1b[?25l\x1b[?1000;1006h\x1b[?2004h";
 static const char GIVE_BACK[] = "\x1b[?2026l\x1b[?7h\x1b[0m\x1b[?2004l\x1b[?1000;1006l\x1b[?25h\x1b[?1049l\x1b[23;2t";
 static const char CLEAR[] = "\x1b[0m\x1b[2J";
 
-enum { TAB = 9, CONTROL_L = 12, CONTROL_Z = 26, ESC = 27, SILENCE = 50 /* milliseconds */ };
+enum { TAB = 9, CONTROL_L = 12, CONTROL_Z = 26, ESC = 27, SILENCE = 50 /* milliseconds */, MOST_WAITS = 20 /* silences */ };
 
 typedef struct run {
     scm_session *session;
@@ -88,17 +90,38 @@ static void forget_signals(void) {
     close(wake[1]);
 }
 
+/* Returns the time in milliseconds, from a beginning of its own. */
+static int64_t now(void) {
+    struct timespec time;
+    clock_gettime(CLOCK_MONOTONIC, &time);
+    return (int64_t)time.tv_sec * 1000 + time.tv_nsec / 1000000;
+}
+
+/* Polls files as `poll` does. A signal of the caller's program ends no wait, and makes none longer. */
+static int poll_on(struct pollfd *files, nfds_t count, int milliseconds) {
+    int64_t end = now() + milliseconds;
+    int ready = poll(files, count, milliseconds);
+    while (ready < 0 && errno == EINTR) {
+        int64_t left = end - now();
+        ready = poll(files, count, milliseconds < 0 ? -1 : left > 0 ? (int)left : 0);
+    }
+    return ready;
+}
+
 /* Waits for something typed, a signal, or the silence of `milliseconds` (without an end if that is -1). Returns whether there is
  * something to read. */
 static bool wait_for_input(int terminal, int milliseconds, bool *is_silent) {
     struct pollfd files[] = {{.fd = terminal, .events = POLLIN}, {.fd = wake[0], .events = POLLIN}};
     char bytes[64];
-    int count = poll(files, 2, milliseconds);
+    int count = poll_on(files, 2, milliseconds);
     while (files[1].revents && read(wake[0], bytes, sizeof bytes) > 0) {
     }
     *is_silent = count == 0;
     return count > 0 && files[0].revents;
 }
+
+/* Returns whether what ended a read is no error: a signal of the caller's program, or a terminal that has nothing (O_NONBLOCK). */
+static bool reads_on(void) { return errno == EINTR || errno == EAGAIN; }
 
 /* Has the interrupt keys do nothing to this program, while they belong to the editor, or ends that. */
 static void ignore_keys_of_signals(bool is_ignored) {
@@ -123,11 +146,24 @@ static bool is_in_background(const run *run) {
     return group >= 0 && group != getpgrp();
 }
 
+/* Writes to the terminal. A signal of the caller's program, and a terminal without room for a while (O_NONBLOCK), are no errors. A signal
+ * that ends the run ends a write that waits; of a terminal without room, after a second. */
 static void write_terminal(run *run, const char *bytes, size_t length) {
-    if (!write_bytes(run->terminal, bytes, length) && !run->error) {
-        run->error = EIO;
+    for (int waits = 0; length > 0 && waits < MOST_WAITS;) {
+        ssize_t count = write(run->terminal, bytes, length);
+        if (count < 0 && errno == EAGAIN) {
+            wait_to_write(run->terminal, SILENCE);
+            waits += ended_by != 0;
+        } else if (count < 0 && (errno != EINTR || ended_by)) {
+            run->error = run->error ? run->error : EIO;
+            return;
+        }
+        bytes += count > 0 ? count : 0;
+        length -= count > 0 ? (size_t)count : 0;
     }
 }
+
+static void write_words(run *run, const char *words) { write_terminal(run, words, strlen(words)); }
 
 /* Takes the terminal: each key and click comes as it is typed, and the next frame has every row. */
 static void take(run *run) {
@@ -138,17 +174,17 @@ static void take(run *run) {
         return;
     }
     if (!run->is_taken) {
-        write_terminal(run, KEEP_TITLE, sizeof KEEP_TITLE - 1);
+        write_words(run, KEEP_TITLE);
     }
     run->is_taken = true;
-    if (dprintf(run->terminal, TAKE, run->title) < 0) {
-        run->error = EIO;
-    }
+    write_words(run, TITLE);
+    write_words(run, run->title);
+    write_words(run, TAKE);
 }
 
 static void give_back(run *run) {
     if (run->is_taken) {
-        write_terminal(run, GIVE_BACK, sizeof GIVE_BACK - 1);
+        write_words(run, GIVE_BACK);
         if (!is_in_background(run)) {
             set_terminal(run, &run->settings_before);
         }
@@ -180,7 +216,7 @@ static void follow_size(run *run) {
     uint16_t height = size.ws_row < SCM_MAX_ROWS ? size.ws_row : SCM_MAX_ROWS;
     bool is_first = run->width == 0;
     if (width != size.ws_col || height != size.ws_row) {
-        write_terminal(run, CLEAR, sizeof CLEAR - 1);
+        write_words(run, CLEAR);
     }
     scm_repaint(run->session);
     if (width == run->width && height == run->height) {
@@ -223,18 +259,35 @@ static bool draw(run *run) {
 
 /* ---- The editor of a message ---- */
 
+/* Opens the terminal once more, for a program that expects each read and write to wait: the caller's may not (O_NONBLOCK). Returns -1 if
+ * that fails. */
+static int open_again(const run *run) {
+    char path[PATH_MAX];
+    return ttyname_r(run->terminal, path, sizeof path) == 0 ? open(path, O_RDWR | O_NOCTTY | O_CLOEXEC) : -1;
+}
+
+/* Gives a program the terminal as its standard files. */
+static void give_files(int terminal) {
+    for (int file = 0; file <= STDERR_FILENO; file++) {
+        dup2(terminal, file);
+        fcntl(file, F_SETFD, 0);
+    }
+}
+
 /* Returns whether the user's editor has edited the file at `path`. It has the terminal, and the signals as they were before. */
 static bool run_editor(const run *run, const char *path) {
+    int terminal = open_again(run);
     pid_t editor = fork();
     if (editor == 0) {
         restore_signals();
-        for (int file = 0; file <= STDERR_FILENO; file++) {
-            dup2(run->terminal, file);
-        }
+        give_files(terminal < 0 ? run->terminal : terminal);
         execl("/bin/sh", "sh", "-c", "eval \"${VISUAL:-${EDITOR:-vi}} \\\"\\$1\\\"\"", "sh", path, (char *)NULL);
         _exit(EXIT_FAILURE);
     }
     int status = EXIT_FAILURE;
+    if (terminal >= 0) {
+        close(terminal);
+    }
     while (editor > 0 && waitpid(editor, &status, 0) < 0 && errno == EINTR) {
     }
     return editor > 0 && WIFEXITED(status) && WEXITSTATUS(status) == 0;
@@ -272,13 +325,16 @@ static const char *edit_text(const run *run, const text *message, text *edited) 
 }
 
 /* Says on the main screen that the message stays, and waits for Enter. */
-static void tell(const run *run, const char *why) {
+static void tell(run *run, const char *why) {
     char byte = 0;
-    bool is_silent;
-    dprintf(run->terminal, "the message stays: %s\nPress Enter: ", why);
-    while (byte != '\n' && !ended_by) {
-        if (wait_for_input(run->terminal, -1, &is_silent) && read(run->terminal, &byte, 1) <= 0) {
-            return;
+    bool is_silent, is_there = true;
+    write_words(run, "the message stays: ");
+    write_words(run, why);
+    write_words(run, "\nPress Enter: ");
+    while (byte != '\n' && !ended_by && is_there) {
+        if (wait_for_input(run->terminal, -1, &is_silent)) {
+            ssize_t count = read(run->terminal, &byte, 1);
+            is_there = count > 0 || (count < 0 && reads_on());
         }
     }
 }
@@ -371,8 +427,8 @@ static void take_turns(run *run) {
         if (wait_for_input(run->terminal, was_silent ? -1 : SILENCE, &is_silent)) {
             ssize_t count = read(run->terminal, bytes, sizeof bytes);
             if (count <= 0) {
-                run->error = EIO;
-                return;
+                run->error = count < 0 && reads_on() ? run->error : EIO;
+                continue;
             }
             hear(run, bytes, (size_t)count);
             is_drawn = is_cut = bytes[count - 1] == ESC;
@@ -397,18 +453,32 @@ static const char *title_of(const char *asked) {
     return asked ? asked : "Select changes";
 }
 
-int scm_run(scm_session *session, int terminal, const char *title) {
-    run run = {.session = session, .terminal = terminal, .title = title_of(title)};
-    if (tcgetattr(terminal, &run.settings_before) != 0 || !keep_signals()) {
+/* Runs a session, while no other one runs. */
+static int run_alone(run *run) {
+    if (tcgetattr(run->terminal, &run->settings_before) != 0 || !keep_signals()) {
         return -1;
     }
     hear_signals();
-    is_continued = 1;  /* the first turn takes the terminal */
-    hear(&run, "", 0); /* a message may be waited for */
-    take_turns(&run);
-    give_back(&run);
+    is_continued = 1; /* the first turn takes the terminal */
+    hear(run, "", 0); /* a message may be waited for */
+    take_turns(run);
+    give_back(run);
     forget_signals();
-    free(run.frame.bytes);
-    errno = run.error;
-    return ended_by ? ended_by : run.error ? -1 : 0;
+    free(run->frame.bytes);
+    errno = run->error;
+    return ended_by ? ended_by : run->error ? -1 : 0;
+}
+
+int scm_run(scm_session *session, int terminal, const char *title) {
+    /* the actions of signals, and what handlers have seen, are those of the process */
+    static atomic_flag is_running = ATOMIC_FLAG_INIT;
+    run run = {.session = session, .terminal = terminal, .title = title_of(title)};
+    if (atomic_flag_test_and_set(&is_running)) {
+        errno = EBUSY;
+        return -1;
+    }
+    int end = run_alone(&run), error = errno;
+    atomic_flag_clear(&is_running);
+    errno = error;
+    return end;
 }
