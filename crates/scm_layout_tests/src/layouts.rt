@@ -3,7 +3,7 @@ ghost use Rattle.std.specs.Prelude.{◌≡◌};
 ghost use Rattle.scm_layout.specs.Layouts.{layout_of};
 
 use crate::checks::check_equal;
-use crate::samples::{SMALL, state_of};
+use crate::samples::small_state;
 use scm_layout::row_search::file_on;
 use scm_layout::{FileCounts, FileRows, Layout, SectionCounts};
 use scm_selection::key_lists::{all_keys, file_key, line_key, section_key};
@@ -42,7 +42,7 @@ fn check_section(rt: &impl Abort, found: &SectionCounts, numbers: [usize; 4]) {
     check_equal(rt, counted, numbers);
 }
 
-/// Checks the counts of `SMALL`, as it is first.
+/// Checks the counts of `small_state`, as it is first.
 fn check_counts(rt: &impl Abort, layout: &Layout) {
     let counts = file_counts(rt, layout);
     check_equal(rt, (counts.editable, counts.modes), (2, 1));
@@ -60,7 +60,7 @@ fn check_counts(rt: &impl Abort, layout: &Layout) {
 #[test]
 fn toggles_keep_counts(rt: HostRuntime) -> Result<(), RecordError> {
     let alloc = rt.alloc();
-    let mut state = state_of(alloc, &SMALL)?;
+    let mut state = small_state(alloc)?;
     assert!(rt; state.is_accepted());
     let mut layout = Layout::new(alloc, &state, &KeySet::new(alloc))?;
     check_counts(&rt, &layout);
@@ -124,7 +124,7 @@ fn check_file(
 #[test]
 fn folds_keep_rows(rt: HostRuntime) -> Result<(), RecordError> {
     let alloc = rt.alloc();
-    let mut state = state_of(alloc, &SMALL)?;
+    let mut state = small_state(alloc)?;
     assert!(rt; state.is_accepted());
     let mut expanded = KeySet::new(alloc);
     let mut layout = Layout::new(alloc, &state, &expanded)?;
@@ -157,7 +157,7 @@ fn file_at(layout: &Layout, state: &RecordState<'static>, set: &KeySet, row: usi
 #[test]
 fn rows_are_found(rt: HostRuntime) -> Result<(), RecordError> {
     let alloc = rt.alloc();
-    let state = state_of(alloc, &SMALL)?;
+    let state = small_state(alloc)?;
     assert!(rt; state.is_accepted());
     let keys = all_keys(alloc, state.files.as_slice())?;
     let expanded = key_set_of(alloc, &keys)?;

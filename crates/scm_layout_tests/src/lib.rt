@@ -10,8 +10,6 @@ mod layouts;
 #[cfg(test)]
 mod memory;
 #[cfg(test)]
-mod random_script;
-#[cfg(test)]
 mod refused;
 #[cfg(test)]
 mod refused_keys;

@@ -1,0 +1,11 @@
+use Rattle.std.proofs.Common.{List, length, subst}
+use Rattle.scm_decide.specs.declared.place.Place.{Place}
+use Rattle.scm_decide.specs.Merge.{AreRowsBelow}
+use Rattle.scm_decide.proofs.MergeLemmas.{rows_merged}
+use Rattle.scm_decide.proofs.rows.rows_of.Goals as goal
+
+pub returns : goal.returns
+returns c =
+    rows_merged c.args.count c.args.old.now c.args.new.now c.args.marks.now c.in_ok-places.places.items c.in_ok-rows.rows.items
+    c.in_ok-places.ensures.in_order c.in_ok-places.ensures.listed
+    (subst (λ (ps : List Place). AreRowsBelow c.args.count ps (length ps) c.in_ok-rows.rows.items) c.as_slice.ensures.value c.in_ok-rows.ensures)

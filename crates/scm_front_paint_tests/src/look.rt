@@ -1,2 +1,0 @@
-//! Tests of how the layer looks on a terminal.
-mod calls;

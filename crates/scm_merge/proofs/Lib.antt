@@ -1,0 +1,18 @@
+-- a walk over the hunks of a side
+pub mod CursorLemmas
+-- regions that are found one after another
+pub mod RegionLemmas
+-- the lines that two lists share at their ends
+pub mod SharedLemmas
+-- the sections of a merge, made part by part
+pub mod PartLemmas
+-- laws of the merge
+pub mod LawLemmas
+-- what marks give
+pub mod MarkLemmas
+-- the merge of three texts, from bytes to bytes
+pub mod MergeLemmas
+-- where the lines of a merge come from
+pub mod OriginLemmas
+-- worked examples of the definitions
+pub mod Examples

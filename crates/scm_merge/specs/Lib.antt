@@ -1,0 +1,16 @@
+-- The definitions that contracts cite, in reading order.
+
+-- where three lists of lines differ
+pub mod Regions
+-- what becomes of each part of three lists of lines
+pub mod Parts
+-- the sections of a merge
+pub mod Sections
+-- what a merge promises
+pub mod Merge
+-- conflicts of which nothing is chosen
+pub mod Open
+-- where the lines of a merge come from
+pub mod Origins
+-- laws of the merge
+pub mod Laws

@@ -1,0 +1,28 @@
+//! What refused memory leaves of a merge. `tools/refuse-memory` runs the test with each of its requests
+//! for memory refused. The checks hold then, and the test passes or ends in `OutOfMemory`.
+use scm_merge::{merged_bytes, merged_file, open_conflicts};
+use scm_types::{FileMode, RecordError, Text};
+
+#[test]
+fn refused_memory_keeps_merges(rt: HostRuntime) -> Result<(), RecordError> {
+    let alloc = rt.alloc();
+    let mode = FileMode::Unix(0o100644);
+    let file = merged_file(
+        alloc,
+        Text::from("f"),
+        mode,
+        "a\nb\n",
+        "a\nx\n",
+        "a\ny\nz\n",
+    )?;
+    assert!(rt; open_conflicts(&file) == 1);
+    match merged_bytes(alloc, &file) {
+        Ok(bytes) => assert!(rt; bytes.as_slice() == b"a\n".as_slice()),
+        Err(_) => {
+            let again = merged_bytes(alloc, &file)?;
+            assert!(rt; again.as_slice() == b"a\n".as_slice());
+            return Err(RecordError::OutOfMemory);
+        }
+    }
+    Ok(())
+}
