@@ -8,7 +8,7 @@
 typedef struct version {
     size_t mode;
     piece bytes;
-    piece words; /* describe contents that are no text */
+    piece words; /* describe contents that are no text, as "link to TARGET" or "12 bytes" */
 } version;
 
 /* A changed file. Its paths are as the user is to see them. */
@@ -18,12 +18,15 @@ typedef struct change {
     piece note;     /* more words behind the path, or empty */
     version old, new;
     bool has_lines; /* its contents are shown by lines */
+    bool has_modes; /* each change of a mode is an item of its own, as a state tells it */
 } change;
 
-/* A side of a changed file. Without lines its contents are those of the new version if `is_new`, and else of the old one. */
+/* A side of a changed file. Its contents are lines if `has_lines`. Else they are those of the new version if `is_new`, or of the old
+ * one. */
 typedef struct side {
     size_t mode;
     piece bytes;
+    bool has_lines;
     bool is_new;
 } side;
 
@@ -33,8 +36,11 @@ bool is_link(const version *version);
 /* Returns whether two versions have the same mode and bytes. */
 bool is_same(const version *one, const version *other);
 
-/* Decides whether the contents of a change are shown by lines: no version is a link, and none has a NUL. */
+/* Decides whether the contents of a change are shown by lines: a version is a file, and no file has a NUL. */
 void look_into(change *change);
+
+/* Has each change of a mode be an item of its own. A text in the place of a link, or a link in that of a text, has no lines then. */
+void show_modes(change *change);
 
 /* Adds a change to the state of `session`. Behind its path it says what the file is, and how many lines come and go. If a line is
  * too long, the contents are one item, and `change->has_lines` says so. Returns the code of the call. */

@@ -9,10 +9,11 @@
 #include <stdio.h>
 #include <stdlib.h>
 #include <string.h>
+#include <sys/random.h>
 #include <sys/stat.h>
 #include <unistd.h>
 
-enum { PERMISSIONS = 0777, ALL_MAY_WRITE = 0666 };
+enum { PERMISSIONS = 0777, ALL_MAY_WRITE = 0666, OWN = 0600 };
 
 bool append(text *text, const char *bytes, size_t length) {
     size_t end = text->length + length;
@@ -55,59 +56,107 @@ mode_t new_file_mask(void) {
     return mask;
 }
 
-bool write_new_file(const char *path, mode_t mode, const char *bytes, size_t length) {
-    int file = open(path, O_WRONLY | O_CREAT | O_EXCL | O_CLOEXEC, mode);
-    return file >= 0 && close_written(file, write_bytes(file, bytes, length) && fchmod(file, mode) == 0 && fsync(file) == 0);
+const char *reason(void) {
+    return errno == EOVERFLOW ? "it has more than 1,073,741,824 bytes" : errno == ESTALE ? "it changed meanwhile" : strerror(errno);
 }
 
-/* Returns the permissions of the file that takes the place of `old`, or of a new file if `old` is NULL. */
-static mode_t permissions_like(const struct stat *old) {
-    return old ? old->st_mode & PERMISSIONS : ALL_MAY_WRITE & ~new_file_mask();
-}
-
-/* Makes a file in the folder of `target`, and sets `path` to its path, which the caller frees. Returns -1 with errno set if that
- * fails. */
-static int make_beside(const char *target, char **path) {
-    char *copy = strdup(target);
-    bool is_named = copy && asprintf(path, "%s/.accepted-XXXXXX", dirname(copy)) >= 0;
-    free(copy);
-    if (!is_named) {
-        *path = NULL;
-        errno = ENOMEM;
-        return -1;
+bool read_source(const char *path, text *into, mode_t *permissions) {
+    struct stat now;
+    int file = open(path, O_RDONLY | O_NOCTTY | O_CLOEXEC);
+    if (file >= 0 && fstat(file, &now) == 0 && S_ISREG(now.st_mode)) {
+        *permissions &= now.st_mode;
     }
-    return mkostemp(*path, O_CLOEXEC);
+    return read_and_close(file, into);
 }
 
-/* Writes a file beside `target`, and gives it that name. Returns false with errno set if that fails; then no file is beside it. */
-static bool write_beside(const char *target, const struct stat *old, const char *bytes, size_t length) {
-    char *path;
-    int file = make_beside(target, &path);
-    bool is_made = file >= 0;
-    bool is_written = is_made && fchmod(file, permissions_like(old)) == 0 && write_bytes(file, bytes, length) && fsync(file) == 0;
-    bool is_done = is_made && close_written(file, is_written) && rename(path, target) == 0;
+/* Writes an open file that is new, gives it its permissions, and waits until it is on the disk. Closes it. */
+static bool fill(int file, mode_t permissions, piece bytes) {
+    return close_written(file, write_bytes(file, bytes.bytes, bytes.length) && fchmod(file, permissions) == 0 && fsync(file) == 0);
+}
+
+bool write_new_file(int folder, const char *name, mode_t permissions, piece bytes) {
+    int file = openat(folder, name, O_WRONLY | O_CREAT | O_EXCL | O_NOFOLLOW | O_CLOEXEC, OWN);
+    bool is_made = file >= 0, is_filled = is_made && fill(file, permissions, bytes);
+    int error = errno;
+    if (is_made && !is_filled) {
+        unlinkat(folder, name, 0);
+    }
+    errno = error;
+    return is_filled;
+}
+
+/* ---- A file that is replaced ---- */
+
+/* A name of which nobody knows before that it will be used. */
+enum { RANDOM_BYTES = 8 };
+typedef struct random_name {
+    char name[sizeof ".accepted-" + 2 * RANDOM_BYTES];
+} random_name;
+
+static bool choose_name(random_name *name) {
+    unsigned long long random;
+    bool is_chosen = getrandom(&random, sizeof random, 0) == sizeof random;
+    snprintf(name->name, sizeof name->name, ".accepted-%016llx", random);
+    return is_chosen;
+}
+
+/* Returns the permissions of the file that takes the place of `name` in a folder, or of a new one. */
+static mode_t permissions_like(int folder, const char *name, mode_t permissions) {
+    struct stat old;
+    bool is_there = fstatat(folder, name, &old, AT_SYMLINK_NOFOLLOW) == 0 && S_ISREG(old.st_mode);
+    return is_there ? old.st_mode & PERMISSIONS : permissions & ALL_MAY_WRITE & ~new_file_mask();
+}
+
+/* Writes a file beside `name` in an open folder, and gives it that name. Returns false with errno set if that fails; then no file is
+ * beside it. */
+static bool write_in(int folder, const char *name, piece bytes, mode_t permissions) {
+    random_name beside;
+    bool is_made = choose_name(&beside) && write_new_file(folder, beside.name, permissions_like(folder, name, permissions), bytes);
+    bool is_done = is_made && renameat(folder, beside.name, folder, name) == 0;
     int error = errno;
     if (is_made && !is_done) {
-        unlink(path);
+        unlinkat(folder, beside.name, 0);
     }
-    free(path);
     errno = error;
     return is_done;
 }
 
-/* Writes to a pipe or a device, or to the file that a link names and that is not there. */
-static bool write_onto(const char *path, const char *bytes, size_t length) {
-    int file = open(path, O_WRONLY | O_CREAT | O_CLOEXEC, ALL_MAY_WRITE);
-    return file >= 0 && close_written(file, write_bytes(file, bytes, length));
+/* Writes a file in the folder of `target`. */
+static bool write_beside(const char *target, piece bytes, mode_t permissions) {
+    char *folder_copy = strdup(target), *name_copy = strdup(target);
+    int folder = folder_copy && name_copy ? open(dirname(folder_copy), O_PATH | O_DIRECTORY | O_CLOEXEC) : -1;
+    bool is_written = folder >= 0 && write_in(folder, basename(name_copy), bytes, permissions);
+    int error = errno;
+    if (folder >= 0) {
+        close(folder);
+    }
+    free(folder_copy);
+    free(name_copy);
+    errno = error;
+    return is_written;
 }
 
-bool replace_file(const char *path, const char *bytes, size_t length) {
+/* Returns whether nothing is in an open file that would be lost: a pipe, a device, or an empty file. Else errno says why. */
+static bool can_be_written(int file) {
+    struct stat now;
+    bool is_known = fstat(file, &now) == 0;
+    bool is_empty = is_known && (!S_ISREG(now.st_mode) || now.st_size == 0);
+    errno = is_known && !is_empty ? ESTALE : errno;
+    return is_empty;
+}
+
+/* Writes to a pipe or a device, or to the file that a link names and that is not there. */
+static bool write_onto(const char *path, piece bytes, mode_t permissions) {
+    int file = open(path, O_WRONLY | O_CREAT | O_NOCTTY | O_CLOEXEC, permissions & ALL_MAY_WRITE);
+    return file >= 0 && close_written(file, can_be_written(file) && write_bytes(file, bytes.bytes, bytes.length));
+}
+
+bool replace_file(const char *path, piece bytes, mode_t permissions) {
     struct stat old, itself;
     char *target = realpath(path, NULL);
     bool is_there = target && stat(target, &old) == 0;
     bool is_beside = is_there ? S_ISREG(old.st_mode) : lstat(path, &itself) != 0;
-    bool is_done = is_beside ? write_beside(is_there ? target : path, is_there ? &old : NULL, bytes, length)
-                             : write_onto(path, bytes, length);
+    bool is_done = is_beside ? write_beside(is_there ? target : path, bytes, permissions) : write_onto(path, bytes, permissions);
     int error = errno;
     free(target);
     errno = error;

@@ -11,6 +11,11 @@
 #define NAME "terminal"
 #endif
 
+/* What the program says of its build, in a line of its own, or nothing. */
+#ifndef BUILD
+#define BUILD ""
+#endif
+
 /* Bytes that another owns. */
 typedef struct piece {
     const char *bytes;
@@ -23,14 +28,23 @@ bool append(text *text, const char *bytes, size_t length);
 /* Adds words at the end of a text, in the form of printf. Returns false if memory for them fails. */
 bool append_words(text *text, const char *form, ...) __attribute__((format(printf, 2, 3)));
 
-/* Makes a new file of `mode` at `path`, and waits until its bytes are on the disk. Returns false with errno set if that fails. */
-bool write_new_file(const char *path, mode_t mode, const char *bytes, size_t length);
+/* Returns what errno says of a file that was read or is to be written. */
+const char *reason(void);
+
+/* Sets `into` to the bytes of the file at `path`, and leaves of `permissions` those that it has, if it is no pipe or device. Returns false
+ * with errno set if that fails. */
+bool read_source(const char *path, text *into, mode_t *permissions);
+
+/* Makes a new file `name` with these permissions in an open folder, and waits until its bytes are on the disk. Returns false with errno
+ * set if that fails, and then it is not there. */
+bool write_new_file(int folder, const char *name, mode_t permissions, piece bytes);
 
 /* Returns the bits of a mode that new files and folders do not get. */
 mode_t new_file_mask(void);
 
-/* Replaces the file at `path` by `length` bytes. Returns false with errno set if that fails, and then the file is as it was:
- * the bytes are written beside it first. What is no file (a pipe, a device) is written to. */
-bool replace_file(const char *path, const char *bytes, size_t length);
+/* Replaces the file at `path`. Returns false with errno set if that fails, and then the file is as it was: the bytes are written beside
+ * it first. It keeps its permissions, and a new file has no others than `permissions`. What is no file (a pipe, a device) is written
+ * to. */
+bool replace_file(const char *path, piece bytes, mode_t permissions);
 
 #endif

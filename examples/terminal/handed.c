@@ -3,10 +3,11 @@
 #include "handed.h"
 #include "marks.h"
 
+#include <stdio.h>
 #include <stdlib.h>
 #include <string.h>
 
-enum { FIRST_CHANGES = 64, LONGEST_NUMBER = 19, EIGHT = 8, TEN = 10 };
+enum { FIRST_CHANGES = 64, LONGEST_NUMBER = 19, EIGHT = 8, TEN = 10, LONGEST_WORDS = 4096 };
 
 static const char NO_ROOM[] = "not enough memory", BAD_FORM[] = "it has no records of changes: see the man page";
 
@@ -145,12 +146,29 @@ static size_t count_marked(const handed *handed) {
     return count;
 }
 
-bool mark_handed(scm_session *session, const handed *handed) {
+/* Returns what is said of marks of file `file` that do not fit its items. */
+static const char *wrong_marks(scm_session *session, size_t file, const handed_change *handed) {
+    static char words[LONGEST_WORDS];
+    size_t count = 0;
+    char none;
+    piece path = handed->change.path;
+    if (scm_marks(session, file, &none, 0, &count) == SCM_DONE) {
+        snprintf(words, sizeof words, "its %zu marks for %.*s do not fit the %zu items of that file", handed->marks.length, (int)path.length,
+                 path.bytes, count);
+    } else {
+        snprintf(words, sizeof words, "its marks cannot be set");
+    }
+    return words;
+}
+
+const char *mark_handed(scm_session *session, const handed *handed) {
     size_t count = count_marked(handed);
-    bool is_fit = true;
+    const char *why = NULL;
     for (size_t i = 0; i < count; i++) {
-        piece marks = handed->changes[i].marks;
-        is_fit = (marks.length == 0 || set_marks(session, i, marks)) && is_fit;
+        const handed_change *change = &handed->changes[i];
+        if (change->marks.length > 0 && !set_marks(session, i, change->marks) && !why) {
+            why = wrong_marks(session, i, change);
+        }
         select_next(session);
     }
     for (size_t i = 0; i < count; i++) {
@@ -159,7 +177,7 @@ bool mark_handed(scm_session *session, const handed *handed) {
     if (handed->is_all_marked) {
         mark_all(session);
     }
-    return is_fit;
+    return why;
 }
 
 /* ---- Records that are written ---- */
@@ -186,8 +204,8 @@ static uint32_t add_side(scm_session *session, const change *change, size_t file
     if (code == SCM_DONE) {
         const char *word = is_selected ? "selected" : "unselected";
         bool is_added = add_mode(into, is_selected ? "selected-mode" : "unselected-mode", side.mode)
-                        && (change->has_lines ? add_record(into, word, side.bytes)
-                                              : add_record(into, is_selected ? "selected-is" : "unselected-is", side.is_new ? new : old));
+                        && (side.has_lines ? add_record(into, word, side.bytes)
+                                           : add_record(into, is_selected ? "selected-is" : "unselected-is", side.is_new ? new : old));
         code = is_added ? SCM_DONE : SCM_NO_MEMORY;
     }
     free(bytes.bytes);

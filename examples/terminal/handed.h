@@ -32,8 +32,8 @@ void free_handed(handed *handed);
  * or SCM_DONE. */
 uint32_t open_commits(scm_session *session, const handed *handed);
 
-/* Sets the marks that were handed in, in a session that has begun. Returns whether they fit the items of their files. */
-bool mark_handed(scm_session *session, const handed *handed);
+/* Sets the marks that were handed in, in a session that has begun. Returns NULL, or which marks do not fit the items of their file. */
+const char *mark_handed(scm_session *session, const handed *handed);
 
 /* Sets `into` to what was accepted: messages, and of each change the marks and both sides. Returns the code of the call that failed,
  * or SCM_DONE. */

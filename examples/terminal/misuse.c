@@ -5,8 +5,12 @@
 #include "scm.h"
 
 #include <assert.h>
+#include <errno.h>
+#include <fcntl.h>
+#include <pthread.h>
 #include <stdlib.h>
 #include <string.h>
+#include <unistd.h>
 
 enum { WIDTH = 24, HEIGHT = 4, LONGEST_MESSAGE = 1000000, EMPTY_UPDATE = 8 + 4 + 8 };
 
@@ -35,8 +39,10 @@ static standing before;
 extern void *__libc_malloc(size_t size);
 extern void *__libc_realloc(void *block, size_t size);
 static volatile bool is_refused;
-void *malloc(size_t size) { return is_refused ? NULL : __libc_malloc(size); }
-void *realloc(void *block, size_t size) { return is_refused ? NULL : __libc_realloc(block, size); }
+static volatile long granted; /* how many allocations are granted before one is refused */
+static bool is_granted(void) { return !is_refused || granted-- > 0; }
+void *malloc(size_t size) { return is_granted() ? __libc_malloc(size) : NULL; }
+void *realloc(void *block, size_t size) { return is_granted() ? __libc_realloc(block, size) : NULL; }
 #endif
 
 static standing look(void) {
@@ -618,6 +624,151 @@ static void refuse_after_the_end(void) {
     close_session();
 }
 
+/* ---- Input that ends a session for want of memory ---- */
+
+#ifdef __GLIBC__
+static uint32_t type_to_key(const char *bytes) {
+    size_t taken;
+    uint32_t key;
+    return scm_type_to_key(&session, bytes, strlen(bytes), &taken, &key);
+}
+
+/* Refuses one allocation after another of a call that unfolds all. A call of input does not say SCM_NO_MEMORY for what it handles: it is
+ * done, and the session has ended. Returns whether that was seen. */
+static bool ends_by_memory(uint32_t call(const char *input), const char *input) {
+    bool has_ended = false;
+    for (long count = 0; count < 50; count++) {
+        done(begin(STATE), SCM_WAITING);
+        granted = count;
+        is_refused = true;
+        uint32_t code = call(input);
+        is_refused = false;
+        granted = 0;
+        uint32_t stage = scm_stage(&session);
+        assert(code == SCM_DONE ? stage == SCM_WAITING || stage == SCM_ENDED : code == SCM_NO_MEMORY && stage == SCM_WAITING);
+        assert(stage == SCM_WAITING || scm_end(&session) == SCM_END_NO_MEMORY);
+        has_ended = has_ended || stage == SCM_ENDED;
+        close_session();
+    }
+    return has_ended;
+}
+
+static void end_by_memory(void) {
+    assert(ends_by_memory(press, "shift-F"));
+    assert(ends_by_memory(press_all, "shift-F"));
+    assert(ends_by_memory(type, "F"));
+    assert(ends_by_memory(type_to_key, "F"));
+}
+#else
+static void end_by_memory(void) {}
+#endif
+
+/* ---- Null pointers, where the length is 0 ---- */
+
+static void take_null(void) {
+    size_t length = 77;
+    scm_side_info side;
+    done(scm_state_new(&session, false), SCM_BUILDING);
+    done(scm_state_message(&session, NULL, 0), SCM_BUILDING);
+    done(scm_state_texts(&session, "f", 1, NULL, 0, NULL, 0, SCM_ABSENT, "1\n", 2, 0100644), SCM_BUILDING);
+    done(scm_state_file(&session, "g", 1, NULL, 0, 0100644), SCM_BUILDING);
+    done(scm_state_context(&session, NULL, 0), SCM_BUILDING);
+    done(scm_state_changes(&session, true, false, NULL, 0), SCM_BUILDING);
+    done(scm_state_line(&session, true, true, false, NULL, 0), SCM_BUILDING);
+    done(scm_state_binary(&session, false, NULL, 0, NULL, 0), SCM_BUILDING);
+    done(scm_begin(&session, WIDTH, HEIGHT), SCM_WAITING);
+    done(scm_type(&session, NULL, 0), SCM_WAITING);
+    done(scm_press_all(&session, NULL, 0), SCM_WAITING);
+    refused(scm_press(&session, NULL, 0), SCM_NO_WORD);
+    done(scm_text(&session, NULL, 0, &length), SCM_WAITING);
+    assert(length == before.length && scm_words(SCM_DONE, NULL, 0) > 0 && scm_symbol(&session, 0, 0, NULL, 0) > 0);
+    done(scm_side(&session, 0, false, NULL, 0, &side), SCM_WAITING);
+    assert(side.contents == SCM_SIDE_TEXT && side.length == 2);
+    done(scm_marks(&session, 0, NULL, 0, &length), SCM_WAITING);
+    assert(length == 2);
+    done(scm_paint(&session, NULL, 0, &length), SCM_WAITING);
+    assert(length > EMPTY_UPDATE);
+    done(press("e"), SCM_EDITING);
+    done(scm_answer(&session, NULL, 0), SCM_WAITING);
+    close_session();
+}
+
+/* ---- A second run ---- */
+
+/* A run on a terminal of its own, by another thread. */
+typedef struct run {
+    scm_session session;
+    int user, terminal; /* the ends of the pseudo terminal */
+    int end, error;
+} run;
+
+static void *run_session(void *given) {
+    run *run = given;
+    run->end = scm_run(&run->session, run->terminal, NULL);
+    run->error = errno;
+    return NULL;
+}
+
+/* Opens a session on a pseudo terminal. */
+static run open_run(void) {
+    run run = {.user = posix_openpt(O_RDWR | O_NOCTTY)};
+    assert(run.user >= 0 && grantpt(run.user) == 0 && unlockpt(run.user) == 0);
+    run.terminal = open(ptsname(run.user), O_RDWR | O_NOCTTY);
+    assert(run.terminal >= 0 && scm_new(&run.session, STATE, strlen(STATE), WIDTH, HEIGHT) == SCM_DONE);
+    return run;
+}
+
+static void close_run(run *run) {
+    scm_free(&run->session);
+    close(run->terminal);
+    close(run->user);
+}
+
+/* Reads what is shown until a frame has ended. */
+static void read_frame(int user) {
+    static char shown[1 << 16];
+    size_t length = 0;
+    while (!memmem(shown, length, "\x1b[?2026l", 8)) {
+        ssize_t count = read(user, shown + length, sizeof shown - length);
+        assert(count > 0);
+        length += (size_t)count;
+    }
+}
+
+/* Begins a run on a thread of its own, and waits until it has drawn. */
+static pthread_t begin_run(run *run) {
+    pthread_t thread;
+    assert(pthread_create(&thread, NULL, run_session, run) == 0);
+    read_frame(run->user);
+    return thread;
+}
+
+/* Has the user of a run accept, and waits for its end. */
+static void accept_run(run *run, pthread_t thread) {
+    assert(write(run->user, "c", 1) == 1 && pthread_join(thread, NULL) == 0);
+    assert(run->end == 0 && scm_stage(&run->session) == SCM_ACCEPTED);
+}
+
+/* Looks that a run was refused since another one goes on, and changed nothing. */
+static void is_busy(run *run) {
+    assert(run->end == -1 && run->error == EBUSY && scm_stage(&run->session) == SCM_WAITING);
+    run->end = run->error = 0;
+}
+
+/* While a run goes on, another one is refused, on this thread and on a third one. Then it is not refused. */
+static void refuse_runs(void) {
+    run first = open_run(), second = open_run();
+    pthread_t begun = begin_run(&first), other;
+    run_session(&second);
+    is_busy(&second);
+    assert(pthread_create(&other, NULL, run_session, &second) == 0 && pthread_join(other, NULL) == 0);
+    is_busy(&second);
+    accept_run(&first, begun);
+    accept_run(&second, begin_run(&second));
+    close_run(&first);
+    close_run(&second);
+}
+
 int main(void) {
     refuse_where_closed();
     refuse_states();
@@ -635,5 +786,8 @@ int main(void) {
     paint_rows();
     refuse_messages();
     refuse_after_the_end();
+    end_by_memory();
+    take_null();
+    refuse_runs();
     return 0;
 }

@@ -1,9 +1,10 @@
 /* Selects changes in a terminal, over the library for C: reads files, folders or a state, runs it, and writes what was accepted. No
  * proof covers this file, nor those beside it, of which it is made. */
 #define _GNU_SOURCE
-#include "folders.h"
 #include "handed.h"
 #include "layer.h"
+#include "shown.h"
+#include "written.h"
 
 #include <errno.h>
 #include <fcntl.h>
@@ -60,7 +61,8 @@ enum { GIVEN_UP = 1, FAILED = 2 };
 static void check(bool is_well, const char *what, const char *why) {
     int error = errno;
     if (!is_well) {
-        fprintf(stderr, NAME ": %s: %s\n", what, why ? why : strerror(error));
+        errno = error;
+        say("%s: %s", what, why ? why : reason());
         exit(FAILED);
     }
 }
@@ -91,6 +93,7 @@ typedef struct task {
     bool is_as_json;
     const char *from, *to; /* the paths of what is shown; `to` is NULL for a state */
     const char *output;    /* the file to write to, or NULL for standard output */
+    mode_t permissions;    /* that all files have that were read */
     layer layer;
     text bytes;            /* of the state, or of what was handed in */
     differing file;
@@ -102,11 +105,14 @@ typedef struct task {
 enum { MANY_BYTES = 1 << 22 };
 
 /* Adds a change to the state. On a terminal it says meanwhile what takes long. If a line is too long to be shown, says so. */
-static void add(scm_session *session, change *change) {
+static void add(scm_session *session, const task *task, change *change) {
+    if (task->is_as_json && task->form != HANDED_IN) {
+        show_modes(change);
+    }
     bool had_lines = change->has_lines;
     bool is_long = change->old.bytes.length + change->new.bytes.length > MANY_BYTES && isatty(STDERR_FILENO);
     if (is_long) {
-        fprintf(stderr, "comparing %.*s ..", (int)change->path.length, change->path.bytes);
+        print_shown("", "comparing %.*s ..", (int)change->path.length, change->path.bytes);
     }
     check_code(add_change(session, change), "the changes cannot be shown");
     if (is_long) {
@@ -114,44 +120,44 @@ static void add(scm_session *session, change *change) {
     }
     if (had_lines && !change->has_lines) {
         int length = (int)change->path.length;
-        fprintf(stderr, NAME ": %.*s has a line that is too long to be shown: its changes are one item\n", length, change->path.bytes);
+        say("%.*s has a line that is too long to be shown: its changes are one item", length, change->path.bytes);
     }
 }
 
 static void open_state(scm_session *session, task *task) {
-    check(read_file(task->from, &task->bytes), task->from, NULL);
+    check(read_source(task->from, &task->bytes, &task->permissions), task->from, NULL);
     check_code(open_layer(session, &task->layer, &task->bytes, 0, 0), task->from);
 }
 
 static void open_files(scm_session *session, task *task) {
     differing *file = &task->file;
-    check(read_contents(task->from, &file->old), task->from, NULL);
-    check(read_contents(task->to, &file->new), task->to, NULL);
+    check(read_contents(task->from, &file->old, &task->permissions), task->from, NULL);
+    check(read_contents(task->to, &file->new, &task->permissions), task->to, NULL);
     file->path = task->to;
     check(show_difference(file), task->to, NULL);
     check_code(scm_state_new(session, false), task->to);
-    add(session, &file->change);
+    add(session, task, &file->change);
 }
 
 static void open_folders(scm_session *session, task *task) {
     char *path = NULL;
-    task->folders.left = task->from;
-    task->folders.right = task->to;
+    check(open_top(&task->folders.left, task->from), task->from, NULL);
+    check(open_top(&task->folders.right, task->to), task->to, NULL);
     bool is_read = read_folders(&task->folders, &path);
     check(is_read, path ? path : task->to, NULL);
     check_code(scm_state_new(session, false), task->to);
     for (size_t i = 0; i < task->folders.differ; i++) {
-        add(session, &task->folders.files[i].change);
+        add(session, task, &task->folders.files[i].change);
     }
 }
 
 static void open_handed(scm_session *session, task *task) {
-    check(read_file(task->from, &task->bytes), task->from, NULL);
+    check(read_source(task->from, &task->bytes, &task->permissions), task->from, NULL);
     const char *why = read_handed((piece){task->bytes.bytes, task->bytes.length}, &task->handed);
     check(!why, task->from, why);
     check_code(open_commits(session, &task->handed), task->from);
     for (size_t i = 0; i < task->handed.count; i++) {
-        add(session, &task->handed.changes[i].change);
+        add(session, task, &task->handed.changes[i].change);
     }
 }
 
@@ -164,7 +170,8 @@ static void begin(scm_session *session, task *task) {
     check(code != SCM_NOT_ACCEPTED, task->to, "there are too many lines to be shown: hand in fewer files");
     check_code(code, task->to);
     if (task->form == HANDED_IN) {
-        check(mark_handed(session, &task->handed), task->from, "its marks do not fit its changes");
+        const char *why = mark_handed(session, &task->handed);
+        check(!why, task->from, why);
     }
 }
 
@@ -184,7 +191,7 @@ static bool has_nothing(const task *task) {
     bool is_equal = task->form == TWO_FILES && is_same(&task->file.change.old, &task->file.change.new);
     bool has_none = is_equal || (task->form == TWO_FOLDERS && task->folders.differ == 0);
     if (has_none) {
-        fprintf(stderr, NAME ": %s and %s are equal: there is nothing to choose\n", task->from, task->to);
+        say("%s and %s are equal: there is nothing to choose", task->from, task->to);
     }
     return has_none;
 }
@@ -214,14 +221,15 @@ static int give_up(scm_session *session, bool is_there) {
     bool is_cancelled = scm_end(session) == SCM_END_CANCELLED;
     text words = {0};
     check_code(read_text(session, &words), "cannot go on");
-    fprintf(stderr, NAME ": %s\n", is_there ? words.bytes : "the terminal is gone");
+    say("%s", is_there ? words.bytes : "the terminal is gone");
     free(words.bytes);
     return !is_there || is_cancelled ? GIVEN_UP : FAILED;
 }
 
-/* Writes bytes to a file, or to standard output. */
-static void write_output(const char *path, piece bytes) {
-    bool is_written = path ? replace_file(path, bytes.bytes, bytes.length)
+/* Writes bytes to the file of a task, or to standard output. */
+static void write_output(const task *task, piece bytes) {
+    const char *path = task->output;
+    bool is_written = path ? replace_file(path, bytes, task->permissions)
                            : write_bytes(STDOUT_FILENO, bytes.bytes, bytes.length) && close(STDOUT_FILENO) == 0;
     check(is_written, path ? path : "standard output", NULL);
 }
@@ -232,7 +240,7 @@ static void write_text(scm_session *session, const task *task) {
     bool is_handed = task->form == HANDED_IN && !task->is_as_json;
     uint32_t code = is_handed ? write_accepted_sides(session, &task->handed, &accepted) : read_text(session, &accepted);
     check_code(code, "cannot go on");
-    write_output(task->output, (piece){accepted.bytes, accepted.length});
+    write_output(task, (piece){accepted.bytes, accepted.length});
     free(accepted.bytes);
 }
 
@@ -241,23 +249,22 @@ static void write_file(scm_session *session, const task *task) {
     text bytes = {0};
     side side;
     check_code(read_side(session, 0, &task->file.change, true, &bytes, &side), "cannot go on");
-    write_output(task->output, side.bytes);
+    write_output(task, side.bytes);
     free(bytes.bytes);
 }
 
 /* Has the right folder hold the selected sides. */
-static void write_folder(scm_session *session, const task *task) {
-    char *path = NULL;
-    const char *why = NULL;
-    int end = write_right(session, &task->folders, &path, &why);
+static void write_folder(scm_session *session, task *task) {
+    failure failure = {0};
+    int end = write_right(session, &task->folders, &failure);
     if (end != WRITTEN) {
         const char *left = end == HALF_WRITTEN ? "a part is written" : "nothing was written";
-        fprintf(stderr, NAME ": %s: %s: %s\n", path ? path : task->to, why, left);
+        say("%s: %s: %s", failure.path ? failure.path : task->to, failure.why, left);
         exit(FAILED);
     }
 }
 
-static void write_accepted(scm_session *session, const task *task) {
+static void write_accepted(scm_session *session, task *task) {
     if (task->form == A_STATE || task->form == HANDED_IN || task->is_as_json) {
         write_text(session, task);
     } else if (task->form == TWO_FILES) {
@@ -267,11 +274,20 @@ static void write_accepted(scm_session *session, const task *task) {
     }
 }
 
+/* Scrolls up to the message of a commit, if there is one: what unfolds files at the start may have scrolled to the selected one. */
+static void show_message(scm_session *session, const task *task) {
+    static const char word[] = "ctrl-pageup";
+    if (task->handed.commits > 0) {
+        scm_press(session, word, sizeof word - 1);
+    }
+}
+
 /* Has the user choose, and writes what is accepted. Returns the status. */
-static int select_changes(scm_session *session, const task *task) {
+static int select_changes(scm_session *session, task *task) {
     int terminal = open("/dev/tty", O_RDWR | O_CLOEXEC);
     check(terminal >= 0, "there is no terminal", NULL);
     check_code(start_layer(session, &task->layer, terminal), "cannot go on");
+    show_message(session, task);
     const char *why = take_keys(session, &task->layer);
     check(!why, "the keys of your own", why);
     bool is_there = run_in_terminal(session, terminal);
@@ -316,7 +332,7 @@ static int read_options(int argc, char **argv, task *task) {
 static void read_environment(task *task) {
     const char *values = NULL, *name = read_layer(&task->layer, &values);
     if (name) {
-        fprintf(stderr, NAME ": %s is %s: write %s\n", name, getenv(name), values);
+        say("%s is %s: write %s", name, getenv(name), values);
         exit(FAILED);
     }
 }
@@ -335,11 +351,11 @@ static void read_paths(int count, char **paths, task *task) {
 }
 
 int main(int argc, char **argv) {
-    task task = {0};
+    task task = {.permissions = ~(mode_t)0, .folders = {.left = NOT_OPEN, .right = NOT_OPEN}};
     scm_session session = {0};
     int asked = read_options(argc, argv, &task);
     if (asked) {
-        return print(asked == 'v' ? NAME " " SCM_VERSION_TEXT "\n" : HELP);
+        return print(asked == 'v' ? NAME " " SCM_VERSION_TEXT "\n" BUILD : HELP);
     }
     read_paths(argc - optind, argv + optind, &task);
     check(task.output || task.form == TWO_FOLDERS || fcntl(STDOUT_FILENO, F_GETFD) >= 0, "standard output", NULL);
@@ -350,7 +366,7 @@ int main(int argc, char **argv) {
     bool is_chosen = !has_nothing(&task);
     int status = is_chosen ? select_changes(&session, &task) : 0;
     if (!is_chosen && task.form == TWO_FILES) {
-        write_output(task.output, task.file.change.new.bytes);
+        write_output(&task, task.file.change.new.bytes);
     }
     scm_free(&session);
     free_task(&task);

@@ -1,0 +1,18 @@
+/* Texts of others as they can stand on a screen, and what the program says. */
+#ifndef SHOWN_H
+#define SHOWN_H
+
+#include "files.h"
+
+/* Adds a path as it is shown: what is no UTF-8, or is not seen, written out, and a backslash doubled. So two paths are never shown
+ * alike. Returns false if memory for it fails. */
+bool add_shown(text *into, const char *path);
+
+/* Prints words, in the form of printf, on standard error, and `end` behind them. What the words have that is no UTF-8, or is not
+ * seen, is written out: a path, a value or a line of a file can do nothing to the terminal. Every message is printed by this call. */
+void print_shown(const char *end, const char *form, ...) __attribute__((format(printf, 2, 3)));
+
+/* Prints a message on a line of its own, behind the program's name. */
+#define say(...) print_shown("\n", NAME ": " __VA_ARGS__)
+
+#endif

@@ -1,0 +1,349 @@
+/* The right folder of two, as the user wants it. No proof covers this file. */
+#define _GNU_SOURCE
+#include "written.h"
+#include "shown.h"
+
+#include <signal.h>
+#include <stdio.h>
+#include <string.h>
+#include <sys/random.h>
+
+/* Permissions. */
+enum { MAY_RUN = 0111, MAY_READ = 0444, NEW_FILE = 0666, ALL = 0777, OWN_FOLDER = 0700, OTHERS_MAY_WRITE = 0022 };
+
+/* A file as it is to be, or not to be if its mode is SCM_ABSENT. */
+typedef struct wanted {
+    const differing *file;
+    side side;
+    text bytes;
+    found now;        /* what is in its place */
+    bool is_other;    /* than what is there */
+    bool is_in_spare; /* a file or a link is made for it */
+} wanted;
+
+/* A folder for what comes, in which each file has its number for a name. It is used by its descriptor alone. */
+typedef struct spare {
+    int folder; /* open, or -1 */
+    char name[sizeof SPARE + SPARE_DIGITS];
+    struct stat status;
+} spare;
+
+/* The files of the right folder as they are to be. */
+typedef struct plan {
+    folders *folders;
+    wanted *files;
+    spare spare;
+    failure *failure;
+} plan;
+
+/* The name of a file in the spare folder. */
+typedef struct number {
+    char name[32];
+} number;
+
+static number number_of(size_t index) {
+    number number;
+    snprintf(number.name, sizeof number.name, "%zu", index);
+    return number;
+}
+
+/* Keeps where and why a plan fails: in the whole folder if `path` is NULL, and for the reason of errno if `why` is. Returns false. */
+static bool fail(plan *plan, const char *path, const char *why) {
+    plan->failure->why = why ? why : reason();
+    plan->failure->path = path ? strdup(path) : NULL;
+    return false;
+}
+
+/* ---- What is wanted ---- */
+
+/* Sets `wanted` to what the file that is numbered `index` is to be. */
+static bool read_selected(const folders *folders, scm_session *session, size_t index, wanted *wanted) {
+    const change *change = &folders->files[index].change;
+    bool is_read = read_side(session, index, change, true, &wanted->bytes, &wanted->side) == SCM_DONE;
+    version version = {wanted->side.mode, wanted->side.bytes, change->new.words};
+    wanted->file = &folders->files[index];
+    wanted->is_other = is_read && !is_same(&version, &change->new);
+    return is_read;
+}
+
+/* Finds out what each file is to be. */
+static bool read_wanted(plan *plan, scm_session *session) {
+    const folders *folders = plan->folders;
+    plan->files = calloc(folders->differ + 1, sizeof *plan->files);
+    for (size_t i = 0; plan->files && i < folders->differ; i++) {
+        if (!read_selected(folders, session, i, &plan->files[i])) {
+            errno = ENOMEM;
+            return fail(plan, folders->files[i].path, NULL);
+        }
+    }
+    return plan->files || fail(plan, NULL, NULL);
+}
+
+/* Returns whether there is to be a file or a link at the path `paths.at[index]`. `next` is the index of the first wanted file from it
+ * on. */
+static bool is_to_be(const plan *plan, size_t index, size_t *next) {
+    folders *folders = plan->folders;
+    const char *path = folders->paths.at[index];
+    struct stat now;
+    place at;
+    if (*next < folders->differ && folders->files[*next].path == path) {
+        return plan->files[(*next)++].side.mode != SCM_ABSENT;
+    }
+    return find_place(&folders->right, path, &at) && fstatat(at.folder, at.name, &now, AT_SYMLINK_NOFOLLOW) == 0;
+}
+
+/* Returns whether one of the folders that a path lies in is itself to be a file. `are_to_be` says it of each path. */
+static bool is_in_a_file(const paths *paths, const bool *are_to_be, const char *path) {
+    for (const char *end = strchr(path, '/'); end; end = strchr(end + 1, '/')) {
+        char *folder = strndup(path, (size_t)(end - path));
+        char **at = folder ? bsearch(&folder, paths->at, paths->count, sizeof *paths->at, compare_paths) : NULL;
+        free(folder);
+        if (at && are_to_be[at - paths->at]) {
+            return true;
+        }
+    }
+    return false;
+}
+
+/* Returns the index of the first file that is to lie in another one, or how many there are if none is. */
+static size_t first_misfit(const paths *paths, const bool *are_to_be) {
+    size_t index = 0;
+    while (index < paths->count && !(are_to_be[index] && is_in_a_file(paths, are_to_be, paths->at[index]))) {
+        index++;
+    }
+    return index;
+}
+
+/* Checks that no file is to lie in another one. */
+static bool check_fits(plan *plan) {
+    const paths *paths = &plan->folders->paths;
+    bool *are_to_be = calloc(paths->count + 1, sizeof *are_to_be);
+    size_t next = 0;
+    for (size_t i = 0; are_to_be && i < paths->count; i++) {
+        are_to_be[i] = is_to_be(plan, i, &next);
+    }
+    if (!are_to_be) {
+        return fail(plan, NULL, NULL);
+    }
+    size_t bad = first_misfit(paths, are_to_be);
+    free(are_to_be);
+    return bad == paths->count || fail(plan, paths->at[bad], "it cannot be there beside a file that it would lie in");
+}
+
+/* ---- What comes ---- */
+
+/* Checks that a file of the right folder is as it was shown, and keeps what is there. */
+static bool check_unchanged(plan *plan, wanted *wanted) {
+    bool is_file;
+    bool is_read = read_found(&plan->folders->right, wanted->file->path, &wanted->now, &is_file);
+    bool is_unchanged = is_read && is_file && is_same(&wanted->now.version, &wanted->file->new.version);
+    if (!is_unchanged) {
+        fail(plan, wanted->file->path, is_read ? "it changed meanwhile" : NULL);
+    }
+    /* its bytes are those that were shown */
+    free_found(&wanted->now);
+    wanted->now.bytes = wanted->now.words = (text){0};
+    return is_unchanged;
+}
+
+/* Returns the permissions of a file of this mode in the place of what is there. It keeps those that it has, but for those to run it. A
+ * new file has no more than the one that it is made of. */
+static mode_t permissions_of(const wanted *wanted) {
+    const struct stat *now = &wanted->now.status, *source = &wanted->file->old.status;
+    bool is_program = wanted->side.mode == PROGRAM_MODE;
+    if (S_ISREG(now->st_mode)) {
+        mode_t kept = now->st_mode & ALL;
+        return is_program ? kept | (kept & MAY_READ) >> 2 : kept & ~(mode_t)MAY_RUN;
+    }
+    mode_t most = S_ISREG(source->st_mode) ? source->st_mode : ALL;
+    return (is_program ? ALL : NEW_FILE) & most & ~new_file_mask();
+}
+
+static bool make_link(int folder, const char *name, piece target) {
+    char *words = strndup(target.bytes, target.length);
+    bool is_made = words && symlinkat(words, folder, name) == 0;
+    free(words);
+    return is_made;
+}
+
+/* Makes what comes for a wanted file in the spare folder. */
+static bool make_wanted(plan *plan, size_t index) {
+    wanted *wanted = &plan->files[index];
+    const side *side = &wanted->side;
+    number made = number_of(index);
+    if (!check_unchanged(plan, wanted)) {
+        return false;
+    }
+    if (side->mode == SCM_ABSENT) {
+        return true;
+    }
+    wanted->is_in_spare = side->mode == LINK_MODE
+                              ? make_link(plan->spare.folder, made.name, side->bytes)
+                              : write_new_file(plan->spare.folder, made.name, permissions_of(wanted), side->bytes);
+    return wanted->is_in_spare || fail(plan, wanted->file->path, NULL);
+}
+
+/* Makes the spare folder, with a name that nobody foresees, and opens it. Returns why that failed, or NULL. */
+static const char *make_spare(spare *spare, int top) {
+    unsigned long long random;
+    bool is_chosen = getrandom(&random, sizeof random, 0) == sizeof random;
+    snprintf(spare->name, sizeof spare->name, SPARE "%0*llx", (int)SPARE_DIGITS, random);
+    if (!is_chosen || mkdirat(top, spare->name, OWN_FOLDER) != 0) {
+        return reason();
+    }
+    spare->folder = openat(top, spare->name, O_RDONLY | O_DIRECTORY | O_NOFOLLOW | O_CLOEXEC);
+    if (spare->folder < 0 || fstat(spare->folder, &spare->status) != 0) {
+        return reason();
+    }
+    if (spare->status.st_uid != geteuid() || (spare->status.st_mode & OTHERS_MAY_WRITE) != 0) {
+        close(spare->folder);
+        spare->folder = -1;
+        return "it cannot be kept from others";
+    }
+    return NULL;
+}
+
+/* Makes all that comes in the spare folder. */
+static bool make_all(plan *plan) {
+    const char *why = make_spare(&plan->spare, plan->folders->right.top);
+    if (why) {
+        return fail(plan, plan->spare.name, why);
+    }
+    for (size_t i = 0; i < plan->folders->differ; i++) {
+        if (plan->files[i].is_other && !make_wanted(plan, i)) {
+            return false;
+        }
+    }
+    return true;
+}
+
+/* Removes the spare folder, with what is still in it. Says so if that fails: what was written stays. */
+static void remove_spare(const plan *plan) {
+    const spare *spare = &plan->spare;
+    int top = plan->folders->right.top;
+    struct stat now;
+    if (spare->folder < 0) {
+        return;
+    }
+    for (size_t i = 0; i < plan->folders->differ; i++) {
+        if (plan->files[i].is_in_spare) {
+            unlinkat(spare->folder, number_of(i).name, 0);
+        }
+    }
+    close(spare->folder);
+    bool is_there = fstatat(top, spare->name, &now, AT_SYMLINK_NOFOLLOW) == 0 && now.st_ino == spare->status.st_ino;
+    if (!is_there || unlinkat(top, spare->name, AT_REMOVEDIR) != 0) {
+        say("%s cannot be removed: %s", spare->name, is_there ? reason() : "it is no longer there");
+    }
+}
+
+/* ---- What is put in place ---- */
+
+/* Returns the permissions of a new folder at the first `length` bytes of a path: those of the left one, if it is there. */
+static mode_t permissions_of_folder(below *left, const char *path, size_t length) {
+    struct stat status;
+    int like = folder_below(left, path, length);
+    return like >= 0 && fstat(like, &status) == 0 ? (status.st_mode & ALL) | OWN_FOLDER : ALL;
+}
+
+/* Makes the folder at the first `length` bytes of a path. That of the last name in them is there. */
+static bool make_folder(folders *folders, const char *path, size_t length) {
+    char *folder = strndup(path, length);
+    place at;
+    bool is_made = folder && find_place(&folders->right, folder, &at)
+                   && mkdirat(at.folder, at.name, permissions_of_folder(&folders->left, path, length)) == 0;
+    free(folder);
+    return is_made;
+}
+
+/* Makes the folders that a path lies in, if they are not there. */
+static bool make_folders(folders *folders, const char *path) {
+    bool is_made = true;
+    for (const char *end = strchr(path, '/'); end && is_made; end = strchr(end + 1, '/')) {
+        size_t length = (size_t)(end - path);
+        is_made = folder_below(&folders->right, path, length) >= 0 || (errno == ENOENT && make_folder(folders, path, length));
+    }
+    return is_made;
+}
+
+/* Removes the folders that a path lies in, as far as they are empty. */
+static void remove_folders(below *right, char *path) {
+    bool is_empty = true;
+    place at;
+    for (char *cut = strrchr(path, '/'); cut && is_empty; cut = strrchr(path, '/')) {
+        *cut = 0;
+        is_empty = find_place(right, path, &at) && unlinkat(at.folder, at.name, AT_REMOVEDIR) == 0;
+    }
+    /* it may be one of them */
+    forget_last(right);
+}
+
+/* Takes away the file at a path, and the folders that are empty then. */
+static bool take_away(below *right, const char *path) {
+    place at;
+    if (!find_place(right, path, &at) || unlinkat(at.folder, at.name, 0) != 0) {
+        return false;
+    }
+    char *cut = strdup(path);
+    if (cut) {
+        remove_folders(right, cut);
+    }
+    free(cut);
+    return true;
+}
+
+/* Puts the file that is numbered `index` in place. */
+static bool put_in_place(plan *plan, size_t index) {
+    wanted *wanted = &plan->files[index];
+    place at;
+    wanted->is_in_spare = !make_folders(plan->folders, wanted->file->path) || !find_place(&plan->folders->right, wanted->file->path, &at)
+                          || renameat(plan->spare.folder, number_of(index).name, at.folder, at.name) != 0;
+    return !wanted->is_in_spare;
+}
+
+/* Puts a wanted file in place, or takes away what is there, if that is still what was looked at. */
+static bool put(plan *plan, size_t index) {
+    const wanted *wanted = &plan->files[index];
+    below *right = &plan->folders->right;
+    const char *path = wanted->file->path;
+    if (!is_still_there(right, path, &wanted->now)) {
+        return fail(plan, path, "it changed meanwhile");
+    }
+    bool is_put = wanted->side.mode == SCM_ABSENT ? take_away(right, path) : put_in_place(plan, index);
+    return is_put || fail(plan, path, NULL);
+}
+
+/* Puts all in place: what goes makes room for what comes. Returns how that ended. */
+static int put_all(plan *plan) {
+    bool is_begun = false;
+    for (size_t i = 0; i < 2 * plan->folders->differ; i++) {
+        size_t index = i % plan->folders->differ;
+        bool is_in_turn = (plan->files[index].side.mode == SCM_ABSENT) == (i < plan->folders->differ);
+        if (plan->files[index].is_other && is_in_turn) {
+            if (!put(plan, index)) {
+                return is_begun ? HALF_WRITTEN : NOTHING_WRITTEN;
+            }
+            is_begun = true;
+        }
+    }
+    return WRITTEN;
+}
+
+int write_right(scm_session *session, folders *folders, failure *failure) {
+    plan plan = {.folders = folders, .spare = {.folder = -1}, .failure = failure};
+    sigset_t all, before;
+    sigfillset(&all);
+    sigprocmask(SIG_BLOCK, &all, &before);
+    /* what was opened before the user chose is looked for anew */
+    forget_last(&folders->left);
+    forget_last(&folders->right);
+    bool is_made = read_wanted(&plan, session) && check_fits(&plan) && make_all(&plan);
+    int end = is_made ? put_all(&plan) : NOTHING_WRITTEN;
+    remove_spare(&plan);
+    sigprocmask(SIG_SETMASK, &before, NULL);
+    for (size_t i = 0; plan.files && i < folders->differ; i++) {
+        free(plan.files[i].bytes.bytes);
+    }
+    free(plan.files);
+    return end;
+}
