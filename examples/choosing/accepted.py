@@ -1,8 +1,5 @@
 """What a front end wrote of an accepted choice: the sides of each file, the marks, and the messages. And marks that are kept."""
-import json
-
-from .change import ABSENT
-from .files import digest_of
+from .change import ABSENT, digest_of
 from .records import records_in
 from .words import Stop, shown
 
@@ -45,6 +42,8 @@ class Accepted:
 
     def kept(self):
         """Returns the marks as they are kept: what has to be the same for them to be taken up is with them."""
+        import json
+
         files = [{"path": shown(it.path), "sides": sides_of(it), "marks": marks} for it, marks in zip(self.changes, self.marks)]
         return json.dumps({"messages": self.messages, "files": files})
 
@@ -63,6 +62,8 @@ def sides_of(change):
 
 def kept_in(path):
     """Returns the marks that are kept in a file."""
+    import json
+
     try:
         with open(path, encoding="utf-8") as file:
             kept = json.load(file)
@@ -82,13 +83,21 @@ def is_kept(kept):
     if not all(isinstance(file, dict) for file in files):
         return False
     texts = [*kept["messages"], *(file.get(name) for file in files for name in ("path", "marks"))]
-    return all(isinstance(text, str) for text in texts) and all(set(file["marks"]) <= {"0", "1"} for file in files)
+    return all(map(is_text, texts)) and all(set(file["marks"]) <= {"0", "1"} for file in files)
+
+
+def is_text(value):
+    """Whether a value of JSON is a text that has a form in UTF-8."""
+    try:
+        return isinstance(value, str) and value.encode() is not None
+    except UnicodeEncodeError:
+        return False
 
 
 def take_up(changes, kept):
     """Gives changes the marks that were kept of the same ones. Returns the paths of marked ones that changed since."""
     marked = {file["path"]: file for file in kept["files"] if "1" in file["marks"]}
-    for change in changes:
+    for change in changes if marked else ():
         file = marked.get(shown(change.path))
         if file and file.get("sides") == sides_of(change):
             change.marks = file["marks"]

@@ -1,5 +1,6 @@
 """What a file has changed: as the front end takes it, and as what a choice leaves of it."""
 import collections
+import hashlib
 import os
 
 from .records import record
@@ -11,26 +12,53 @@ ABSENT, LINK, SUBMODULE = "000000", "120000", "160000"
 Side = collections.namedtuple("Side", "mode name")
 
 
+class Unread(bytes):
+    """Stands for the contents of a file that are not read, and are `size` bytes long. Its own bytes tell it from others of its kind;
+    contents that were read are never equal to it, whatever a file has."""
+
+    def __new__(cls, data, size):
+        made = super().__new__(cls, data)
+        made.size = size
+        return made
+
+    def __eq__(self, other):
+        return isinstance(other, Unread) and super().__eq__(other)
+
+    def __ne__(self, other):
+        return not self == other
+
+    __hash__ = bytes.__hash__
+
+
 class Change:
     """The two sides of a file, old and new, with their bytes. `note` is what the user is told behind its path, beside what the front
     end says of it, and `marks` the marks to begin with: a `1` or a `0` for each item, or nothing."""
 
     note = marks = ""
+    # the renamed file of which this is one path
+    whole = None
 
     def __init__(self, path, sides, contents):
         self.path, (self.old, self.new) = path, sides
         self.old_data, self.new_data = (b"" if side.mode == ABSENT else contents[side.name] for side in sides)
-        is_link = LINK in (self.old.mode, self.new.mode)
-        self.has_lines = not is_link and b"\0" not in self.old_data and b"\0" not in self.new_data
+        files = [data for _, side, data in self.versions() if side.mode not in (ABSENT, LINK)]
+        self.is_unread = any(isinstance(data, Unread) for data in files)
+        self.has_lines = bool(files) and not self.is_unread and not any(b"\0" in data for data in files)
+
+    def versions(self):
+        """Returns both sides, each with its word in a record and its bytes."""
+        return ("old", self.old, self.old_data), ("new", self.new, self.new_data)
 
     def records(self):
-        """Yields the records that hand it in. What has no lines goes without its bytes: it is one item."""
+        """Yields the records that hand it in. What has no lines, and a link, goes without its bytes: it is one item, or none."""
         yield record("path", shown(self.path))
-        for word, side, data in (("old", self.old, self.old_data), ("new", self.new, self.new_data)):
+        for word, side, data in self.versions():
             if side.mode != ABSENT:
                 yield record(word + "-mode", side.mode)
-                yield record(word + "-words", described(side, data))
-            if self.has_lines:
+                # the front end tells two versions apart by their words
+                is_first = word == "old" and self.new.mode != ABSENT
+                yield record(word + "-words", named(side, data) if is_first else described(side, data))
+            if self.has_lines and side.mode != LINK:
                 yield record(word, data)
         yield from (record(word, text) for word, text in (("note", self.note), ("marks", self.marks)) if text)
 
@@ -49,6 +77,7 @@ class Renamed(Change):
     def __init__(self, gone, come, contents):
         super().__init__(come.path, (gone.old, come.new), contents)
         self.gone, self.come = gone, come
+        gone.whole = come.whole = self
 
     def can_be_shown(self):
         """Whether its lines are shown, or it has no others than before."""
@@ -74,8 +103,28 @@ class Choice(collections.namedtuple("Choice", "change mode data")):
         return next((side.name for side, data in sides if data == self.data and side.name), None)
 
 
+def digest_of(side):
+    """Returns what a side of a file is known by: its mode, and a digest of its bytes."""
+    mode, data = side
+    return [mode, hashlib.sha256(data).hexdigest()]
+
+
+def counted_bytes(size):
+    """Returns a number of bytes in words, as in `12.3 MB`."""
+    return "%d bytes" % size if size < 1_000 else "%.1f KB" % (size / 1_000) if size < 1_000_000 else "%.1f MB" % (size / 1_000_000)
+
+
+def named(side, data):
+    """Returns what describes a side beside a newer one."""
+    return "%s, %s" % (counted_bytes(data.size), side.name[:10]) if isinstance(data, Unread) else described(side, data)
+
+
 def described(side, data):
-    return "to " + shown(os.fsdecode(data)) if side.mode == LINK else "%s (%d bytes)" % (side.name[:10], len(data))
+    """Returns the words for the contents of a side that are one item. Contents that differ have other words: git's name is in them."""
+    if isinstance(data, Unread):
+        return counted_bytes(data.size) + ", not shown by lines"
+    size = "%s byte%s" % (format(len(data), ","), "" if len(data) == 1 else "s")
+    return "link to " + shown(os.fsdecode(data)) if side.mode == LINK else "%s, %s" % (size, side.name[:10])
 
 
 def folders_of(path):

@@ -1,141 +1,109 @@
 """A change of files that was cut off, as by a loss of power: what of it is done, and how it is finished or undone."""
 import contextlib
-import json
 import os
-import re
 
-from .change import ABSENT
-from .files import DONE, IS_FOLDER, PLAN, SPARE, Files, digest_of, empty, lock_open, read_all
+from .change import digest_of
+from .files import named
+from .plans import NOTHING, WITHIN, in_order, plans_of
+from .spare import Spare, parent_for
 from .words import Stop, shown
-
-NAME = re.compile(re.escape(SPARE).replace("%d", r"\d+"))
-
-
-class Entry:
-    """A file of a plan (see Files.change). `old` and `new` are what digest_of says of its sides. `is_aside` says whether what it
-    was is in the spare folder, and `is_made` whether what it is to be still is."""
-
-    def __init__(self, number, path, sides, left):
-        self.number, self.path, (self.old, self.new) = number, path, sides
-        self.aside, self.made = "old-%d" % number, "new-%d" % number
-        self.is_aside, self.is_made = self.aside in left, self.made in left
-
-    def is_done(self):
-        """Whether the file is as it is to be."""
-        return not self.is_made and (self.is_aside or self.old[0] == ABSENT)
 
 
 class CutOff:
-    """What was left by a change of files that was cut off, in the folder `name` below `top`, open as `spare`."""
+    """What was left by a change of `files` that was cut off: its spare folder `spare`, with the plan, and the `entries` of that if
+    some of them may be done. Else the folder is not needed."""
 
-    def __init__(self, top, name, spare):
-        self.files, self.name, self.spare = Files(top), name, spare
-        self.left = set(os.listdir(spare))
-        self.entries = self.plan() if PLAN in self.left else []
+    def __init__(self, spare, entries):
+        self.files, self.spare, self.entries = spare.files, spare, in_order(entries)
 
-    def plan(self):
-        """Returns the entries of the plan."""
-        try:
-            lines = json.loads(read_all(self.spare, PLAN, os.O_NOFOLLOW))
-            return [Entry(number, path, sides, self.left) for number, (path, *sides) in enumerate(lines)]
-        except (ValueError, TypeError):
-            raise Stop("%s has no plan that can be read" % shown(os.path.join(self.files.top, self.name))) from None
-
-    def is_known(self):
-        """Whether it is known what the files in the folder are for."""
-        return bool(self.entries) or DONE in self.left or not any(name.startswith("old-") for name in self.left)
+    @property
+    def path(self):
+        return self.spare.path
 
     def progress(self):
         """Returns how many of the files are as they are to be, and of how many."""
-        return sum(entry.is_done() for entry in self.entries), len(self.entries)
+        return sum(map(self.spare.is_done, self.entries)), len(self.entries)
+
+    def check(self):
+        """Stops if what is kept, or what is at a path, is not what the plan says, before anything is moved."""
+        for entry in self.entries:
+            if self.spare.is_aside(entry):
+                self.spare.check_kept(entry.aside, entry.path, entry.old)
+            if self.spare.is_made(entry):
+                self.spare.check_kept(entry.made, entry.path, entry.new)
+            elif entry.comes and not self.spare.is_done(entry):
+                raise Stop("what is kept for %s in %s is gone" % (shown(entry.path), shown(self.path)))
+            if digest_of(self.files.read(entry.path)[0]) != self.standing(entry):
+                raise Stop("%s changed since" % shown(entry.path))
+
+    def standing(self, entry):
+        """Returns what is at the path of an entry, by what is kept."""
+        if self.spare.is_done(entry):
+            return entry.new
+        return NOTHING if self.spare.is_aside(entry) else entry.old
 
     def finish(self):
-        """Puts in place what is not there yet, and returns the entries. Stops if something else is there, and can be called again
-        then."""
+        """Puts in place what is not there yet. Stops if something else is there, and can be called again then. Returns the entries,
+        and what is said of what cannot be removed."""
+        self.check()
         for entry in self.entries:
-            if entry.new[0] != ABSENT and not entry.is_made:
-                self.check(entry, self.now(entry), entry.new)
-        # what goes makes room for what comes
-        for entry in sorted(self.entries, key=lambda entry: entry.new[0] != ABSENT):
-            if entry.old[0] != ABSENT and not entry.is_aside:
-                self.check(entry, self.now(entry), entry.old)
-                self.move(entry, entry.aside)
-            if entry.is_made:
-                with contextlib.ExitStack() as undo:
-                    self.files.put(self.spare, entry.number, entry.path, undo)
-                    undo.pop_all()
-            elif entry.new[0] == ABSENT:
-                self.prune(entry)
-        return self.removed()
+            with named(entry.path, "written"), contextlib.ExitStack() as undo:
+                self.spare.do(entry, undo)
+                undo.pop_all()
+        return self.entries, self.spare.remove()
 
     def undo(self):
-        """Puts back what was there, and returns the entries. Stops if something else is there, and can be called again then."""
+        """Puts back what was there. Stops if something else is there, and can be called again then. Returns the same."""
+        self.check()
         for entry in reversed(self.entries):
-            if entry.new[0] != ABSENT and not entry.is_made:
-                self.take_away(entry)
-            if entry.is_aside:
-                self.give_back(entry)
-            if entry.old[0] == ABSENT:
-                self.prune(entry)
-        return self.removed()
+            with named(entry.path, "written"), contextlib.ExitStack() as undo:
+                self.spare.undo(entry, undo)
+                undo.pop_all()
+        return self.entries, self.spare.remove()
 
-    def now(self, entry):
-        return digest_of(self.files.read(entry.path)[0])
 
-    def check(self, entry, now, wanted):
-        if now != wanted:
-            raise Stop("%s changed since" % shown(entry.path))
+def read_left(plan):
+    """Returns what a plan says, or None twice if a program is at work with it. One that was cut off before its first line is removed."""
+    if not plan.is_left():
+        return None, None
+    first, planned = plan.read()
+    if not first:
+        with contextlib.suppress(OSError):
+            plan.remove()
+    return first, planned
 
-    def take_away(self, entry):
-        """Removes what was put in place, if it is still there."""
-        now = self.now(entry)
-        if now[0] != ABSENT and (entry.is_aside or entry.old[0] == ABSENT):
-            self.check(entry, now, entry.new)
-            self.files.remove(entry.path)
 
-    def give_back(self, entry):
-        self.check(entry, self.now(entry)[0], ABSENT)
-        with contextlib.ExitStack() as undo:
-            folder, last = self.files.beside(entry.path, undo)
-            with folder as folder:
-                os.rename(entry.aside, last, src_dir_fd=self.spare, dst_dir_fd=folder)
-            undo.pop_all()
-
-    def move(self, entry, name):
-        folder, last = self.files.beside(entry.path)
-        with folder as folder:
-            os.rename(last, name, src_dir_fd=folder, dst_dir_fd=self.spare)
-
-    def prune(self, entry):
-        """Removes the folders above a file that are empty now."""
-        with contextlib.ExitStack() as undo, contextlib.suppress(OSError):
-            self.files.prune(entry.path, undo)
-            undo.pop_all()
-
-    def removed(self):
-        """Removes the folder, which is not needed any more. Returns the entries."""
-        empty(self.spare)
-        os.rmdir(self.name, dir_fd=self.files.at)
-        return self.entries
+def spares_left(files, stack, is_at_work):
+    """Yields the spare folders of `files` that plans name, each with what the plan says is to be done. With `is_at_work` also those
+    that a program is at work with. They are closed with `stack`."""
+    kept = stack.enter_context(files.room.found())
+    for plan in plans_of(kept, files.room.path, files.top) if kept is not None else []:
+        stack.callback(plan.close)
+        first, planned = plan.read() if is_at_work else read_left(plan)
+        if first and (first.top, first.inode) == (os.path.realpath(files.top), os.fstat(files.at).st_ino):
+            spare = Spare(files, plan, first, parent_for(first.place, files, kept))
+            stack.callback(spare.close)
+            yield spare, planned
 
 
 @contextlib.contextmanager
-def cut_off(top):
-    """Gives what was left below `top` by a change of files that was cut off, or None if there is nothing. It is locked
-    meanwhile."""
+def cut_off(files):
+    """Gives what was left by a change of `files` that was cut off, or None if there is nothing. It is locked meanwhile. A plan that
+    fits to no spare folder counts for nothing."""
     with contextlib.ExitStack() as stack:
-        yield next((it for it in map(lambda name: opened(top, name, stack), names_in(top)) if it), None)
+        found = None
+        for spare, (inode, entries) in spares_left(files, stack, is_at_work=False):
+            if not found and spare.fits(inode):
+                found = CutOff(spare, [] if spare.plan.is_done() else entries)
+            elif not found and (spare.plan.is_done() or not entries):
+                # it was cut off before its folder was made, or behind the removal of that
+                with contextlib.suppress(OSError):
+                    spare.plan.remove()
+        yield found
 
 
-def names_in(top):
-    return sorted(name for name in os.listdir(top) if NAME.fullmatch(name))
-
-
-def opened(top, name, stack):
-    """Returns what is in a folder of that name, or None if a program is still at work there."""
-    try:
-        spare = os.open(os.path.join(top, name), IS_FOLDER)
-    except (FileNotFoundError, NotADirectoryError):
-        return None
-    stack.callback(os.close, spare)
-    return CutOff(top, name, spare) if lock_open(spare) else None
+def names_within(files):
+    """Returns the names of the spare folders that lie in the folder of `files`, also while a program is at work."""
+    with contextlib.ExitStack() as stack:
+        found = spares_left(files, stack, is_at_work=True)
+        return {spare.first.name for spare, (inode, _) in found if spare.first.place == WITHIN and spare.fits(inode)}

@@ -1,21 +1,22 @@
-"""How a program has the user choose in the front end, says what is wrong, and ends."""
+"""How a program has the user choose in the front end, and keeps the marks."""
 import os
 import shlex
 import signal
-import sys
 import tempfile
 
 from .accepted import Accepted
 from .change import ABSENT, Choice
+from .faults import step
 from .git import run_in_terminal
 from .records import record
-from .signals import SIGNALS, Stopped, ignore, stop_on_signals
-from .waiting import erase
+from .said import program, say, tell
+from .terminal import Kept
 from .words import Stop, shown, words_of
 
 HERE = os.path.dirname(os.path.realpath(__file__))
 # where it lies beside an installed program, and else what builds it
 INSTALLED, BUILDS = os.path.join(HERE, "../../../bin/scm-select"), os.path.join(HERE, "../../tools/select")
+STATUSES = ACCEPTED, GIVEN_UP, FAILED = 0, 1, 2  # a front end that failed has said why
 # keys: made by tools/make-keys
 KEYS = """Keys:
   Down, j                   moves down, to the next item
@@ -50,11 +51,6 @@ SELECT names another front end: a command that takes --changes, a file of change
 man page of scm-select has their form, and says how to choose colours (SELECT_THEME, NO_COLOR) and keys (~/.config/gabrosty/keys)."""
 
 
-def say(text):
-    erase()
-    print("%s: %s" % (os.path.basename(sys.argv[0]), text), file=sys.stderr)
-
-
 def front_end():
     try:
         return shlex.split(os.environ.get("SELECT", "")) or [INSTALLED if os.path.exists(INSTALLED) else BUILDS]
@@ -77,19 +73,38 @@ def ask(changes, folder, task, messages=(), environment=None, settings=()):
     with open(handed, "wb") as file:
         file.writelines(records_of(changes, messages, settings))
     open(accepted, "w").close()
+    more = {"SELECT_TITLE": "%s: %s" % (program(), task), **(environment or {})}
+    return status_in_terminal([*front_end(), "--changes", handed, accepted], {**os.environ, **more}), accepted
+
+
+def status_in_terminal(command, environment):
+    """Runs the front end, and returns its status. If it ends in a way of its own, the terminal is given back as it was, and that is
+    said."""
+    terminal = Kept()
     try:
-        more = {"SELECT_TITLE": "%s: %s" % (os.path.basename(sys.argv[0]), task), **(environment or {})}
-        return run_in_terminal([*front_end(), "--changes", handed, accepted], {**os.environ, **more}), accepted
+        status = run_in_terminal(command, environment)
     except OSError as error:
         raise Stop("the front end cannot be run: " + words_of(error)) from None
+    if status not in STATUSES:
+        terminal.give_back()
+        say("the front end " + words_on(status))
+    return status
 
 
-def choose(changes, folder, given_up, task, messages=(), **more):
-    """Has the user choose as `ask` does. Returns what was accepted. Stops with the words `given_up` if the user gives up."""
-    status, accepted = ask(changes, folder, task, messages, **more)
-    if status:
-        raise Stop(given_up)
-    return Accepted(accepted, changes, len(messages))
+def words_on(status):
+    """Returns how a program has ended: by a signal, if `status` is the negative number of one."""
+    names = {-it: it.name for it in signal.Signals}
+    return "was killed by %s: the marks are lost" % names.get(status, -status) if status < 0 else "ended with status %d" % status
+
+
+def choose(changes, folder, given_up, task, messages=(), failed=None, **more):
+    """Has the user choose as `ask` does. Returns what was accepted. Stops with the words `given_up` if the user gives up, and with
+    `failed`, if that is given, if the front end failed."""
+    with step("choosing"):
+        status, accepted = ask(changes, folder, task, messages, **more)
+        if status:
+            raise Stop(failed or given_up if status == FAILED else given_up)
+        return Accepted(accepted, changes, len(messages))
 
 
 def choices_in(accepted, side, now):
@@ -105,21 +120,24 @@ def choices_in(accepted, side, now):
 
 def keep(accepted, words):
     """Keeps the marks that were accepted in a file, and says where. `words` are the command that takes them up."""
-    handle, kept = tempfile.mkstemp(prefix=words[0] + "-", suffix=".marks")
-    with open(handle, "w", encoding="utf-8") as file:
-        file.write(accepted.kept())
-    say("your marks are kept; to take them up: %s --marks %s" % (" ".join(words), shlex.quote(kept)))
-
-
-def tell(lines, done):
-    """Prints `lines`. Stops with the words `done` if they cannot be written."""
-    erase()
     try:
-        print("".join(line + "\n" for line in lines), end="", flush=True)
+        kept = write_new(accepted.kept(), words[0] + "-", ".marks")
     except OSError as error:
-        # what could not be written is not tried once more at the end
-        os.dup2(os.open(os.devnull, os.O_WRONLY), 1)
-        raise Stop("%s: %s" % (done, error.strerror)) from None
+        say("your marks cannot be kept: " + words_of(error))
+    else:
+        say("your marks are kept; to take them up: %s --marks %s" % (" ".join(words), shlex.quote(kept)))
+
+
+def write_new(text, prefix, suffix):
+    """Writes a text into a new temporary file, and returns its path. If that fails, no file stays."""
+    handle, path = tempfile.mkstemp(prefix=prefix, suffix=suffix)
+    try:
+        with open(handle, "w", encoding="utf-8") as file:
+            file.write(text)
+    except OSError:
+        os.unlink(path)
+        raise
+    return path
 
 
 def keep_lost(git, entries):
@@ -129,24 +147,3 @@ def keep_lost(git, entries):
     names = git.store([data for _, data in lost])
     tell(["kept: %s %s" % (name, shown(path)) for name, (path, _) in zip(names, lost)], "what git kept cannot be named")
     return names
-
-
-def run(work):
-    """Calls `work` with a folder for temporary files, which is removed in the end. Returns the program's status."""
-    if sys.stdout:
-        sys.stdout.reconfigure(errors="backslashreplace")
-    stop_on_signals()
-    try:
-        with tempfile.TemporaryDirectory(prefix=os.path.basename(sys.argv[0]) + "-") as folder:
-            try:
-                return work(folder)
-            finally:
-                # what removes the folder is not cut off
-                ignore(SIGNALS)
-    except (Stop, OSError) as error:
-        say(words_of(error))
-        return 1
-    except Stopped as stopped:
-        number = stopped.args[0]
-        signal.signal(number, signal.SIG_DFL)
-        os.kill(os.getpid(), number)

@@ -10,6 +10,10 @@ from .signals import signals_wait, waiting
 from .words import Stop, printable
 
 
+# how many objects are taken as one file, as git does with what it fetches
+MANY, PACKING = 100, ("index-pack", "--stdin")
+
+
 def run_to_end(command, given=None, **settings):
     """Runs `command` to its end. If a signal ends this program, the command is ended first, so that it can tidy up."""
     they_wait = waiting[-1]
@@ -44,18 +48,28 @@ def run_in_terminal(command, environment, **settings):
 
 
 class Git:
-    """Runs git in the folder `top`, with an environment of its own."""
+    """Runs git in the folder `top`, with an environment of its own. `opened` has folders that are open, by path: git runs in these,
+    whatever their names lead to by then."""
 
     options = ()
     taking = "unpack-objects", "-q"
 
-    def __init__(self, top, environment):
-        self.top, self.environment = top, environment
+    def __init__(self, top, environment, opened=None):
+        self.top, self.environment, self.opened = top, environment, opened or {}
+
+    def inside(self, path):
+        """Returns the settings of a command that runs in the folder `path`."""
+        if path not in self.opened:
+            return {"cwd": path}
+        opened = self.opened[path]
+        by_number = "/proc/self/fd/%d" % opened
+        # where the system names open folders, the process of git begins without a copy of this one's memory
+        return {"cwd": by_number} if os.path.isdir(by_number) else {"preexec_fn": functools.partial(os.fchdir, opened)}
 
     def run(self, *words, given=None, folder=None, **more):
         """Returns git's status, its output and what it said, both as bytes. `more` are variables of the environment."""
         pipes = dict.fromkeys(("stdin", "stdout", "stderr"), subprocess.PIPE)
-        pipes.update(cwd=folder or self.top, env={**self.environment, **more})
+        pipes.update(self.inside(folder or self.top), env={**self.environment, **more})
         try:
             return run_to_end(["git", *self.options, *words], given, **pipes)
         except FileNotFoundError:
@@ -63,7 +77,7 @@ class Git:
 
     def in_terminal(self, *words, **more):
         """Runs git where the user sees it, and may answer. Returns its status."""
-        return run_in_terminal(["git", *self.options, *words], {**self.environment, **more}, cwd=self.top)
+        return run_in_terminal(["git", *self.options, *words], {**self.environment, **more}, **self.inside(self.top))
 
     def git(self, *words, **settings):
         """Returns git's output. Stops with git's reason if it fails."""
@@ -83,7 +97,8 @@ class Git:
             return []
         names = [name_of(data, self.algorithm) for data in contents]
         different = dict(zip(names, contents))
-        self.git(*self.taking, given=pack_of(different.values(), self.algorithm))
+        words = self.taking if len(different) < MANY else PACKING
+        self.git(*words, given=pack_of(different.values(), self.algorithm))
         return names
 
     def named(self, contents):

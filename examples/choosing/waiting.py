@@ -5,15 +5,19 @@ import signal
 import sys
 import time
 
+from .faults import step
+from .words import printable
+
 PATIENCE = 0.2  # seconds
 ERASE = b"\r\x1b[K"
 lines = []  # what is on the terminal now: one line, or none
 
 
 def write(data):
-    """Writes to standard error at once, as a signal's handler has to."""
+    """Writes to standard error at once, as a signal's handler has to. What cannot be written is lost."""
     with contextlib.suppress(OSError):
-        os.write(2, data)
+        while data:
+            data = data[os.write(2, data) :]
 
 
 def erase():
@@ -27,13 +31,21 @@ def erase():
 def waits(words, begun=None):
     """While this block is run, `words` are on the terminal, if the user has waited for that long. `begun` says since when,
     by the clock `time.monotonic`; without it since now."""
-    if not sys.stderr or not sys.stderr.isatty():
-        yield
-        return
+    with step(words.rstrip(" .")):
+        if sys.stderr and sys.stderr.isatty():
+            with shown_later(words, begun):
+                yield
+        else:
+            yield
+
+
+@contextlib.contextmanager
+def shown_later(words, begun):
+    """Shows `words` while this block is run, as `waits` says."""
 
     def show(*_):
         lines.append(words)
-        write(ERASE + words.encode(errors="replace"))
+        write(ERASE + printable(words).encode(errors="replace"))
 
     waited = time.monotonic() - begun if begun else 0
     before = signal.signal(signal.SIGALRM, show)

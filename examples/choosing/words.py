@@ -1,7 +1,18 @@
 """How the programs name what they speak of, and why they stop."""
+import contextlib
 import os
 
 VERSION = "1.1.0"
+# it says that nothing was proved, where that is so
+BUILD = os.path.join(os.path.dirname(os.path.realpath(__file__)), "../unproved")
+
+
+def version_of(name):
+    """Returns what the program `name` says of its version, and in a second line that nothing was proved for its build, if so."""
+    lines = ["%s %s" % (name, VERSION)]
+    with contextlib.suppress(FileNotFoundError), open(BUILD, encoding="utf-8") as file:
+        lines.append(file.read().rstrip("\n"))
+    return "\n".join(lines)
 
 
 class Stop(Exception):
@@ -12,9 +23,20 @@ class HalfDone(Stop):
     """Why a program ends where not all is as it was. Its words say what is done."""
 
 
+def bytes_of(text):
+    """Returns the bytes of a path, or of another text, which may have what no path has."""
+    try:
+        return os.fsencode(text)
+    except UnicodeEncodeError:
+        return text.encode("utf-8", "backslashreplace")
+
+
 def printable(text):
     """Returns a text as it can stand on a screen: bytes that are no UTF-8 and control characters are written out."""
-    text = os.fsencode(text).decode("utf-8", "backslashreplace")
+    if text.isprintable():
+        # most are
+        return text
+    text = bytes_of(text).decode("utf-8", "backslashreplace")
     return "".join(c if c.isprintable() else c.encode("unicode_escape").decode() for c in text)
 
 
@@ -27,8 +49,3 @@ def words_of(error):
     """Returns what an error says, in one line."""
     name, reason = getattr(error, "filename", None), getattr(error, "strerror", None)
     return "%s: %s" % (shown(name), reason) if name else reason or str(error)
-
-
-def ending(error, nothing):
-    """Returns what an error says, and behind it the words `nothing` if all is as it was."""
-    return words_of(error) if isinstance(error, HalfDone) else "%s: %s" % (words_of(error), nothing)

@@ -1,51 +1,79 @@
 """The two sides that are compared, and where what is chosen goes: folders, or files."""
 import functools
 import os
-import re
 import stat
 
 from choosing.change import ABSENT, in_the_way
-from choosing.cut_off import NAME
+from choosing.cut_off import names_within
 from choosing.files import ABSENT_SIDE, Files
+from choosing.folders import MOST_BYTES, TOO_LARGE, below
 from choosing.git import Git
+from choosing.paths import is_own
+from choosing.plans import BESIDE, WITHIN
+from choosing.rooms import UserRoom
 from choosing.words import Stop, shown
 
-# what git and jj keep for themselves in a working tree, and this program while it writes
-OWN = re.compile(r"\.git|\.jj|" + NAME.pattern)
+# what git and jj keep for themselves in a working tree
+OWN = ".git", ".jj"
 # jj puts this file beside those of the commit, for whoever reads the folder
 INSTRUCTIONS = "JJ-INSTRUCTIONS"
 # git difftool --dir-diff sets it. Its folder RIGHT has links to the files of the working tree.
 IS_DIFFTOOL = os.environ.get("GIT_DIFFTOOL_DIRDIFF") == "true"
+# hg sets it for the programs that it calls
+IS_HG = "HG" in os.environ
 # git sets it for what shows a single file. A file of the working tree has a relative path then, and a temporary one an absolute path.
 IS_FOR_ONE_FILE = "GIT_DIFF_PATH_COUNTER" in os.environ
 
 
-def raise_error(error):
-    raise error
+def paths_below(files):
+    """Returns why what lies below a folder is left out, or None, by path. What OWN names is not among it, and a folder is only if it
+    is left out."""
+    spare = names_within(files)
+
+    def reason_against(path, status):
+        if path in spare:
+            return "another call keeps there what it writes"
+        if is_own(path.rpartition("/")[2]):
+            return "git or jj keeps that for itself, on some disks"
+        is_file = stat.S_ISREG(status.st_mode)
+        if not is_file and stat.S_IFMT(status.st_mode) not in (stat.S_IFLNK, stat.S_IFDIR):
+            return "it is neither a file nor a link"
+        return TOO_LARGE if is_file and status.st_size > MOST_BYTES else None
+
+    found = below(files.at, lambda path: path not in spare and not is_own(path.rpartition("/")[2]))
+    found = {path: status for path, status in found.items() if path.rpartition("/")[2] not in OWN}
+    reasons = {path: reason_against(path, status) for path, status in found.items()}
+    return {path: reason for path, reason in reasons.items() if reason or not stat.S_ISDIR(found[path].st_mode)}
 
 
-def paths_below(top):
-    """Returns the paths of all that is no folder below `top`, and whether each is a file or a link. OWN is left out."""
-    found = {}
-    for folder, folders, names in os.walk(top, onerror=raise_error):
-        folders[:] = [name for name in folders if not OWN.fullmatch(name)]
-        links = [name for name in folders if os.path.islink(os.path.join(folder, name))]
-        for name in [name for name in names if not OWN.fullmatch(name)] + links:
-            path = os.path.join(folder, name)
-            mode = os.lstat(path).st_mode
-            found[os.path.relpath(path, top)] = stat.S_ISREG(mode) or stat.S_ISLNK(mode)
-    return found
+def permissions_of_both(first, second):
+    """Returns the permissions that each of two files gives. One of them may be None."""
+    return second if first is None else first if second is None else first & second
 
 
-def compared(options):
-    """Returns the two sides that the options name. Stops if they are not both folders, or both files."""
+def is_folder(options):
+    """Whether folders are compared, and not two files."""
     paths = [path for path in (options.left, options.right, options.output) if path is not None]
-    if options.dir_diff or any(map(os.path.isdir, paths)):
-        for path in paths:
-            if not os.path.isdir(path):
-                raise Stop("%s is no folder" % shown(path))
-        return Folders(options)
-    return TwoFiles(options)
+    return options.dir_diff or any(map(os.path.isdir, paths))
+
+
+def target_of(options):
+    """Returns the files that are changed: those of the folder RIGHT or OUTPUT, or of the folder that such a file lies in."""
+    path = options.output or options.right
+    if is_folder(options):
+        return Files(path, follows=IS_DIFFTOOL and not options.output, room=UserRoom(BESIDE))
+    return Files(os.path.dirname(os.path.realpath(path)), room=UserRoom(WITHIN))
+
+
+def compared(options, target):
+    """Returns the two sides that the options name, and changes the files `target`. Stops if they are not both folders, or both
+    files."""
+    if not is_folder(options):
+        return TwoFiles(options, target)
+    for path in (options.left, options.right, options.output):
+        if path is not None and not os.path.isdir(path):
+            raise Stop("%s is no folder" % shown(path))
+    return Folders(options, target)
 
 
 def git_of_user():
@@ -56,34 +84,36 @@ def git_of_user():
 class Folders:
     """Two folders, LEFT and RIGHT, and the files of RIGHT or of OUTPUT that are changed."""
 
-    def __init__(self, options):
-        self.left, self.right = Files(options.left), Files(options.right, follows=IS_DIFFTOOL)
-        self.target = Files(options.output) if options.output else self.right
+    def __init__(self, options, target):
+        self.left, self.target = Files(options.left, room=target.room), target
+        self.right = Files(options.right, follows=IS_DIFFTOOL, room=target.room) if options.output else target
         self.pairs = {}  # the two sides of each file that differs, by path
+        self.sources = {}  # the permissions that a new file may have, by path
 
     @functools.cached_property
     def there(self):
         """What lies in the folder that is changed, as it was when the program began: see paths_below."""
-        return paths_below(self.target.top)
+        return paths_below(self.target)
 
     @functools.cached_property
     def in_right(self):
-        return self.there if self.target is self.right else paths_below(self.right.top)
+        return self.there if self.target is self.right else paths_below(self.right)
 
     def is_told(self, path):
         """Whether a path is the file of jj, which is no file of the commit: LEFT does not have it."""
         return path == INSTRUCTIONS and self.left.read(path)[0] == ABSENT_SIDE
 
     def differing(self):
-        """Returns the two sides of each file that differs, by path, and the paths that are left out."""
-        found = [*paths_below(self.left.top).items(), *self.in_right.items(), *self.there.items()]
-        left_out = {path for path, is_file in found if not is_file}
+        """Returns the two sides of each file that differs, by path, and why others are left out."""
+        found = [*self.there.items(), *self.in_right.items(), *paths_below(self.left).items()]
+        left_out = {path: reason for path, reason in found if reason}
         self.pairs = {}
-        for path in sorted({path for path, _ in found} - left_out):
-            old, new = (files.read(path)[0] for files in (self.left, self.right))
+        for path in sorted({path for path, _ in found} - left_out.keys()):
+            (old, for_old), (new, for_new) = (files.read(path) for files in (self.left, self.right))
             if old != new and not self.is_told(path):
                 self.pairs[path] = old, new
-        return self.pairs, sorted(left_out)
+                self.sources[path] = permissions_of_both(for_old, for_new)
+        return self.pairs, left_out
 
     def instructions(self):
         """Returns what jj says of the files, or an empty text."""
@@ -99,11 +129,17 @@ class Folders:
         wanted.update((change.path, (mode, data)) for change, mode, data in choices)
         entries = []
         for path in sorted({*self.in_right, *self.there, *wanted}):
-            is_file = self.in_right.get(path, True) and self.there.get(path, True)
-            if is_file and not self.is_told(path):
-                now, side = self.target.read(path)[0], wanted.get(path) or self.right.read(path)[0]
-                entries += [(path, now, side)] if now != side else []
+            is_left_out = self.in_right.get(path) or self.there.get(path)
+            if not is_left_out and not self.is_told(path):
+                entries += self.entry(path, wanted.get(path))
         return entries
+
+    def entry(self, path, wanted):
+        """Returns the entry of a path of OUTPUT, if it is to be changed: to what is `wanted`, or else to what RIGHT has."""
+        now = self.target.read(path)[0]
+        if not wanted:
+            wanted, self.sources[path] = self.right.read(path)
+        return [(path, now, wanted)] if now != wanted else []
 
     def check_fits(self, entries):
         """Stops if a file would have to lie in another one: what one needs the removal of is not chosen."""
@@ -113,6 +149,10 @@ class Folders:
         for path, other in sorted(in_the_way(stays, stays).items()):
             raise Stop("%s and %s cannot both be there, as what is marked asks for" % (shown(path), shown(other)))
 
+    def is_copied_back(self):
+        """Whether hg copies RIGHT back, file by file."""
+        return IS_HG and self.target is self.right
+
     def git_that_keeps(self):
         """Returns the git that keeps what files lose, or None: RIGHT leads to the working tree of git difftool, and else it is a
         copy."""
@@ -120,12 +160,12 @@ class Folders:
 
 
 def file_at(path):
-    """Returns the mode and the bytes of a file. What is no file has to be the device that stands for none."""
+    """Returns the mode and the bytes of a file, and its permissions. What is no file has to be the device for none."""
     if os.path.isfile(path):
         folder, name = os.path.split(os.path.abspath(path))
-        return Files(folder, follows=True).read(name)[0]
+        return Files(folder, follows=True).read(name)
     if os.path.exists(path) and os.path.samefile(path, os.devnull):
-        return ABSENT_SIDE
+        return ABSENT_SIDE, None
     raise Stop("%s is no file" % shown(path))
 
 
@@ -133,9 +173,9 @@ class TwoFiles:
     """Two files, LEFT and RIGHT, and the file RIGHT or OUTPUT that is changed. They differ by what they contain alone: who calls
     makes LEFT for the call, and its mode says nothing."""
 
-    def __init__(self, options):
+    def __init__(self, options, target):
         self.is_of_working_tree = IS_FOR_ONE_FILE and not options.output and not os.path.isabs(options.right)
-        (old_mode, old), (new_mode, new) = file_at(options.left), file_at(options.right)
+        ((old_mode, old), for_old), ((new_mode, new), for_new) = file_at(options.left), file_at(options.right)
         if ABSENT not in (old_mode, new_mode):
             old_mode = new_mode
         self.pair = (old_mode, old), (new_mode, new)
@@ -143,12 +183,12 @@ class TwoFiles:
         changed = options.output or options.right
         if not options.output and new_mode == ABSENT and not options.read_only:
             raise Stop("%s is no file to write to: name one by --output, or show the changes by --read-only" % shown(changed))
-        folder, self.target_name = os.path.split(os.path.realpath(changed))
-        self.target = Files(folder)
-        self.now = self.target.read(self.target_name)[0]
+        self.target, self.target_name = target, os.path.basename(os.path.realpath(changed))
+        self.sources = {self.target_name: permissions_of_both(for_old, for_new)}
+        self.now = target.read(self.target_name)[0]
 
     def differing(self):
-        return ({} if self.pair[0] == self.pair[1] else {self.name: self.pair}), []
+        return ({} if self.pair[0] == self.pair[1] else {self.name: self.pair}), {}
 
     def instructions(self):
         return ""
@@ -159,6 +199,9 @@ class TwoFiles:
 
     def check_fits(self, entries):
         pass
+
+    def is_copied_back(self):
+        return False
 
     def git_that_keeps(self):
         return git_of_user() if self.is_of_working_tree else None

@@ -6,12 +6,12 @@ import sys
 import scm
 
 
-def read(path):
+def read(path: str) -> bytes:
     with open(path, "rb") as file:
         return file.read()
 
 
-def main():
+def main() -> None:
     if len(sys.argv) < 3:
         sys.exit("usage: split.py OLD NEW [WORDS]")
     old, new = map(read, sys.argv[1:3])

@@ -1,9 +1,34 @@
 #!/usr/bin/env python3
-"""try_scm.py: makes a state by calls of scm.py, reads it back by its JSON form, and reads each answer. It ends with status 1 if
-one is otherwise."""
+"""try_scm.py: makes a state by calls of the module scm, reads it back by its JSON form, and reads each answer. It ends with status 1
+if one is otherwise."""
+import errno
+import inspect
 import json
+import os
+import pathlib
+import pty
+import select
+import signal
+import termios
+import threading
 
 import scm
+
+# the sentence of each code
+SENTENCES = {
+    "done": "the call is done",
+    "closed": "the session is closed",
+    "not_now": "the session doesn't wait for this now",
+    "no_word": "the bytes are no word of an event",
+    "not_text": "the bytes are no UTF-8",
+    "bad_state": "the text is no state's JSON form",
+    "not_accepted": "the state passes a limit: of commits, of files, sections and lines together, or of a text's bytes",
+    "too_long": "a text has more than 1,000,000 bytes",
+    "no_memory": "there is not enough memory",
+    "no_item": "the state has no such file, section, line or commit",
+    "no_number": "the number stands for nothing that this call takes",
+    "no_key": "a part of the text is no key with what it does, as ctrl-n=j",
+}
 
 
 def fill(session):
@@ -54,11 +79,22 @@ WANTED = {
 
 
 def refused(call, *arguments):
+    """Returns the code with which a call is refused. Its error has the sentence of the code as its text."""
     try:
         call(*arguments)
     except scm.Error as error:
+        assert str(error) == SENTENCES[error.code], str(error)
         return error.code
     return None
+
+
+def is_no_number(call, *arguments):
+    """Returns whether a call raises ValueError."""
+    try:
+        call(*arguments)
+    except ValueError:
+        return True
+    return False
 
 
 def read_answers(session):
@@ -151,7 +187,131 @@ def log_a_layer():
     assert refused(session.log) == refused(session.logged) == "closed"
 
 
+def check_codes():
+    """Each code has its sentence, also where no call here is refused with it."""
+    assert scm.CODES == list(SENTENCES)
+    for code, name in enumerate(scm.CODES):
+        assert scm.words(code) == str(scm.Error(code)) == SENTENCES[name] and scm.Error(code).code == name
+    assert scm.words(len(scm.CODES)) == "" and is_no_number(scm.words, 1 << 32)
+
+
+def check_numbers():
+    """Numbers that C does not have are refused, and the session is as it was."""
+    with scm.Session() as session:
+        session.add_texts("f", "a\n", "b\n")
+        assert is_no_number(session.begin, 65536, 24) and is_no_number(session.begin, 80, -1)
+        assert session.stage == scm.BUILDING
+        session.begin(80, 24)
+        before, selected = session.text(), session.selected
+        for call in (session.click, session.owner, session.symbol, session.resize):
+            assert is_no_number(call, 65537, 0) and is_no_number(call, 0, 65536) and is_no_number(call, -1, 0)
+        for call in (session.side, session.side_bytes, session.marks, session.message, session.mark):
+            assert is_no_number(call, 1 << 64) and is_no_number(call, -1) and refused(call, 1) == "no_item"
+        assert is_no_number(session.line, 0, 0, 1 << 64) and is_no_number(session.add_mode, 1 << 64)
+        assert (session.text(), session.selected) == (before, selected)
+        assert refused(session.start, scm.Folds.ALL_OPEN, scm.Key(0, 0, 0, 0)) == "not_now"
+        assert is_no_number(session.start, "all_open", scm.Key(0, 1 << 64, 0, 0))
+
+
+def check_values():
+    """The values of the module: enums that are numbers, and keys that are compared, hashed and printed."""
+    assert list(scm.Stage) == list(range(6)) and scm.Stage.EDITING is scm.EDITING == 1
+    assert list(scm.Theme) == [0, 1, 2, 3] and scm.THEMES == "dark light sixteen none".split()
+    assert list(scm.Folds) == [0, 1, 2, 3] and scm.FOLDS == "as_it_is all_folded all_open open_if_it_fits".split()
+    key = scm.Key(0, 2, scm.NO_INDEX, scm.NO_INDEX)
+    assert key == scm.Key(0, 2, scm.NO_INDEX, scm.NO_INDEX) != scm.Key(0, 2, 0, 0) and len({key, scm.Key(*key)}) == 1
+    assert repr(key) == "Key(commit=0, file=2, section=NO_INDEX, line=NO_INDEX)" and eval(repr(key), vars(scm)) == key
+    with scm.Session() as session:
+        assert session and len(session) == 0
+        session.add_texts("f", "", "a\n")
+        session.begin_layer(60, 10)
+        assert isinstance(session.stage, scm.Stage) and isinstance(session.side(0).contents, scm.Contents)
+        assert isinstance(session.mark(0), scm.Mark) and isinstance(session.selected, scm.Key)
+        for theme in (*scm.Theme, *scm.THEMES, 3):
+            session.paint_in(theme)
+        for folds in (*scm.Folds, *scm.FOLDS, 2):
+            session.start(folds)
+        assert is_no_number(session.paint_in, "blue") and is_no_number(session.paint_in, 4) and is_no_number(session.start, "wide")
+    assert session
+
+
+def check_paths():
+    """A path may be one of pathlib. One that is not UTF-8 is handed in byte for byte, and refused."""
+    with scm.Session() as session:
+        session.add_file(pathlib.Path("new", "caf\u00e9"), 0o100644, pathlib.PurePosixPath("old"))
+        session.add_texts(pathlib.Path("g"), "a\n", "b\n", old_path=b"h")
+        session.add_file(os.fsencode("i"), 0o100644)
+        assert refused(session.add_file, pathlib.Path(os.fsdecode(b"caf\xe9")), 0o100644) == "not_text"
+        session.begin(80, 24)
+        session.press("c")
+        files = json.loads(session.text().split("\n")[1])["files"]
+        paths = [(file["old_path"], file["path"]) for file in files]
+        assert paths == [("old", "new/caf\u00e9"), ("h", "g"), (None, "i")], paths
+
+
+def check_docstrings():
+    """All that is public has a docstring."""
+    public = [(name, getattr(scm, name)) for name in scm.__all__]
+    things = [(name, thing) for name, thing in public if inspect.isclass(thing) or inspect.isfunction(thing)]
+    things += [("scm", scm), *inspect.getmembers(scm.Session, lambda it: inspect.isroutine(it) or isinstance(it, property))]
+    own = [(name, thing) for name, thing in things if not name.startswith("__") or name in vars(scm.Session)]
+    assert len(own) > 50 and all(thing.__doc__ for _, thing in own), [name for name, thing in own if not thing.__doc__]
+    assert [int(part) for part in scm.__version__.split(".")][0] == 1
+
+
+class AtTerminal(threading.Thread):
+    """A thread whose session runs at a terminal of its own. `error` is how the run was refused."""
+
+    def __init__(self):
+        super().__init__()
+        self.user, self.program = pty.openpty()
+        self.settings = termios.tcgetattr(self.program)
+        self.shown, self.error, self.end = b"", None, None
+
+    def run(self):
+        with scm.Session() as session:
+            session.begin(80, 24)
+            try:
+                session.run(self.program)
+            except OSError as error:
+                self.error = error.errno
+            self.end = session.end
+
+    def wait_for(self, text):
+        """Waits until the session has shown a text, or the run is over."""
+        while text not in self.shown and (self.is_alive() or select.select([self.user], [], [], 0)[0]):
+            if select.select([self.user], [], [], 0.05)[0]:
+                self.shown += os.read(self.user, 1 << 16)
+
+
+def run_in_threads():
+    """Of two runs at a time the second one is refused, and leaves its terminal alone. No signal is lost."""
+    heard = []
+    before = signal.signal(signal.SIGTERM, lambda *_: heard.append(1))
+    first, second = AtTerminal(), AtTerminal()
+    first.start()
+    first.wait_for(b"\x1b[?1049h")
+    second.start()
+    second.wait_for(b"\x1b[?1049h")
+    os.write(second.user, b"q")  # if it is not refused, it ends
+    second.join()
+    assert (second.error, second.end, second.shown) == (errno.EBUSY, "not_ended", b"")
+    assert termios.tcgetattr(second.program) == second.settings
+    os.write(first.user, b"q")
+    first.join()
+    assert (first.error, first.end) == (None, "cancelled")
+    signal.raise_signal(signal.SIGTERM)
+    assert heard == [1]
+    signal.signal(signal.SIGTERM, before)
+
+
 def main():
+    check_codes()
+    check_numbers()
+    check_values()
+    check_paths()
+    check_docstrings()
+    run_in_threads()
     drive_a_layer()
     log_a_layer()
     with scm.Session() as session:

@@ -1,15 +1,20 @@
 """What git-select does with a choice in commits: commits it, adds it to the last commit, or makes two of that one."""
+import functools
 import os
 
-from choosing.front_end import say
+from choosing.faults import half_done, step
+from choosing.git import reason_in
+from choosing.said import say
 from choosing.signals import status_of
 from choosing.waiting import counted
-from choosing.words import HalfDone, Stop, printable, shown, words_of
+from choosing.words import HalfDone, Stop, shown, words_of
 from sides import changed_between
 from ways import Stage
 
 # the front end takes no longer message
 LONGEST_MESSAGE = 1_000_000
+# how many files that are staged already are named before the choice
+MOST_NAMED = 20
 
 
 def can_be_shown(message):
@@ -17,6 +22,7 @@ def can_be_shown(message):
 
 
 class Commit(Stage):
+    writes = "the commit", "the index"
     done, nothing, no_change = "committed", "nothing was committed", "there is nothing to commit"
     words, does, too_long = ("git-select", "--commit"), "commits what is marked", "git shows it in its editor"
     accepts = "commits"
@@ -25,16 +31,22 @@ class Commit(Stage):
         self.repository.check_no_conflict()
         self.repository.check_identity()
 
+    @functools.cached_property
     def staged(self):
-        """Returns how many files are staged."""
-        return sum(1 for _ in self.repository.staged([], self.repository.top))
+        """The paths of the files that are staged already."""
+        return [path for path, *_ in self.repository.staged([], self.repository.top)]
 
     def empty(self):
-        return self.no_change + " beside what is staged: git commit commits that" if self.staged() else self.no_change
+        return self.no_change + " beside what is staged: git commit commits that" if self.staged else self.no_change
 
-    def task(self):
-        count = self.staged()
-        return self.does + (", with %s staged before" % counted(count, "file") if count else "")
+    def along(self):
+        return ", with %s staged before" % counted(len(self.staged), "file") if self.staged else ""
+
+    def before(self):
+        if not self.staged:
+            return []
+        more = ", and %s more" % counted(len(self.staged) - MOST_NAMED, "file") if self.staged[MOST_NAMED:] else ""
+        return ["staged before, and %s too: %s%s" % (self.done, ", ".join(map(shown, self.staged[:MOST_NAMED])), more)]
 
     def messages(self, kept):
         given = self.options.message
@@ -49,39 +61,56 @@ class Commit(Stage):
         status, path, _ = self.repository.run("config", "--type=path", "--get", "commit.template")
         if status:
             return ""
-        path = os.path.join(self.repository.top, os.fsdecode(path).rstrip("\n"))
-        with open(path, encoding="utf-8", errors="replace") as file:
-            return file.read()
+        path = os.path.join(self.repository.top, os.fsdecode(path).removesuffix("\n"))
+        try:
+            with open(path, encoding="utf-8", errors="replace") as file:
+                return file.read()
+        except OSError as error:
+            raise Stop("the file that commit.template names cannot be read: " + words_of(error)) from None
 
     def environment(self):
         status, editor, _ = self.repository.run("var", "GIT_EDITOR")
         return {} if status else {"VISUAL": os.fsdecode(editor).strip()}
 
     def write(self, choices, scratch, accepted, lock):
-        """Commits the index with `choices`, which the index then has."""
+        """Commits the index with `choices`, which the index then has. What git and the hooks say is noted."""
         self.repository.update(self.stored(self.all_of(choices), self.now), GIT_INDEX_FILE=lock.copy)
         asked, before = self.tree_of(lock), self.repository.last_commit()
-        status = status_of(lambda: self.commit("".join(accepted.messages), lock.copy))
-        self.check_made(status, before, lock)
-        self.keep(asked, lock)
-        return self.reports(choices), False
+        with step("committing"):
+            status = status_of(lambda: self.commit("".join(accepted.messages), lock.copy))
+        with half_done("it is not known whether git has committed (git log shows it), and the index stays as it was"):
+            after = self.repository.last_commit()
+            is_made = self.is_made(status, before, after, {asked, self.tree_of(lock)})
+        if not is_made:
+            moved = "" if after == before else ", and something else moved HEAD to %s" % after[:10]
+            raise Stop("git did not commit" + moved)
+        self.written.append("the commit")
+        with half_done("it is committed, but the index stays as it was (git reset mends that)"):
+            lock.keep()
+        self.written.append("the index")
+        self.note_changes(asked, before, after)
+        return [*self.reports(choices), *self.reports_along(choices)], False
+
+    def reports_along(self, choices):
+        """Returns what to report of files that were staged before, and of which nothing was chosen."""
+        chosen = {choice.change.path for choice in choices}
+        return ["%s: %s, staged before" % (self.done, shown(path)) for path in self.staged if path not in chosen]
 
     def tree_of(self, lock):
         """Returns the name of the tree that a commit of the copied index has."""
         return self.repository.name_by("write-tree", GIT_INDEX_FILE=lock.copy)
 
-    def check_made(self, status, before, lock):
-        """Stops if git made no commit. A hook may have moved HEAD; and git may have been cut off behind the commit."""
-        after = self.repository.last_commit()
+    def is_made(self, status, before, after, trees):
+        """Whether git made a commit, and `after` is HEAD now. A hook may have moved HEAD; and git may have been cut off behind the
+        commit, which then has one of `trees`."""
         # git's status is 1 if it refuses
-        if status == 0 and after != before or status != 1 and self.is_asked_for(after, before, lock):
-            return
-        moved = "" if after == before else ", and something else moved HEAD to %s" % after[:10]
-        raise Stop("git did not commit" + moved)
+        if status in (0, 1) or after == before:
+            return status == 0 and after != before
+        return self.follows(after, before) and self.tree_in(after) in trees
 
-    def is_asked_for(self, commit, before, lock):
-        """Whether a commit has the files and the parent that the new one has."""
-        return bool(commit) and self.parents_for(before) == self.parents_of(commit) and self.has_tree(commit, lock)
+    def follows(self, after, before):
+        """Whether a commit has the parent that the new one has."""
+        return bool(after) and self.parents_for(before) == self.parents_of(after)
 
     def parents_for(self, before):
         """Returns the first parent that the new commit has, or none. `before` is the last commit before it."""
@@ -90,35 +119,30 @@ class Commit(Stage):
     def parents_of(self, commit):
         return self.repository.git("rev-parse", commit + "^@").decode().split()[:1]
 
-    def has_tree(self, commit, lock):
-        return self.repository.name_by("rev-parse", commit + "^{tree}") == self.tree_of(lock)
+    def tree_in(self, commit):
+        return self.repository.name_by("rev-parse", commit + "^{tree}")
 
-    def keep(self, asked, lock):
-        """Has the index be that of the commit. Says so if the commit is not what was asked for: `asked` is the tree that was."""
-        try:
-            made, wanted = self.repository.name_by("rev-parse", "HEAD^{tree}"), self.tree_of(lock)
-            lock.keep()
-        except (Stop, OSError) as error:
-            words = "it is committed, but the index stays as it was (git reset mends that): "
-            raise HalfDone(words + words_of(error)) from None
-        if made != wanted:
+    def note_changes(self, asked, before, after):
+        """Notes what hooks made of the commit. Stops if HEAD is another commit than the new one by now: a hook may also stage more."""
+        with half_done("it is committed"):
+            is_moved, is_other = not self.follows(after, before), self.tree_in(after) != asked
+        if is_moved:
             raise HalfDone("it is committed, but something moved HEAD behind that: git reflog shows the commit")
-        if made != asked:
-            say("a hook changed what is committed: git show")
+        if is_other:
+            self.notes.append("a hook changed what is committed: git show")
 
     def commit(self, message, index):
-        """Commits what `index` has, and returns git's status. What git and the hooks say is shown. Without a message of the user
+        """Commits what `index` has, and returns git's status. What git and the hooks say is noted. Without a message of the user
         git opens its editor."""
         if not message.strip() or message == self.begun:
-            return self.repository.for_hooks().in_terminal("commit", GIT_INDEX_FILE=index)
+            return self.repository.in_terminal("commit", GIT_INDEX_FILE=index)
         # as in git's editor, the comments of a template are no part of the message
         return self.commit_with(index, message, "--file=-", *(["--cleanup=strip"] if self.begun else []))
 
     def commit_with(self, index, message, *words):
         given = {"given": message.encode(), "GIT_INDEX_FILE": index}
-        status, output, said = self.repository.for_hooks().run("commit", *words, **given)
-        for line in os.fsdecode(output + said).splitlines():
-            say("git: " + printable(line))
+        status, output, said = self.repository.run("commit", *words, **given)
+        self.notes += ["git: " + line for line in os.fsdecode(output + said).splitlines()]
         return status
 
 
@@ -137,7 +161,10 @@ class Amend(Commit):
         return "there is nothing to add: git commit --amend changes the message"
 
     def read_message(self):
-        return self.repository.message_of("HEAD") or ""
+        message = self.repository.message_of("HEAD")
+        if message is None:
+            say("the message of the last commit is not UTF-8: it stays as it is, if you write no other one")
+        return message or ""
 
     def parents_for(self, before):
         return self.parents_of(before)
@@ -146,7 +173,7 @@ class Amend(Commit):
         if message == self.begun or not message and not self.begun:
             return self.commit_with(index, "", "--amend", "--no-edit")
         if not message.strip():
-            return self.repository.for_hooks().in_terminal("commit", "--amend", GIT_INDEX_FILE=index)
+            return self.repository.in_terminal("commit", "--amend", GIT_INDEX_FILE=index)
         return self.commit_with(index, message, "--amend", "--file=-")
 
 
@@ -172,9 +199,11 @@ class Fixup(Commit):
 
 
 class Split(Stage):
+    writes = "HEAD",
     done, nothing, no_change = "first", "nothing was split", "there is nothing to split: the last commit changes nothing"
     words, does = ("git-select", "--split"), "makes two commits of the last one: what is marked comes first"
     accepts = "splits the commit"
+    has_new = True
 
     def check(self):
         self.repository.check_identity()
@@ -190,8 +219,8 @@ class Split(Stage):
         """Returns the name of what the last commit changes."""
         return self.parent or self.repository.empty_tree()
 
-    def read(self, scratch):
-        return changed_between(self.repository, self.tree_before(), self.last, self.options.paths, self.start)
+    def read(self, scratch, only=None):
+        return changed_between(self, scratch, self.tree_before(), self.last)
 
     def messages(self, kept):
         begun = self.repository.message_of(self.last)
@@ -217,9 +246,17 @@ class Split(Stage):
         last = self.repository.commit_tree(self.tree, [made], second, *signing, **author)
         if not self.has_files_of(last):
             raise Stop("the second commit would not have the files of the last one")
-        self.repository.git("update-ref", "-m", "split: " + first.strip().split("\n")[0], "HEAD", last, self.last)
+        self.move_head(last, "split: " + first.strip().split("\n")[0])
         words = "split: %s is %s and %s now: git reset --soft %s takes that back"
         return [*self.reports(choices), words % (self.last[:10], made[:10], last[:10], self.last[:10])], False
+
+    def move_head(self, commit, words):
+        """Has HEAD name `commit`. `words` say why, in its log."""
+        status, _, said = self.repository.run("update-ref", "-m", words, "HEAD", commit, self.last)
+        # git may have been cut off behind that
+        if status and self.repository.last_commit() != commit:
+            raise Stop(reason_in(said))
+        self.written.append("HEAD")
 
     def has_files_of(self, commit):
         """Whether a commit has the files of the one that is split."""

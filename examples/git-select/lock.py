@@ -1,72 +1,116 @@
-"""The lock of an index."""
+"""The lock of an index. All is done in the open folder of the index: another folder that has its name by then is not touched."""
 import contextlib
+import errno
 import os
+import re
+import secrets
 import shutil
+import stat
 
-from choosing.files import lock_open
-from choosing.front_end import say
+from choosing.locks import lock_open
+from choosing.said import say
 from choosing.words import Stop, shown, words_of
 
 IS_LOCKED = "%s is there: another git command is at work, or one was cut off"
 IS_LEFT = "%s was left by a git select that was cut off: git select --undo removes it; see git status and git log then"
-# what the lock has in it until the new index is
+# what the lock has in it as long as it is there
 MARK = b"git select\n"
+# what is written beside the index, before it has its place
+BESIDE = "git-select-"
+LEFT = re.compile(re.escape(BESIDE) + "[0-9a-f]{16}")
+# what a disk says that gives a file no second name
+NO_SECOND_NAME = errno.EPERM, errno.EACCES, errno.ENOTSUP, errno.ENOSYS, errno.EMLINK
+
+
+def lock_name(index):
+    """Returns the name of the lock of an index."""
+    return index.name + ".lock"
+
+
+def lock_path(index):
+    """Returns where the lock of an index lies, to be shown."""
+    return os.path.join(index.above, lock_name(index))
 
 
 def mark_of(found):
-    """Returns by what a file is known: not by its name alone, since another one may have that by now."""
-    return found.st_dev, found.st_ino
+    """Returns by what a file is known, or None if there is none: not by its name alone, since another one may have that by now."""
+    return found and (found.st_dev, found.st_ino)
 
 
-def mark_at(path):
-    """Returns the mark of the file at `path`, or None if there is none."""
-    try:
-        return mark_of(os.lstat(path))
-    except FileNotFoundError:
-        return None
+def state_of(found):
+    """Returns by what it is seen that an index is as it was, or None if there is none."""
+    return found and (*mark_of(found), found.st_size, found.st_mtime_ns)
 
 
-def open_left(path):
-    """Opens the lock at `path`, if it was left by a git select that was cut off. Else returns None."""
+def open_left(index):
+    """Opens the lock of an index, if it was left by a git select that was cut off. Else returns None."""
     with contextlib.ExitStack() as stack:
         try:
-            file = stack.enter_context(open(path, "r+b"))
+            file = stack.enter_context(open(index.open(lock_name(index), os.O_RDWR), "r+b"))
+            is_left = file.read(len(MARK) + 1) == MARK
         except OSError:
             return None
         # one that is at work has locked it in this way too
-        is_left = file.read() == MARK and lock_open(file.fileno()) and mark_at(path) == mark_of(os.fstat(file.fileno()))
+        is_left = is_left and lock_open(file.fileno()) and mark_of(index.found(lock_name(index))) == mark_of(os.fstat(file.fileno()))
         if is_left:
             stack.pop_all()
         return file if is_left else None
 
 
+def is_left_at(index):
+    """Whether the lock of an index was left by a git select that was cut off."""
+    left = open_left(index)
+    if left:
+        left.close()
+    return bool(left)
+
+
 def check_free(index):
     """Stops if the lock of an index is there."""
-    path = index + ".lock"
-    if os.path.lexists(path):
-        left = open_left(path)
-        if left:
-            left.close()
-        raise Stop((IS_LEFT if left else IS_LOCKED) % shown(path))
+    if index.found(lock_name(index)):
+        raise Stop((IS_LEFT if is_left_at(index) else IS_LOCKED) % shown(lock_path(index)))
+
+
+class Beside:
+    """A new file in the folder of `index`, open as `file`. It gets its place by a second name, or by a rename."""
+
+    def __init__(self, index):
+        self.index, self.name = index, BESIDE + secrets.token_hex(8)
+        self.file = open(index.open(self.name, os.O_WRONLY | os.O_CREAT | os.O_EXCL), "wb")
+        lock_open(self.file.fileno())
+
+    def link(self, name):
+        """Gives the file the second name `name`, if no file has it."""
+        os.link(self.name, name, src_dir_fd=self.index.folder, dst_dir_fd=self.index.folder, follow_symlinks=False)
+
+    def rename(self, name):
+        os.rename(self.name, name, src_dir_fd=self.index.folder, dst_dir_fd=self.index.folder)
+
+    def remove(self):
+        """Removes the name beside the index, if it is still there. If that fails, it is said, and undoes nothing."""
+        try:
+            os.unlink(self.name, dir_fd=self.index.folder)
+        except FileNotFoundError:
+            pass
+        except OSError as error:
+            say("%s stays: %s" % (shown(os.path.join(self.index.above, self.name)), error.strerror))
 
 
 class Lock:
     """The lock of an index, by git's own file for it, while a block runs. `copy` is a copy of the index. With `takes_left`, a lock
-    that was left by a git select that was cut off is taken over. Signals have to wait while the lock is held."""
+    that was left by a git select that was cut off is taken over. Signals have to wait while the lock is held.
+
+    The lock is never there without its mark, and it has it until the end: so a lock that is left is known whenever this is cut off."""
 
     def __init__(self, index, copy, takes_left=False):
-        self.index, self.copy, self.takes_left, self.path = index, copy, takes_left, index + ".lock"
-        self.is_kept = False
+        self.index, self.copy, self.takes_left = index, copy, takes_left
+        self.name, self.path = lock_name(index), lock_path(index)
 
     def __enter__(self):
         self.take()
         try:
-            self.file.write(MARK)
-            self.file.flush()
-            self.before = self.index_now()
-            if self.before:
-                # git looks again at files that were written just when the index was, by the time of the index
-                shutil.copy2(self.index, self.copy)
+            self.remove_left()
+            self.before = state_of(self.index.copy_to(self.copy))
         except BaseException:
             self.__exit__()
             raise
@@ -74,49 +118,89 @@ class Lock:
 
     def take(self):
         try:
-            self.file = open(self.path, "xb")
+            file = self.new_lock()
         except FileExistsError:
-            self.file = open_left(self.path) if self.takes_left else None
-            if not self.file:
+            file = open_left(self.index) if self.takes_left else None
+            if not file:
                 raise Stop(IS_LOCKED % shown(self.path)) from None
-            self.file.seek(0)
-        lock_open(self.file.fileno())
-        self.mark = mark_of(os.fstat(self.file.fileno()))
+        self.file, self.mark = file, mark_of(os.fstat(file.fileno()))
 
-    def index_now(self):
-        """Returns by what the index is known, or None if there is none."""
-        if not os.path.exists(self.index):
-            return None
-        found = os.stat(self.index)
-        return (*mark_of(found), found.st_size, found.st_mtime_ns)
+    def new_lock(self):
+        """Makes the lock, with its mark, and returns it open."""
+        made = Beside(self.index)
+        try:
+            made.file.write(MARK)
+            made.file.flush()
+            self.give_name(made)
+        except BaseException:
+            made.file.close()
+            raise
+        finally:
+            made.remove()
+        return made.file
+
+    def give_name(self, made):
+        """Gives a new file the name of the lock, if no file has it. A disk without second names has one that is empty before that."""
+        try:
+            made.link(self.name)
+        except OSError as error:
+            if error.errno not in NO_SECOND_NAME:
+                raise
+            self.give_name_by_rename(made)
+
+    def give_name_by_rename(self, made):
+        os.close(self.index.open(self.name, os.O_WRONLY | os.O_CREAT | os.O_EXCL))
+        try:
+            made.rename(self.name)
+        except OSError:
+            os.unlink(self.name, dir_fd=self.index.folder)
+            raise
+
+    def remove_left(self):
+        """Removes what other calls left beside the index that were cut off. None of them is at work."""
+        for name in os.listdir(self.index.folder):
+            if LEFT.fullmatch(name):
+                self.remove_unlocked(name)
+
+    def remove_unlocked(self, name):
+        """Removes a file of this user's, unless a program that is at work has it."""
+        with contextlib.suppress(OSError), open(self.index.open(name, os.O_RDONLY), "rb") as file:
+            found = os.fstat(file.fileno())
+            if stat.S_ISREG(found.st_mode) and found.st_uid == os.geteuid() and lock_open(file.fileno()):
+                os.unlink(name, dir_fd=self.index.folder)
 
     def keep(self):
         """Has the copy take the place of the index."""
-        if mark_at(self.path) != self.mark:
+        if mark_of(self.index.found(self.name)) != self.mark:
             self.take_again()
-        self.file.seek(0)
-        self.file.truncate()
-        with open(self.copy, "rb") as new:
-            shutil.copyfileobj(new, self.file)
-        self.file.close()
-        shutil.copystat(self.copy, self.path)
-        if os.path.exists(self.index):
-            shutil.copymode(self.index, self.path)
-        os.rename(self.path, self.index)
-        self.is_kept = True
+        made = Beside(self.index)
+        try:
+            with made.file, open(self.copy, "rb") as new:
+                shutil.copyfileobj(new, made.file)
+                self.make_alike(made.file, os.fstat(new.fileno()))
+            made.rename(self.index.name)
+        finally:
+            made.remove()
+
+    def make_alike(self, file, copied):
+        """Gives the new index the permissions of the one that is there, and the time of the copy, of which fstat says `copied`."""
+        file.flush()
+        before = self.index.found(self.index.name) or copied
+        os.fchmod(file.fileno(), before.st_mode & 0o777)
+        os.utime(file.fileno(), ns=(copied.st_atime_ns, copied.st_mtime_ns))
 
     def take_again(self):
         """Takes the lock that someone removed. Stops if the index is another one by now."""
         self.file.close()
         self.take()
-        if self.index_now() != self.before:
-            raise Stop("%s was removed, and %s was written meanwhile" % (shown(self.path), shown(self.index)))
+        if state_of(self.index.found(self.index.name)) != self.before:
+            raise Stop("%s was removed, and %s was written meanwhile" % (shown(self.path), shown(self.index.path)))
 
     def __exit__(self, *_):
         try:
             # a lock that was removed may be another's by now
-            if not self.is_kept and mark_at(self.path) == self.mark:
-                os.unlink(self.path)
+            if mark_of(self.index.found(self.name)) == self.mark:
+                os.unlink(self.name, dir_fd=self.index.folder)
         except OSError as error:
             say("%s stays: %s" % (shown(self.path), words_of(error)))
         # what could not be written is not tried once more

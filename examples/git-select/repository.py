@@ -1,15 +1,22 @@
 """Git, as git-select asks it: what may differ between the last commit, the index and the working tree."""
+import functools
 import os
 import stat
 
 from choosing.change import ABSENT, Side
+from choosing.files import Files
 from choosing.git import Git, reason_in, split_by_zeros
+from choosing.plans import KEPT
+from choosing.rooms import NAME, Room
 from choosing.waiting import counted
 from choosing.words import Stop, printable, shown
-
-
+from index import Index
 
 NO_FILE = "it is neither a file nor a link"
+# what git takes for no in a setting
+FALSE = "false", "no", "off", "0", ""
+SETTINGS = r"^(core\.(filemode|safecrlf)|status\.showuntrackedfiles)$"
+IS_ANOTHER = "%s is another folder by now"
 
 
 def index_lines(entries):
@@ -27,41 +34,90 @@ def differing_in(output):
         yield path, old, new, letter
 
 
+def places(git, *questions):
+    """Returns the path that `git rev-parse` answers to each question."""
+    lines = os.fsdecode(git.git("rev-parse", *(word for words in questions for word in words))).split("\n")[:-1]
+    if len(lines) != len(questions):
+        # a path has a line end, so each is asked for alone
+        lines = [os.fsdecode(git.git("rev-parse", *words)).removesuffix("\n") for words in questions]
+    return [os.path.join(git.top, line) for line in lines]
+
+
+def open_folder(path):
+    return os.open(path, os.O_RDONLY | os.O_DIRECTORY | os.O_CLOEXEC)
+
+
+def is_opened_at(path, opened):
+    """Whether `path` leads to a folder that is open."""
+    try:
+        return os.path.samestat(os.stat(path), os.fstat(opened))
+    except OSError:
+        return False
+
+
 class Repository(Git):
-    """The repository that the folder `start` lies in."""
+    """The repository that the folder `start` lies in. Git runs in folders that stay open, and finds the repository anew each time,
+    so that it looks each time whether their owner is one whom the user trusts."""
 
     def __init__(self, start):
         # this variable would change how many lines of context git writes around a difference
         environment = {name: value for name, value in os.environ.items() if name != "GIT_DIFF_OPTS"}
-        self.is_named = not {"GIT_DIR", "GIT_WORK_TREE"}.isdisjoint(environment)
-        super().__init__(start, environment)
-        top, folder, self.index, self.objects = self.places(
-            ["--show-toplevel"], ["--absolute-git-dir"], ["--git-path", "index"], ["--git-path", "objects"]
+        self.begun = Git(start, environment, {start: open_folder(start)})
+        top, self.own, self.common, index, self.objects, kept = places(
+            self.begun, ["--show-toplevel"], ["--absolute-git-dir"], ["--git-common-dir"], ["--git-path", "index"],
+            ["--git-path", "objects"], ["--git-path", NAME],
         )
-        environment.update(GIT_DIR=folder, GIT_WORK_TREE=top)
+        super().__init__(top, environment, self.begun.opened)
+        for path in top, self.own, self.common:
+            self.open(path)
+        self.room = Room(kept, KEPT, is_removed=True)
         # git writes what a link in the index's place leads to
-        self.top, self.index = top, os.path.realpath(self.index)
+        self.index = Index(os.path.realpath(index), self.open(os.path.dirname(os.path.realpath(index))))
+        if not self.is_found():
+            self.environment = {**environment, "GIT_DIR": self.own, "GIT_WORK_TREE": top}
 
-    def places(self, *questions):
-        """Returns the path that `git rev-parse` answers to each question."""
-        lines = os.fsdecode(self.git("rev-parse", *(word for words in questions for word in words))).split("\n")[:-1]
-        if len(lines) != len(questions):
-            # a path has a line end, so each is asked for alone
-            lines = [os.fsdecode(self.git("rev-parse", *words)).removesuffix("\n") for words in questions]
-        return [os.path.join(self.top, line) for line in lines]
+    def open(self, path):
+        """Has git run in the folder that `path` leads to at this moment. Returns the folder, which stays open."""
+        if path not in self.opened:
+            self.opened[path] = open_folder(path)
+        return self.opened[path]
 
-    def for_hooks(self):
-        """Returns git as the user would call it in the top folder, if it finds the repository there. What hooks call does not
-        keep to this repository then."""
-        names = "GIT_DIR", "GIT_WORK_TREE"
-        git = Git(self.top, {name: value for name, value in self.environment.items() if name not in names})
-        _, found, _ = git.run("rev-parse", "--absolute-git-dir")
-        is_found = os.fsdecode(found).removesuffix("\n") == self.environment["GIT_DIR"]
-        return git if is_found and not self.is_named else self
+    def files(self):
+        """Returns the files of the working tree. Plans of their changes are kept in the git directory."""
+        return Files(self.top, room=self.room)
+
+    def path_to(self, path):
+        """Returns a path to a folder that is open, by which it is found whatever its name leads to, where the system has one."""
+        by_number = "/proc/%d/fd/%d" % (os.getpid(), self.opened[path])
+        return by_number if os.path.isdir(by_number) else path
+
+    def is_found(self):
+        """Whether git finds the repository in its top folder, without variables that name it."""
+        is_named = not {"GIT_DIR", "GIT_WORK_TREE"}.isdisjoint(self.environment)
+        return not is_named and os.fsdecode(self.run("rev-parse", "--absolute-git-dir")[1]) == self.own + "\n"
+
+    def check_same(self):
+        """Stops if git finds another repository by now, or does not trust the owner of this one."""
+        top, own, index = places(self.begun, ["--show-toplevel"], ["--absolute-git-dir"], ["--git-path", "index"])
+        found = top, own, os.path.dirname(os.path.realpath(index))
+        for path, now in zip((self.top, self.own, self.index.above), found):
+            if not all(is_opened_at(name, self.opened[path]) for name in {path, now}):
+                raise Stop(IS_ANOTHER % shown(path))
+
+    def check_is_top(self, opened):
+        """Stops if a folder that is open is not the top folder."""
+        if not os.path.samestat(os.fstat(opened), os.fstat(self.opened[self.top])):
+            raise Stop(IS_ANOTHER % shown(self.top))
+
+    @functools.cached_property
+    def settings(self):
+        """What the user has set of SETTINGS, in small letters, by the names. One without a value is `true`."""
+        found = (line.partition("\n") for line in split_by_zeros(self.run("config", "-z", "--get-regexp", SETTINGS)[1]))
+        return {name: value.lower() if middle else "true" for name, middle, value in found}
 
     def check_writable(self):
         """Stops if it can be seen already that nothing could be written."""
-        for folder in (os.path.dirname(self.index), self.objects):
+        for folder in (self.index.above, self.objects):
             if not os.access(folder, os.W_OK):
                 raise Stop("%s cannot be written to" % shown(folder))
 
@@ -143,6 +199,11 @@ class Repository(Git):
         except UnicodeDecodeError:
             return None
 
+    def subject_of(self, commit):
+        """Returns the short name of a commit and the first line of its message."""
+        words = "--no-show-signature", "--encoding=UTF-8", "--format=%h %s"
+        return os.fsdecode(self.git("log", "-1", *words, commit, "--")).strip()
+
     def author_of(self, commit):
         """Returns the variables by which a new commit has the author of `commit`."""
         words = "--no-show-signature", "--encoding=UTF-8", "--format=%an%x00%ae%x00@%ad", "--date=raw"
@@ -153,7 +214,7 @@ class Repository(Git):
         """Stores a commit. Returns its name. `author` is what author_of returns, or nothing."""
         words = [*words, *(word for parent in parents for word in ("-p", parent)), "-F", "-"]
         settings = "-c", "i18n.commitEncoding=UTF-8"
-        return self.name_by(*settings, "commit-tree", *words, tree, given=message.encode(), **author)
+        return self.name_by(*settings, "commit-tree", *words, tree, given=os.fsencode(message), **author)
 
     def signing(self):
         """Returns the words by which a commit is signed, if the user has set that."""
@@ -167,17 +228,27 @@ class Repository(Git):
         self.update(entries, **index)
         return self.name_by("write-tree", **index)
 
-    def store_stash(self, entries, message, folder):
-        """Stores a stash: the last commit with these entries (see `update`). Returns its name."""
+    def store_stash(self, entries, message, folder, index):
+        """Stores a stash of these entries (see `update`), and returns its name. What they change is counted from the last commit, or
+        from all that `index` has, if one of them is staged already."""
         last, branch = self.last_commit(), self.run("symbolic-ref", "--quiet", "--short", "HEAD")[1]
         branch = os.fsdecode(branch).strip() or "(no branch)"
-        subject = "%s: %s" % (branch, os.fsdecode(self.git("log", "-1", "--no-show-signature", "--format=%h %s", last)).strip())
-        words = "On %s: %s" % (branch, message) if message else "WIP on " + subject
-        tree = self.tree_with(last, entries, folder)
-        base = self.commit_tree(last + "^{tree}", [last], "index on " + subject)
-        stash = self.commit_tree(tree, [last, base], words)
+        subject = "%s: %s" % (branch, self.subject_of(last))
+        words, begun = "On %s: %s" % (branch, message) if message else "WIP on " + subject, "index on " + subject
+        base = last if self.is_unstaged(entries) else self.commit_tree(self.tree_of(index), [last], begun)
+        tree = self.tree_with(base, entries, folder)
+        stash = self.commit_tree(tree, [base, self.commit_tree(base + "^{tree}", [base], begun)], words)
         self.git("stash", "store", "--quiet", "-m", words, stash)
         return stash
+
+    def is_unstaged(self, entries):
+        """Whether the index has the paths of these entries as the last commit does."""
+        staged = {path for path, *_ in self.staged([], self.top)}
+        return staged.isdisjoint(path for path, _ in entries)
+
+    def tree_of(self, index):
+        """Stores the tree that a commit of an index has. Returns its name."""
+        return self.name_by("write-tree", GIT_INDEX_FILE=index)
 
     def drop_stash(self, stash):
         """Takes a stash back, if it is the last one."""

@@ -1,10 +1,10 @@
-"""What git-select does with a choice in the working tree: takes it back, or stashes it."""
-from choosing.change import ABSENT, LINK, Side
+"""What git-select does with a choice in the working tree: takes it back."""
+from choosing.change import ABSENT, LINK, Side, Unread
 from choosing.files import Files
-from choosing.front_end import choices_in, keep_lost
+from choosing.front_end import keep_lost
 from choosing.signals import signals_wait
 from choosing.waiting import counted, waits
-from choosing.words import HalfDone, Stop, shown
+from choosing.words import Stop, shown
 from sides import changed_in_tree
 from ways import Way
 
@@ -21,16 +21,18 @@ def wanted_of(choice, now, made):
 
 
 class Restore(Way):
+    writes = "the files",
     done, nothing, no_change = "restored", "nothing was restored", "there is nothing to restore"
     words, does = ("git-select", "--restore"), "takes back what is marked"
     accepts = "restores"
     side, now, goal = "unselected", "new", "old"
 
-    def read(self, scratch):
-        return changed_in_tree(self.repository, scratch, self.options.paths, self.start, has_untracked=False)
+    def read(self, scratch, only=None):
+        return changed_in_tree(self, scratch, only, is_new_shown=False)
 
     def prepare(self, choices, accepted):
-        self.files = Files(self.repository.top)
+        self.files = self.repository.files()
+        self.repository.check_is_top(self.files.at)
         self.files_now = {choice.change.path: self.files.read(choice.change.path)[0] for choice in choices}
 
     def write(self, choices, scratch, accepted, lock):
@@ -38,14 +40,15 @@ class Restore(Way):
         named."""
         entries = self.entries(choices, scratch)
         names = keep_lost(self.repository, entries)
-        self.files.change(entries)
+        self.notes += self.files.change(entries)
+        self.written.append("the files")
         reports = self.reports(entries)
         if names:
             reports.append("to have a file as it was before: git cat-file blob %s > FILE" % names[0])
         return reports, False
 
     def reports(self, entries):
-        return ["%s: %s" % (self.done, shown(path)) for path, _, _ in entries]
+        return self.lines([path for path, _, _ in entries])
 
     def entries(self, choices, scratch):
         """Returns the paths of the working tree, each with the mode and bytes that are there and those that are to be."""
@@ -66,33 +69,9 @@ class Restore(Way):
         """Stops if git would not write the lines that stay of a file as they are."""
         parts = [it.change for it in choices if (it.mode, it.data) != (it.change.old.mode, it.change.old_data)]
         parts = [change for change in parts if change.new.mode not in NOT_REGULAR]
+        scratch.store([change.new_data for change in parts if not isinstance(change.new_data, Unread)])
         made = Files(scratch.checked_out([(change.path, change.new) for change in parts], self.folder))
         for path in (change.path for change in parts):
             if made.read(path)[0][1] != now[path][1]:
                 reason = "a filter or line ends would change its other lines: take back all of it, or nothing"
                 raise Stop("%s is not %s: %s" % (shown(path), self.done, reason))
-
-
-class Stash(Restore):
-    done, nothing, no_change = "stashed", "nothing was stashed", "there is nothing to stash"
-    words, does = ("git-select", "--stash"), "stashes what is marked"
-    accepts = "stashes"
-
-    def check(self):
-        self.repository.check_no_conflict()
-        self.repository.check_identity()
-        self.repository.check_last_commit()
-
-    def write(self, choices, scratch, accepted, lock):
-        """Takes files of the working tree back, as Restore does, once git has what is marked as a stash."""
-        entries = self.entries(choices, scratch)
-        stashed = self.stored(choices_in(accepted, "selected", "old"), "old")
-        stash = self.repository.store_stash(stashed, self.options.message, self.folder)
-        try:
-            self.files.change(entries)
-        except HalfDone:
-            raise
-        except BaseException:
-            self.repository.drop_stash(stash)
-            raise
-        return [*self.reports(entries), "git stash pop has it back"], False

@@ -2,11 +2,10 @@
 import functools
 import os
 import re
-import shutil
 import tempfile
 
-from choosing.change import ABSENT, Side
-from choosing.git import Git, reason_in, split_by_zeros
+from choosing.change import ABSENT, Side, Unread
+from choosing.git import PACKING, Git, reason_in, split_by_zeros
 from choosing.words import Stop
 from repository import index_lines
 
@@ -22,28 +21,34 @@ class Scratch(Git):
 
     # an index in two parts would leave one of them beside the repository's index
     options = "-c", "core.splitIndex=false", *FOR_NOW
-    # many objects are taken as one file
-    taking = "index-pack", "--stdin"
+    taking = PACKING
 
     def __init__(self, repository, folder):
         self.folder = folder
         index, objects = os.path.join(folder, "index"), os.path.join(folder, "objects")
         os.makedirs(objects)
-        if os.path.exists(repository.index):
-            # the copy keeps the file's time: git looks again at files that were written just when the index was
-            shutil.copy2(repository.index, index)
+        repository.index.copy_to(index)
         others = '"%s"' % repository.objects.replace("\\", "\\\\").replace('"', '\\"')
         more = repository.environment.get("GIT_ALTERNATE_OBJECT_DIRECTORIES")
+        self.repository, self.known = repository, {}  # contents that were read already, by the names of objects
         super().__init__(repository.top, {
             **repository.environment, "GIT_INDEX_FILE": index, "GIT_OBJECT_DIRECTORY": objects,
             "GIT_ALTERNATE_OBJECT_DIRECTORIES": others + os.pathsep + more if more else others,
-        })
+        }, repository.opened)
 
     @functools.cached_property
     def one_file(self):
         """The words by which git stores all that it adds in one file: quicker than in many. Before 2.38 there were none."""
         version = [int(number) for number in re.findall(rb"\d+", self.git("version"))[:2]]
         return ("-c", "core.bigFileThreshold=1") if version >= [2, 38] else ()
+
+    @property
+    def algorithm(self):
+        return self.repository.algorithm
+
+    def setting(self, name):
+        """Returns what the user has set, or None."""
+        return self.repository.settings.get(name)
 
     def add(self, paths):
         """Adds files to the index as `git add` does. Returns, by path, what git said of those that it cannot add."""
@@ -68,24 +73,48 @@ class Scratch(Git):
     def renames(self, sides):
         """Returns the old paths of files that have another one by now, by the new ones, as git finds them. `sides` has the sides of
         each file that differs, by path. None is found if the user has set that."""
-        gone, come = ([(path, pair[side]) for path, pair in sides.items() if pair[1 - side].mode == ABSENT] for side in (0, 1))
+        gone, come = ([(path, pair[side]) for path, pair in sides.items() if pair[1 - side].mode == ABSENT and self.is_read(pair[side])]
+                      for side in (0, 1))
         if not gone or not come or self.run("config", "--type=bool", "--get", "diff.renames")[1].strip() == b"false":
             return {}
-        words = "-r", "-z", "-M", "-l%d" % MOST_COMPARED, "--diff-filter=R"
+        # what is no more than renamed is found by its name
+        are_compared = len(gone) * len(come) <= MOST_COMPARED ** 2
+        self.store([self.known[side.name] for _, side in come if side.name in self.known] if are_compared else [])
+        words = "-r", "-z", "-M" if are_compared else "-M100%", "-l%d" % MOST_COMPARED, "--diff-filter=R"
         parts = split_by_zeros(self.git("diff-tree", *words, self.tree(gone), self.tree(come)))
         return dict(zip(parts[2::3], parts[1::3]))
+
+    def leave_unread(self, sizes):
+        """Has objects not be read. `sizes` has their sizes, by name."""
+        self.known.update((name, Unread(name.encode(), size)) for name, size in sizes.items())
+
+    def is_read(self, side):
+        """Whether the contents of a side are not left unread."""
+        return not isinstance(self.known.get(side.name), Unread)
 
     def tree(self, entries):
         """Stores a tree of paths with their sides. Returns its name."""
         with tempfile.TemporaryDirectory(dir=self.folder) as folder:
             index = {"GIT_INDEX_FILE": os.path.join(folder, "index")}
             self.git("update-index", "-z", "--index-info", given=index_lines(entries), **index)
-            return self.git("write-tree", **index).decode().strip()
+            return self.git("write-tree", "--missing-ok", **index).decode().strip()
+
+    def sizes(self, names):
+        """Returns how many bytes objects have, by name."""
+        given = "".join(name + "\n" for name in set(names)).encode()
+        lines = self.git("cat-file", "--batch-check", "--buffer", given=given).decode().splitlines() if given else []
+        found = (line.split() for line in lines)
+        return {name: int(size) for name, _, size in found if size.isdigit()}
 
     def contents(self, names):
         """Returns the bytes of objects, by name."""
-        names = sorted(set(names))
-        output = self.git("cat-file", "--batch", "--buffer", given="".join(name + "\n" for name in names).encode())
+        names = set(names)
+        read = {name: self.known[name] for name in names & self.known.keys()}
+        return {**read, **self.stored_contents(sorted(names - read.keys()))}
+
+    def stored_contents(self, names):
+        """Returns the bytes of objects that git has, by name."""
+        output = self.git("cat-file", "--batch", "--buffer", given="".join(name + "\n" for name in names).encode()) if names else b""
         found, place = {}, 0
         for name in names:
             end = output.index(b"\n", place)

@@ -1,7 +1,10 @@
 """Which files differ, each with its two sides: between the index and the working tree, or the last commit and the index."""
 from choosing.change import ABSENT, SUBMODULE, Change, Renamed, Side
 from choosing.words import shown
+from look import Look, beyond
 from repository import NO_FILE
+
+GONE = Side(ABSENT, None)
 
 
 def reason_in_index(modes, letter):
@@ -12,11 +15,11 @@ def reason_in_index(modes, letter):
 
 
 def candidates(repository, paths, start, has_untracked):
-    """Returns what may differ from the index: by path, its side there and whether it is gone now. Returns too, by path,
-    why others are left out, and what git said of folders that it cannot read."""
+    """Returns what may differ from the index: by path, its side there and its mode now, or None if git does not know the file. Returns
+    too, by path, why others are left out, and what git said of folders that it cannot read."""
     found, left_out, said = {}, {}, []
     for path, side, mode, letter in repository.tracked(paths, start):
-        found[path] = side, mode == ABSENT
+        found[path] = side, mode
         reason = reason_in_index((side.mode, mode), letter)
         if side.mode == ABSENT and letter != "U" and not has_untracked:
             reason = "the index has no contents of it"
@@ -26,42 +29,42 @@ def candidates(repository, paths, start, has_untracked):
     if has_untracked:
         untracked, said = repository.untracked(paths, start)
         for path in untracked:
-            found[path] = Side(ABSENT, None), False
+            found[path] = Side(ABSENT, None), None
             if path.endswith("/"):
                 left_out[path] = "it is a repository of its own"
     left_out.update((path, NO_FILE) for path in repository.no_files(paths, start))
     return found, left_out, said
 
 
-def changed_in_tree(repository, scratch, paths, start, has_untracked=True):
-    """Returns the sides of each file that differs between the index and the working tree, by path, and notes on what is
-    left out. `paths`, seen from the folder `start`, limit it."""
-    found, left_out, notes = candidates(repository, paths, start, has_untracked)
-    there = sorted(path for path, (_, is_gone) in found.items() if not is_gone and path not in left_out)
-    reasons = {path: repository.reason_against(path) for path in there}
-    left_out.update((path, reason) for path, reason in reasons.items() if reason)
-    left_out.update(scratch.add([path for path in there if path not in left_out]))
-    now = scratch.sides(there)
-    sides = {}
-    for path in sorted(found.keys() - left_out.keys()):
-        old, is_gone = found[path]
-        new = Side(ABSENT, None) if is_gone else now.get(path, old)
-        if old != new:
-            sides[path] = old, new
-    return sides, [*notes, *notes_on(left_out)]
+def changed_in_tree(way, scratch, only=None, is_new_shown=True):
+    """Returns the sides of each file that differs between the index and the working tree, by path, and notes on what is left out. With
+    `only`, a set of paths, others are passed over."""
+    has_untracked = is_new_shown and way.shows_untracked()
+    found, left_out, notes = candidates(way.repository, way.options.paths, way.start, has_untracked)
+    found = {path: found[path] for path in sorted(found.keys() - left_out.keys()) if only is None or path in only}
+    sizes = scratch.sizes(side.name for side, _ in found.values() if side.name)
+    old_sizes = {path: sizes.get(side.name, 0) for path, (side, _) in found.items() if side.name}
+    modes = {path: mode for path, (_, mode) in found.items() if mode != ABSENT}
+    new = Look(scratch, modes, old_sizes, way.unread, way.most_read()).found()
+    left_out.update(new.left_out)
+    way.unread = new.unread
+    scratch.known.update(new.contents)
+    scratch.leave_unread({found[path][0].name: old_sizes[path] for path in new.unread if path in old_sizes})
+    sides = {path: (found[path][0], new.sides.get(path, GONE)) for path in found if path not in left_out}
+    return {path: pair for path, pair in sides.items() if pair[0] != pair[1]}, [*notes, *notes_on(left_out)]
 
 
-def changed_in_index(repository, paths, start):
+def changed_in_index(way, scratch):
     """Returns the same of each file that differs between the last commit and the index."""
-    return without_left_out(repository.staged(paths, start))
+    return without_left_out(way, scratch, way.repository.staged(way.options.paths, way.start))
 
 
-def changed_between(repository, old, new, paths, start):
+def changed_between(way, scratch, old, new):
     """Returns the same of each file that differs between two commits."""
-    return without_left_out(repository.between(old, new, paths, start))
+    return without_left_out(way, scratch, way.repository.between(old, new, way.options.paths, way.start))
 
 
-def without_left_out(differing):
+def without_left_out(way, scratch, differing):
     """Returns the sides of files that differ, by path, and notes on what is left out. `differing` has what git says of them."""
     sides, left_out = {}, {}
     for path, old, new, letter in differing:
@@ -69,7 +72,18 @@ def without_left_out(differing):
         if reason:
             left_out[path] = reason
         sides[path] = old, new
-    return {path: pair for path, pair in sides.items() if path not in left_out}, notes_on(left_out)
+    sides = {path: pair for path, pair in sides.items() if path not in left_out}
+    if way.unread is None:
+        leave_largest(way, scratch, sides)
+    return sides, notes_on(left_out)
+
+
+def leave_largest(way, scratch, sides):
+    """Has the largest files not be read, where all together are too much."""
+    sizes = scratch.sizes(side.name for pair in sides.values() for side in pair if side.name)
+    way.unread = beyond({path: sum(sizes.get(side.name, 0) for side in pair) for path, pair in sides.items()}, way.most_read())
+    names = [side.name for path in way.unread for side in sides[path] if side.name in sizes]
+    scratch.leave_unread({name: sizes[name] for name in names})
 
 
 def notes_on(left_out):

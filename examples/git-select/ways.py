@@ -1,30 +1,45 @@
 """What git-select does with a choice in the index: stages it, or takes it out."""
 import os
 
-from choosing.change import ABSENT, Side, in_the_way
-from choosing.front_end import say
+from choosing.change import ABSENT, Renamed, Side, Unread
+from choosing.refusals import Row, refusals
 from choosing.waiting import counted, waits
 from choosing.words import Stop, shown
 from lock import Lock
+from look import MOST_READ
+from repository import FALSE
 from sides import changed_in_index, changed_in_tree
 
 
-def paths_in_the_way(there, choices, now):
-    """Returns, by path of a chosen file that comes beside those that are `there`, a path whose removal from there it needs, but
-    which is not chosen. `now` says which side of a change is there."""
-    added = {change.path for change, mode, _ in choices if getattr(change, now).mode == ABSENT and mode != ABSENT}
-    gone = {change.path for change, mode, _ in choices if mode == ABSENT}
-    return in_the_way(set(there()) - gone, added) if added else {}
+# how many files are named when something is done
+MOST_NAMED = 20
+
+
+def file_of(change):
+    """Returns the change as it is shown: both paths of a renamed file are one."""
+    return change.whole or change
+
+
+def name_of(change):
+    """Returns what a change is called in a message."""
+    return "%s => %s" % (shown(change.gone.path), shown(change.path)) if isinstance(change, Renamed) else shown(change.path)
 
 
 class Way:
     """A way to use a choice. `side` is the side of a change that is put in place, `now` the one that is there, and `goal`
-    the one that is there once everything is marked."""
+    the one that is there once everything is marked. `writes` has what is written, in this order: docs/WRITES.md says what that is.
+    Nothing is said from the first of these to the last."""
 
     side, now, goal = "selected", "old", "new"
+    writes = "the index",
+    # whether the repository has the new versions, and not the working tree
+    has_new = False
+    # the paths of the files that are not read, once these are known
+    unread = None
 
     def __init__(self, repository, options, start, folder):
         self.repository, self.options, self.start, self.folder = repository, options, start, folder
+        self.notes, self.written = [], []  # what is said once all is written, and which of `writes` are
 
     def check(self):
         """Stops if it can be seen already that the choice could not be used."""
@@ -39,7 +54,15 @@ class Way:
 
     def task(self):
         """Returns what the key `c` does, for the title."""
-        return self.does
+        return self.does + self.along()
+
+    def along(self):
+        """Returns what goes along with a choice, for the title and the status row."""
+        return ""
+
+    def before(self):
+        """Returns what is said before the user chooses."""
+        return []
 
     def messages(self, kept):
         """Returns the messages of commits that the user can edit. `kept` is that of kept marks."""
@@ -52,16 +75,52 @@ class Way:
     def prepare(self, choices, accepted):
         """Reads what `write` needs as it was before all is looked at again. Stops if what was accepted cannot be used."""
 
+    def shows_untracked(self):
+        """Whether files that git does not know are shown, as the user asks for here, or has set."""
+        mode = self.options.untracked or self.repository.settings.get("status.showuntrackedfiles", "normal")
+        return mode not in FALSE
+
+    def most_read(self):
+        """Returns how many bytes of files are read at most."""
+        return float("inf") if self.options.read_all else MOST_READ
+
+    def unread_sides(self, choices, scratch):
+        """Stores the new versions of chosen files that were not read, as `git add` does. Returns their sides, by change."""
+        changes = {choice.change.path: choice.change for choice in choices if isinstance(choice.change.new_data, Unread)}
+        if self.has_new or not changes:
+            return {}
+        given = b"".join(os.fsencode(path) + b"\0" for path in changes)
+        words = "-c", "core.splitIndex=false", "update-index", "-z", "--add", "--replace", "--stdin"
+        self.repository.git(*words, given=given, GIT_INDEX_FILE=scratch.environment["GIT_INDEX_FILE"])
+        return {changes[path]: side for path, side in scratch.sides(changes).items()}
+
     def stored(self, choices, now):
-        """Stores the contents of `choices`. Returns what an index that has their sides `now` is to have of them."""
-        with waits("storing %s .." % counted(len(choices), "file")):
-            names = iter(self.repository.store([choice.data for choice in choices if choice.mode != ABSENT]))
-        # what goes has the name of what it was
-        sides = [getattr(choice.change, now).name if choice.mode == ABSENT else next(names) for choice in choices]
-        return [(choice.change.path, Side(choice.mode, name)) for choice, name in zip(choices, sides)]
+        """Stores the contents of `choices` that the repository does not have. Returns what an index that has their sides `now` is to
+        have of them."""
+        names = [getattr(choice.change, now).name if choice.mode == ABSENT else self.name_of(choice) for choice in choices]
+        missing = [choice.data for choice, name in zip(choices, names) if not name]
+        with waits("storing %s .." % counted(len(missing), "file")):
+            stored = iter(self.repository.store(missing))
+        return [(choice.change.path, Side(choice.mode, name or next(stored))) for choice, name in zip(choices, names)]
+
+    def name_of(self, choice):
+        """Returns the name of the object that has the bytes of a choice, if a version has them that the repository has."""
+        change = choice.change
+        sides = [(change.old, change.old_data)]
+        if self.has_new or isinstance(change.new_data, Unread):
+            sides.append((change.new, change.new_data))
+        return next((side.name for side, data in sides if data == choice.data), None)
+
+    def lines(self, paths):
+        """Returns a line for each file that is done, or one for all if they are many, and the user has not asked for each."""
+        if len(paths) > MOST_NAMED and not self.options.verbose:
+            return ["%s: %s" % (self.done, counted(len(paths), "file"))]
+        return ["%s: %s" % (self.done, shown(path)) for path in paths]
 
     def locked_index(self):
-        """Keeps others from the index, as git does, and gives a copy of it that can take its place."""
+        """Keeps others from the index, as git does, and gives a copy of it that can take its place. Stops if the repository is
+        another one by now."""
+        self.repository.check_same()
         return Lock(self.repository.index, os.path.join(self.folder, "index"))
 
 
@@ -70,19 +129,32 @@ class Stage(Way):
     words, does = ("git-select",), "stages what is marked"
     accepts = "stages"
 
-    def read(self, scratch):
-        return changed_in_tree(self.repository, scratch, self.options.paths, self.start)
+    def read(self, scratch, only=None):
+        """Returns the sides of each file that differs, by path, and notes on what is left out. With `only`, a set of paths, others may
+        be passed over."""
+        return changed_in_tree(self, scratch, only)
 
     def paths_there(self):
         """Returns the paths that are beside those of a choice."""
         return self.repository.indexed()
 
+    def rows(self, choices):
+        """Returns the paths of `choices`, and if one of them comes also those beside them."""
+        rows = [Row(choice.change.path, getattr(choice.change, self.now).mode != ABSENT, choice.mode != ABSENT, file_of(choice.change))
+                for choice in choices]
+        if all(row.is_there or not row.is_wanted for row in rows):
+            return rows
+        chosen = {row.path for row in rows}
+        return [*rows, *(Row(path, True, True, None) for path in self.paths_there() if path not in chosen)]
+
     def without_blocked(self, choices):
-        """Returns `choices` without those that would remove a file that is not chosen. Names these."""
-        blocked = paths_in_the_way(self.paths_there, choices, self.now)
-        for path, other in sorted(blocked.items()):
-            say("%s is not %s: that would remove %s, which is not marked" % (shown(path), self.done, shown(other)))
-        return [choice for choice in choices if choice.change.path not in blocked]
+        """Returns `choices` without the files that would remove one that stays. Notes these."""
+        rows = self.rows(choices)
+        refused, files = refusals(rows), {row.path: row.file for row in rows}
+        for file, (_, other) in sorted(refused.items(), key=lambda it: it[0].path):
+            why = "stays" if files[other] in refused else "is not marked"
+            self.notes.append("%s is not %s: that would remove %s, which %s" % (name_of(file), self.done, shown(other), why))
+        return [choice for choice in choices if file_of(choice.change) not in refused]
 
     def all_of(self, choices):
         """Returns `choices`. Stops if one of them would remove a file that is not chosen."""
@@ -96,11 +168,13 @@ class Stage(Way):
         if taken:
             self.repository.update(self.stored(taken, self.now), GIT_INDEX_FILE=lock.copy)
             lock.keep()
+            self.written.append("the index")
         return self.reports(taken), len(taken) < len(choices)
 
     def reports(self, choices):
-        ends = [", as an empty file" if self.is_emptied(*choice) else "" for choice in choices]
-        return ["%s: %s%s" % (self.done, shown(choice.change.path), end) for choice, end in zip(choices, ends)]
+        emptied = [choice.change.path for choice in choices if self.is_emptied(*choice)]
+        others = [choice.change.path for choice in choices if choice.change.path not in set(emptied)]
+        return [*self.lines(others), *("%s: %s, as an empty file" % (self.done, shown(path)) for path in emptied)]
 
     def is_emptied(self, change, mode, data):
         """Whether a choice leaves an empty file where the goal is none, or one with lines."""
@@ -113,9 +187,10 @@ class Unstage(Stage):
     words, does = ("git-select", "--unstage"), "takes what is marked out of the index"
     accepts = "unstages"
     side, now, goal = "unselected", "new", "old"
+    has_new = True
 
     def tree_before(self):
         return self.repository.last_tree()
 
-    def read(self, scratch):
-        return changed_in_index(self.repository, self.options.paths, self.start)
+    def read(self, scratch, only=None):
+        return changed_in_index(self, scratch)

@@ -1,0 +1,228 @@
+"""The plan of a change of files: what is to be done, while that is begun and not at its end. It lies in a folder where no
+repository and no other user can put one (see rooms.py), and is still checked in each of its parts.
+
+A plan is a file of two lines of JSON. The first one names the folder that is changed and the spare folder (see spare.py), which is
+made behind it. The second one has what is to be done, and is written before the first file is moved. Once all is done, the plan
+has another name."""
+import collections
+import contextlib
+import errno
+import hashlib
+import os
+import re
+import stat
+
+from .change import ABSENT, LINK, digest_of
+from .folders import IS_PLAIN, closing, identity_of, is_ours, read_whole
+from .locks import lock_open
+from .paths import fault_in
+from .words import Stop, shown
+
+BEGUN, DONE = ".plan", ".done"
+NAME = re.compile(r"[0-9a-f]{16}-[0-9a-f]{32}\.(?:plan|done)")
+DIGEST, TOKEN, SPARE_NAME = map(re.compile, ("[0-9a-f]{64}", "[0-9a-f]{32}", r"\.gabrosty-[0-9a-f]{32}"))
+MODES = ABSENT, "100644", "100755", LINK
+# where a spare folder may lie: in the folder of the plan, beside the folder that is changed, or in it
+PLACES = KEPT, BESIDE, WITHIN = "kept", "beside", "within"
+
+# The first line of a plan: the folder's real path and inode, and the place, the name and the secret of the spare folder. The
+# number of a disk may be another one after a start of the system, so the secret, which lies in the spare folder, is looked at.
+First = collections.namedtuple("First", "top inode place name secret")
+
+
+class Entry(collections.namedtuple("Entry", "number path old new")):
+    """A file of a plan. `old` and `new` are what digest_of says of its sides."""
+
+    @property
+    def aside(self):
+        return "old-%d" % self.number
+
+    @property
+    def made(self):
+        return "new-%d" % self.number
+
+    @property
+    def comes(self):
+        """Whether there is to be a file."""
+        return self.new[0] != ABSENT
+
+    @property
+    def was(self):
+        """Whether there was a file."""
+        return self.old[0] != ABSENT
+
+
+NOTHING = digest_of((ABSENT, b""))
+
+
+def in_order(entries):
+    """Returns entries as they are put in place: what goes makes room for what comes."""
+    return sorted(entries, key=lambda entry: entry.comes)
+
+
+def key_of(top):
+    """Returns by what the plans of the folder `top` are found."""
+    return hashlib.sha256(os.fsencode(os.path.realpath(top))).hexdigest()[:16]
+
+
+def new_token():
+    """Returns a text that nobody can foresee."""
+    return os.urandom(16).hex()
+
+
+def opened(folder, name):
+    """Opens the file of a plan. Raises OSError if it is no file of this user's."""
+    file = os.open(name, os.O_RDWR | IS_PLAIN, dir_fd=folder)
+    if not is_ours(file, stat.S_ISREG):
+        os.close(file)
+        raise PermissionError(errno.EPERM, "it is no file of yours", name)
+    return file
+
+
+def plans_of(folder, where, top):
+    """Returns the plans of the folder `top` that lie in the open folder `folder`, whose path is `where`, opened."""
+    names = sorted(name for name in os.listdir(folder) if NAME.fullmatch(name) and name.startswith(key_of(top)))
+    found = []
+    for name in names:
+        # one that is gone meanwhile is at its end, and another user's is no plan
+        with contextlib.suppress(FileNotFoundError, PermissionError):
+            found.append(Plan(folder, where, name, opened(folder, name)))
+    return found
+
+
+class Plan:
+    """The plan `name` in the open folder `folder`, whose path is `where`: open as `file`, and locked while a program is at work."""
+
+    def __init__(self, folder, where, name, file):
+        self.folder, self.where, self.name, self.file = folder, where, name, file
+
+    @classmethod
+    def empty(cls, folder, where, top):
+        """Makes a plan without a line for the folder `top`, and locks it."""
+        while True:
+            name = "%s-%s%s" % (key_of(top), new_token(), BEGUN)
+            file = os.open(name, os.O_RDWR | os.O_CREAT | os.O_EXCL | IS_PLAIN, 0o600, dir_fd=folder)
+            plan = cls(folder, where, name, file)
+            # another call may come before the lock, and remove it as one that was left behind
+            lock_open(file, waits=True)
+            if plan.is_left():
+                return plan
+            plan.close()
+
+    @classmethod
+    def made(cls, folder, where, first):
+        """Makes a plan with its first line, and locks it."""
+        plan = cls.empty(folder, where, first.top)
+        try:
+            plan.add(list(first))
+            os.fsync(folder)
+        except BaseException:
+            plan.remove()
+            plan.close()
+            raise
+        return plan
+
+    @property
+    def path(self):
+        return os.path.join(self.where, self.name)
+
+    def add(self, line):
+        """Writes a line, and waits until it is on the disk."""
+        import json
+
+        with open(self.file, "ab", closefd=False) as file:
+            file.write(json.dumps(line).encode() + b"\n")
+        os.fsync(self.file)
+
+    def is_done(self):
+        return self.name.endswith(DONE)
+
+    def finish(self):
+        """Says that nothing of it is needed any more."""
+        name = self.name[: -len(BEGUN)] + DONE
+        if not self.is_done():
+            os.rename(self.name, name, src_dir_fd=self.folder, dst_dir_fd=self.folder)
+            self.name = name
+
+    def remove(self):
+        os.unlink(self.name, dir_fd=self.folder)
+
+    def close(self):
+        os.close(self.file)
+
+    def is_left(self):
+        """Whether it was left behind. One that a program is at work with is locked, and one that is gone has another file's name,
+        or none."""
+        if not lock_open(self.file):
+            return False
+        with contextlib.suppress(FileNotFoundError), closing(opened(self.folder, self.name)) as again:
+            return identity_of(again) == identity_of(self.file)
+        return False
+
+    def lines(self):
+        """Returns what the lines say. One that was cut off is none."""
+        import json
+
+        try:
+            return [json.loads(line) for line in read_whole(self.file).split(b"\n")[:-1]]
+        except (ValueError, RecursionError):
+            raise self.stop("it is not JSON") from None
+
+    def stop(self, fault):
+        """Returns why nothing is done by it."""
+        return Stop("%s is no plan that can be followed, and nothing was done: %s" % (shown(self.path), fault))
+
+    def read(self):
+        """Returns what the first line says, or None, and what the second one says: the inode of the spare folder, or None, and the
+        entries. Stops if anything in it does not fit."""
+        lines = self.lines()
+        if not lines:
+            return None, (None, [])
+        if not is_first(lines[0]) or len(lines) > 2:
+            raise self.stop("it has another form")
+        return First(*lines[0]), self.planned(lines[1]) if lines[1:] else (None, [])
+
+    def planned(self, line):
+        if not (isinstance(line, list) and len(line) == 2 and is_number(line[0]) and isinstance(line[1], list)):
+            raise self.stop("it has another form")
+        for entry in line[1]:
+            fault = fault_of_entry(entry)
+            if fault:
+                raise self.stop(fault)
+        if len({path for path, _, _ in line[1]}) < len(line[1]):
+            raise self.stop("a path is in it twice")
+        return line[0], [Entry(number, *entry) for number, entry in enumerate(line[1])]
+
+
+def is_number(value):
+    return type(value) is int and value >= 0
+
+
+def is_first(line):
+    """Whether this is what a first line says."""
+    if not isinstance(line, list) or len(line) != len(First._fields):
+        return False
+    top, inode, place, name, secret = line
+    texts = all(isinstance(text, str) for text in (top, place, name, secret))
+    is_named = texts and place in PLACES and SPARE_NAME.fullmatch(name) and TOKEN.fullmatch(secret)
+    return bool(is_named) and is_number(inode)
+
+
+def is_side(value):
+    """Whether this is what digest_of says of a side."""
+    if not isinstance(value, list) or len(value) != 2 or value[0] not in MODES:
+        return False
+    is_digest = isinstance(value[1], str) and DIGEST.fullmatch(value[1])
+    return bool(is_digest) and (value[0] != ABSENT or value == NOTHING)
+
+
+def fault_of_entry(entry):
+    """Returns what does not fit in an entry, or None."""
+    if not isinstance(entry, list) or len(entry) != 3 or not isinstance(entry[0], str) or not all(map(is_side, entry[1:])):
+        return "an entry has another form"
+    try:
+        os.fsencode(entry[0])
+    except UnicodeEncodeError:
+        return "a path is no name of a file"
+    fault = fault_in(entry[0])
+    return "%s: %s" % (shown(entry[0]), fault) if fault else None

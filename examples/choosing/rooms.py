@@ -1,0 +1,84 @@
+"""The folders in which plans of changes are kept (see plans.py): no repository and no other user can put one there."""
+import contextlib
+import errno
+import os
+import stat
+
+from .folders import IS_FOLDER, closing, is_ours
+from .words import Stop, shown
+
+NAME = "gabrosty"
+ANOTHER_STATE = "; XDG_STATE_HOME names another folder"
+
+
+class Room:
+    """The folder `path` for plans. `place` says where spare folders lie if that is of use (see plans.py), and `hint` is said
+    where the folder cannot be used. With `is_removed` it goes once it is empty."""
+
+    def __init__(self, path, place, hint="", is_removed=False):
+        self.path, self.place, self.hint, self.is_removed = path, place, hint, is_removed
+
+    def make(self):
+        with contextlib.suppress(FileExistsError):
+            os.mkdir(self.path, 0o700)
+
+    def open(self):
+        """Opens the folder. Raises OSError if it cannot be used."""
+        folder = os.open(self.path, IS_FOLDER)
+        if not is_ours(folder, stat.S_ISDIR) or not os.access(".", os.W_OK | os.X_OK, dir_fd=folder):
+            os.close(folder)
+            raise PermissionError(errno.EPERM, "it is no folder that you alone may write to", self.path)
+        return folder
+
+    def check(self):
+        """Stops if plans cannot be kept."""
+        with self.opened():
+            pass
+
+    @contextlib.contextmanager
+    def opened(self):
+        """Gives the folder, open. Makes it if it is not there, and stops if it cannot be used."""
+        try:
+            self.make()
+            folder = self.open()
+        except OSError as error:
+            raise Stop("no plan can be kept in %s: %s%s" % (shown(self.path), error.strerror, self.hint)) from None
+        with closing(folder):
+            try:
+                yield folder
+            finally:
+                self.end()
+
+    @contextlib.contextmanager
+    def found(self):
+        """Gives the folder, open, or None if no plan of this user's can be in it."""
+        try:
+            folder = self.open()
+        except OSError:
+            yield None
+            return
+        with closing(folder):
+            yield folder
+        self.end()
+
+    def end(self):
+        """Removes the folder of a repository if it is empty: another user may need it next."""
+        if self.is_removed:
+            with contextlib.suppress(OSError):
+                os.rmdir(self.path)
+
+
+class UserRoom(Room):
+    """The folder for plans in the user's own state folder, whose name is `folder`."""
+
+    def __init__(self, place):
+        folder = os.environ.get("XDG_STATE_HOME", "")
+        folder = folder if os.path.isabs(folder) else os.path.expanduser("~/.local/state")
+        super().__init__(os.path.join(folder, NAME), place, ANOTHER_STATE)
+
+    def make(self):
+        above = os.path.dirname(self.path)
+        os.makedirs(above, 0o700, exist_ok=True)
+        if os.stat(above).st_uid not in (0, os.geteuid()):
+            raise PermissionError(errno.EPERM, "it lies in a folder of another user")
+        super().make()

@@ -1,0 +1,35 @@
+"""A change selector for Python, over libscm.so: a user marks changes on a screen, and the program gets both sides of each file.
+
+    with Session() as session:
+        session.add_file("letter", 0o100644)
+        session.add_context("Dear all,\\n")
+        session.add_changes("new\\n", is_added=True)
+        session.begin(80, 24)
+        session.press("a", "c")
+        print(session.side(0).text)
+
+Or it has the user choose, by one call:
+
+    with Session() as session:
+        session.add_texts("letter", old, new)
+        if session.choose() == "accepted":
+            print(session.side_bytes(0))
+
+The library is the one that LIBSCM names, or where `tools/install`, `tools/build-shared` or a wheel puts it, or where the system
+looks. `scm.library` is the open library itself."""
+from ._library import ABSENT, CODES, NO_INDEX, Error, library, open_library, version, words
+from ._session import Session
+from ._values import ENDS, FOLDS, OWNERS, THEMES, Contents, Folds, Key, Mark, Path, Side, Stage, Text, Theme
+
+__version__ = version()
+
+WAITING, EDITING, ACCEPTED = Stage.WAITING, Stage.EDITING, Stage.ACCEPTED
+ENDED, NONE, BUILDING = Stage.ENDED, Stage.NONE, Stage.BUILDING
+UNCHANGED, TEXT, BINARY = Contents.UNCHANGED, Contents.TEXT, Contents.BINARY
+UNCHECKED, PARTLY, CHECKED = Mark.UNCHECKED, Mark.PARTLY, Mark.CHECKED
+
+__all__ = [
+    "ABSENT", "ACCEPTED", "BINARY", "BUILDING", "CHECKED", "CODES", "Contents", "EDITING", "ENDED", "ENDS", "Error", "FOLDS", "Folds",
+    "Key", "Mark", "NONE", "NO_INDEX", "OWNERS", "PARTLY", "Path", "Session", "Side", "Stage", "TEXT", "THEMES", "Text", "Theme",
+    "UNCHANGED", "UNCHECKED", "WAITING", "__version__", "library", "open_library", "words",
+]

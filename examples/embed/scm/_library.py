@@ -1,0 +1,115 @@
+"""The shared library: where it is, its structures, and its calls."""
+import ctypes
+import os
+
+# the name of the library
+NAME = "libscm.so.1"
+# the names of the codes that calls return
+CODES = "done closed not_now no_word not_text bad_state not_accepted too_long no_memory no_item no_number no_key".split()
+# the mode of a file that does not exist, and an index that names nothing
+ABSENT = NO_INDEX = int(ctypes.c_size_t(-1).value)
+
+
+class Handle(ctypes.Structure):
+    """A session, as C has it: all zeros if it is closed."""
+
+    _fields_ = [("is_open", ctypes.c_bool), ("at", ctypes.c_void_p)]
+
+
+class KeyOfC(ctypes.Structure):
+    """A key, as C has it."""
+
+    _fields_ = [(name, ctypes.c_size_t) for name in ("commit", "file", "section", "line")]
+
+
+class SideInfo(ctypes.Structure):
+    """What C says of a side of a file."""
+
+    _fields_ = [("contents", ctypes.c_uint32), ("mode", ctypes.c_size_t), ("length", ctypes.c_size_t)]
+
+
+# the arguments of each call behind its session: B is a bool, T a text or room for one, N a size or an index, H a number of 16
+# bits, U one of 32, I a file, and P a pointer to what the call writes or to a key
+CALLS = dict(call.split(":") for call in """
+    state_new:B state_message:TN state_commit: state_file:TNTNN state_context:TN state_changes:BBTN state_line:BBBTN state_section:B
+    state_mode:BN state_binary:BTNTN state_texts:TNTNTNNTNN begin:HH new:TNHH stage: end: type:TN type_to_key:TNPP idle: press:TN press_all:TN
+    decode:TNTNP decode_idle:TNP click:HH answer:TN resize:HH paint:TNP repaint: owner:HHP selected:P symbol:HHTN text:TNP files:P
+    side:NBTNP side_bytes:NBTNP mark:PP marks:NTNP line:PTNP message:NTNP run:IT free: begin_layer:HH new_layer:TNHH theme:U
+    accept_text:TN start:UP keys:TN log: logged:TNP""".split())
+TYPES = {"B": ctypes.c_bool, "T": ctypes.c_char_p, "N": ctypes.c_size_t, "H": ctypes.c_uint16, "U": ctypes.c_uint32, "I": ctypes.c_int, "P": ctypes.c_void_p}
+# the greatest number of each type of numbers; the least one is 0
+GREATEST = {"N": NO_INDEX, "H": 0xFFFF, "U": 0xFFFFFFFF, "I": 0x7FFFFFFF}
+# the calls that return another type than a code
+RESULTS = {"run": ctypes.c_int, "symbol": ctypes.c_size_t, "free": None}
+
+
+def library_path() -> str:
+    """Returns the path of the library, or the name by which the system finds it."""
+    here = os.path.dirname(os.path.realpath(__file__))
+    # in a wheel, in a clone, and in an installation
+    places = [os.path.join(here, place, NAME) for place in ("", "../out", "../..")]
+    there = [path for path in places if os.path.exists(path)]
+    return os.environ.get("LIBSCM") or (there or [NAME])[0]
+
+
+def open_library(path: str) -> ctypes.CDLL:
+    """Returns the library at `path`. If it is not there, the error says what makes it."""
+    try:
+        return ctypes.CDLL(path, use_errno=True)  # a run sets errno
+    except OSError as error:
+        words = "%s. `tools/build-shared` makes the library in a clone of Gabrosty, `tools/install PREFIX` installs it, and LIBSCM can name it"
+        raise ImportError(words % error) from error
+
+
+library = open_library(library_path())
+
+
+def declare() -> None:
+    """Declares the calls of the library."""
+    for name, letters in CALLS.items():
+        function = getattr(library, "scm_" + name)
+        function.argtypes = [ctypes.POINTER(Handle), *map(TYPES.get, letters)]
+        function.restype = RESULTS.get(name, ctypes.c_uint32)
+    library.scm_words.argtypes = [ctypes.c_uint32, ctypes.c_char_p, ctypes.c_size_t]
+    library.scm_words.restype = ctypes.c_size_t
+    library.scm_version.argtypes, library.scm_version.restype = [], ctypes.c_uint32
+
+
+declare()
+
+
+def check(letter: str, argument: object) -> None:
+    """Raises ValueError if a number is not one of its type, which C would wrap."""
+    greatest = GREATEST.get(letter)
+    if greatest is not None and isinstance(argument, int) and not 0 <= argument <= greatest:
+        raise ValueError("%d is not a number from 0 to %d" % (argument, greatest))
+
+
+def call(name: str, handle: Handle, *arguments: object) -> int:
+    """Makes the call `name` of a session, and returns what it returns."""
+    for letter, argument in zip(CALLS[name], arguments):
+        check(letter, argument)
+    return int(getattr(library, "scm_" + name)(ctypes.byref(handle), *arguments) or 0)
+
+
+def words(code: int) -> str:
+    """Returns the sentence of a code, or nothing if no call returns it."""
+    check("U", code)
+    out = ctypes.create_string_buffer(256)
+    length = library.scm_words(code, out, len(out))
+    return out.raw[:length].decode()
+
+
+def version() -> str:
+    """Returns the version of the library."""
+    number = int(library.scm_version())
+    return "%d.%d.%d" % (number // 10000, number // 100 % 100, number % 100)
+
+
+class Error(Exception):
+    """A call returned another code than done. `code` is its name, one of `CODES`, and the text its sentence."""
+
+    def __init__(self, code: int) -> None:
+        """Makes the error of a code."""
+        self.code = CODES[code]
+        super().__init__(words(code))

@@ -1,0 +1,112 @@
+"""The values that a session takes and returns."""
+import enum
+import os
+from typing import NamedTuple, Optional, Type, TypeVar, Union
+
+from ._library import NO_INDEX
+
+# a text: `str`, or the bytes of UTF-8
+Text = Union[str, bytes]
+# a path: a text, or an object for a path, as of pathlib
+Path = Union[str, bytes, "os.PathLike[str]", "os.PathLike[bytes]"]
+
+# how a session ended
+ENDS = "not_ended accepted cancelled no_memory set_up clean_up render read serialize write other bug".split()
+# what a click acts on
+OWNERS = "nobody menu menu_item button file section mark fold dialog added removed context mode binary file_edge".split()
+
+
+class Stage(enum.IntEnum):
+    """What a session waits for."""
+
+    WAITING = 0
+    EDITING = 1
+    ACCEPTED = 2
+    ENDED = 3
+    NONE = 4
+    BUILDING = 5
+
+
+class Contents(enum.IntEnum):
+    """The kind of the contents of a side of a file."""
+
+    UNCHANGED = 0
+    TEXT = 1
+    BINARY = 2
+
+
+class Mark(enum.IntEnum):
+    """The mark of a file, a section or a line."""
+
+    UNCHECKED = 0
+    PARTLY = 1
+    CHECKED = 2
+
+
+class Theme(enum.IntEnum):
+    """The colours of a layer. The name of a theme stands for it, in small letters."""
+
+    DARK = 0
+    LIGHT = 1
+    SIXTEEN = 2
+    NONE = 3
+
+
+class Folds(enum.IntEnum):
+    """What a layer unfolds at the start. The name of a member stands for it, in small letters."""
+
+    AS_IT_IS = 0
+    ALL_FOLDED = 1
+    ALL_OPEN = 2
+    OPEN_IF_IT_FITS = 3
+
+
+# the names of the themes and the folds
+THEMES = [theme.name.lower() for theme in Theme]
+FOLDS = [folds.name.lower() for folds in Folds]
+
+Member = TypeVar("Member", bound=enum.IntEnum)
+
+
+def member_of(kind: Type[Member], value: Union[Member, str]) -> Member:
+    """Returns the member of `kind` that `value` is, or is the name of."""
+    if not isinstance(value, str):
+        return kind(value)
+    members = {member.name.lower(): member for member in kind}
+    if value not in members:
+        raise ValueError("%r is none of %s" % (value, ", ".join(members)))
+    return members[value]
+
+
+class Key(NamedTuple):
+    """Names an item: a commit, a file in the state, a section in its file, and a line in its section, each counted from 0. An index
+    that the item has not is NO_INDEX: the key of a file has no section and no line."""
+
+    commit: int
+    file: int
+    section: int
+    line: int
+
+    def __repr__(self) -> str:
+        """Returns the key as Python writes it, with NO_INDEX by its name."""
+        indexes = ("NO_INDEX" if index == NO_INDEX else str(index) for index in self)
+        return "Key(%s)" % ", ".join(map("%s=%s".__mod__, zip(self._fields, indexes)))
+
+
+class Side(NamedTuple):
+    """One side of a file: the kind of its contents, its mode, and its text as bytes, or None."""
+
+    contents: Contents
+    mode: int
+    text: Optional[bytes]
+
+
+def bytes_of(text: Text) -> bytes:
+    """Returns the bytes of a text."""
+    return text if isinstance(text, bytes) else text.encode()
+
+
+def bytes_of_path(path: Path) -> bytes:
+    """Returns the bytes of a path in UTF-8. Bytes that are no text to the file system come back as they were, as by os.fsencode."""
+    text = os.fspath(path)
+    return text if isinstance(text, bytes) else text.encode(errors="surrogateescape")

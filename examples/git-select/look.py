@@ -1,0 +1,134 @@
+"""What the files of the working tree contain, as `git add` would store it. What git stores as it is is read and named here, and git is
+asked for the rest. The largest files are not read, where all of them together are too much."""
+import collections
+import os
+import stat
+
+from choosing.change import LINK, Side, Unread
+from choosing.folders import folder_of
+from choosing.git import split_by_zeros
+from choosing.packs import name_of
+from repository import FALSE, NO_FILE
+
+# how many bytes are read in all; the largest files beyond that are not
+MOST_READ = 20_000_000
+# the attributes by which git stores other bytes than a file has; line ends change only where there is a CR
+CONVERSIONS = "filter", "ident", "working-tree-encoding"
+NO_CONVERSION = "unspecified", "unset"
+# has git not hand on each answer alone
+AT_ONCE = {"GIT_FLUSH": "0"}
+
+# What is found of the files that differ: by path the new sides, why others are left out, the paths of those that are not read, and the
+# contents of sides by their names.
+Found = collections.namedtuple("Found", "sides left_out unread contents")
+
+
+def beyond(sizes, most):
+    """Returns the paths of the largest files, of which the others have `most` bytes together, by the sizes of files by path."""
+    paths, total = set(), sum(sizes.values())
+    for path in sorted(sizes, key=lambda path: (-sizes[path], path)):
+        if total <= most:
+            break
+        total -= sizes[path]
+        paths.add(path)
+    return paths
+
+
+def read_link(folder, path):
+    """Returns what a link below a folder that is open leads to."""
+    with folder_of(path, folder) as (at, name):
+        return os.fsencode(os.readlink(name, dir_fd=at))
+
+
+def read_file(folder, path):
+    """Returns the bytes of a file below a folder that is open. What is swapped for a link or a pipe meanwhile, also a folder above it, is
+    not read."""
+    with folder_of(path, folder) as (at, name):
+        opened = os.open(name, os.O_RDONLY | os.O_NOFOLLOW | os.O_NONBLOCK | os.O_CLOEXEC, dir_fd=at)
+    try:
+        found = os.fstat(opened)
+        if not stat.S_ISREG(found.st_mode):
+            raise OSError(0, NO_FILE)
+        parts, left = [], found.st_size
+        while left and (part := os.read(opened, left)):
+            parts.append(part)
+            left -= len(part)
+        return b"".join(parts)
+    finally:
+        os.close(opened)
+
+
+class Look:
+    """A look at files of the working tree, by `scratch`. `modes` has by path the mode that git sees, or None if git does not know the
+    file. `old_sizes` has the sizes of old versions. `unread` are the paths that are not read, or None if they are to be found out by
+    `most`, how many bytes are read at most."""
+
+    def __init__(self, scratch, modes, old_sizes, unread, most):
+        self.scratch, self.modes, self.folder = scratch, modes, scratch.opened[scratch.top]
+        self.left_out, self.stats, self.contents = {}, {}, {}
+        for path in modes:
+            self.look_at(path)
+        sizes = {path: old_sizes.get(path, 0) for path in (*old_sizes, *modes)}
+        sizes.update((path, sizes[path] + found.st_size) for path, found in self.stats.items() if stat.S_ISREG(found.st_mode))
+        self.unread = beyond(sizes, most) if unread is None else unread & sizes.keys()
+
+    def look_at(self, path):
+        try:
+            found = os.stat(path, dir_fd=self.folder, follow_symlinks=False)
+        except OSError as error:
+            self.left_out[path] = error.strerror
+            return
+        if stat.S_ISREG(found.st_mode) or stat.S_ISLNK(found.st_mode):
+            self.stats[path] = found
+        else:
+            self.left_out[path] = NO_FILE
+
+    def mode_of(self, path):
+        """Returns git's mode for a file."""
+        mode = self.stats[path].st_mode
+        if self.modes[path]:
+            return self.modes[path]
+        can_be_run = mode & 0o100 and self.scratch.setting("core.filemode") not in FALSE
+        return LINK if stat.S_ISLNK(mode) else "100755" if can_be_run else "100644"
+
+    def found(self):
+        """Reads the files. Returns what is found of them."""
+        sides = {path: self.unread_side(path) for path in self.unread & self.stats.keys()}
+        paths = [path for path in self.stats if path not in self.unread]
+        by_git = self.converted(paths)
+        sides.update((path, self.read(path, by_git)) for path in paths if path not in by_git)
+        left_out = self.scratch.add(sorted(by_git))
+        sides.update(self.scratch.sides(by_git - left_out.keys()))
+        self.left_out.update(left_out)
+        return Found({path: side for path, side in sides.items() if side}, self.left_out, self.unread, self.contents)
+
+    def converted(self, paths):
+        """Returns the paths of those files that git is to store, as it may store other bytes than they have."""
+        if self.scratch.setting("core.safecrlf") not in (*FALSE, "warn", None):
+            return set(paths)
+        given, words = b"".join(os.fsencode(path) + b"\0" for path in paths), ("check-attr", "--stdin", "-z", *CONVERSIONS)
+        parts = split_by_zeros(self.scratch.git(*words, given=given, **AT_ONCE)) if paths else []
+        return {path for path, value in zip(parts[0::3], parts[2::3]) if value not in NO_CONVERSION}
+
+    def read(self, path, by_git):
+        """Returns the side of a file, and keeps its contents. Adds its path to `by_git` if git is to store it, or says why it is left
+        out; then it has no side."""
+        is_link = stat.S_ISLNK(self.stats[path].st_mode)
+        try:
+            data = read_link(self.folder, path) if is_link else read_file(self.folder, path)
+        except OSError as error:
+            self.left_out[path] = error.strerror
+            return None
+        if b"\r" in data and not is_link:
+            by_git.add(path)
+            return None
+        name = name_of(data, self.scratch.algorithm)
+        self.contents[name] = data
+        return Side(self.mode_of(path), name)
+
+    def unread_side(self, path):
+        """Returns the side of a file that is not read. Its name says what shows that it is still the same."""
+        found = self.stats[path]
+        name = "%d %d %d %d" % (found.st_ino, found.st_size, found.st_mtime_ns, found.st_ctime_ns)
+        self.contents[name] = Unread(name.encode(), found.st_size)
+        return Side(self.mode_of(path), name)
