@@ -9,14 +9,14 @@ import sys
 import sysconfig
 
 import changed
+import trying
 from apart import SETTINGS
+from pages import READER, SIZES, keys_of
 from typed import Typed
 
 # parts of Python that no program of the archive uses
 NOT_NEEDED = shutil.ignore_patterns("test", "tests", "site-packages", "idlelib", "tkinter", "ensurepip", "__pycache__", "config-*", "*.a")
 OLD, NEW = b"one\ntwo\n", b"one\nTWO\nthree\n"
-# those of the page of the archive: to `+ three`
-KEYS = ["shift-F", *["j"] * 4, "space", "c"]
 
 
 class Root:
@@ -33,17 +33,23 @@ class Root:
         return path if not self.head else "/" + os.path.relpath(path, self.top)
 
     def command(self, words):
-        variables = {**SETTINGS, "PATH": self.path, "HOME": self.inside(self.work), "PYTHONDONTWRITEBYTECODE": "1"}
+        variables = {**READER, "PATH": self.path, "HOME": self.inside(self.work), "PYTHONDONTWRITEBYTECODE": "1"}
         return [*self.head, "/usr/bin/env", "-i", *("%s=%s" % it for it in variables.items()), *words]
 
     def run(self, *words):
         return subprocess.run(self.command(words), stdout=subprocess.PIPE, stderr=subprocess.STDOUT, cwd=self.work)
 
     def type(self, words, keys):
-        typed = Typed(self.command(words), 60, 24, folder=self.work)
+        typed = Typed(self.command(words), *SIZES[0], folder=self.work)
         for key in keys:
             typed.press(key)
         return typed.end(), typed.said()
+
+
+def page_of(unpacked):
+    """Returns the page of the archive that is unpacked there."""
+    with open(os.path.join(unpacked, "README.md")) as file:
+        return file.read()
 
 
 def stages_a_line(root, unpacked):
@@ -54,6 +60,14 @@ def stages_a_line(root, unpacked):
         print(done.stdout.decode(), end="")
         return False
     before, root.path = root.path, root.inside(prefix) + "/bin:" + root.path
+    is_staged = has_staged(root, keys_of(page_of(unpacked)))
+    root.path = before
+    is_gone = root.run(root.inside(os.path.join(prefix, "lib/gabrosty/uninstall"))).returncode == 0 and not os.path.exists(prefix)
+    return is_staged and is_gone
+
+
+def has_staged(root, keys):
+    """Whether a user of `git select` on the path stages a line in a new repository, by the keys of the page."""
     repository = os.path.join(root.work, "repository")
     os.makedirs(repository)
     text, here = os.path.join(repository, "text"), ["git", "-C", root.inside(repository)]
@@ -62,14 +76,12 @@ def stages_a_line(root, unpacked):
     root.run(*here, "add", "text")
     root.run(*here, "commit", "--quiet", "--message", "First")
     changed.write_file(text, NEW)
-    status, said = root.type([*here, "select"], KEYS)
+    status, said = root.type([*here, "select"], keys)
     found = root.run(*here, "diff", "--cached", "--unified=0").stdout.decode().splitlines()[4:]
-    root.path = before
-    is_gone = root.run(root.inside(os.path.join(prefix, "lib/gabrosty/uninstall"))).returncode == 0 and not os.path.exists(prefix)
     is_staged = status == 0 and said.endswith("staged: text\n") and found == ["@@ -2,0 +3 @@ two", "+three"]
     if not is_staged:
         print(said, found)
-    return is_staged and is_gone
+    return is_staged
 
 
 def in_a_bare_folder(unpacked, folder):
@@ -97,14 +109,14 @@ def bring(top, path):
 
 
 def make_root(top):
-    """Fills a root folder with git, Python and env, and with nothing else. Returns why that cannot be done, or None."""
+    """Fills a root folder with git, Python, env and a shell, and with nothing else. Returns why that cannot be done, or None."""
     if os.geteuid():
         return "only root changes the root folder"
     for name in ("chroot", "ldd", "mknod"):
         if not shutil.which(name):
             return "there is no " + name
     python = os.path.realpath(sys.executable)
-    for path in (shutil.which("git"), "/usr/bin/env", python):
+    for path in (shutil.which("git"), "/usr/bin/env", "/bin/sh", python):
         bring(top, path)
     for name in {sysconfig.get_path(name) for name in ("stdlib", "platstdlib")}:
         shutil.copytree(name, top + name, ignore=NOT_NEEDED, dirs_exist_ok=True)
@@ -125,7 +137,7 @@ def make_root(top):
 
 
 def in_an_empty_root(unpacked, folder):
-    """A root folder has git and Python, and what these are linked with, alone. Skipped where none can be made."""
+    """A root folder has git, Python and a shell, and what these are linked with, alone. Skipped where none can be made."""
     top = os.path.join(folder, "root")
     reason = make_root(top)
     if reason:
@@ -135,19 +147,22 @@ def in_an_empty_root(unpacked, folder):
 
 
 def by_its_page(unpacked, archive, folder, path):
-    """Does what README.md of the archive says, in a folder that has the archive alone, where there is no toolchain."""
-    with open(os.path.join(unpacked, "README.md")) as file:
-        page = file.read()
-    home = os.path.join(folder, "home")
+    """Does what README.md of the archive says, on terminals of two sizes."""
+    return all([is_true_on(size, page_of(unpacked), archive, folder, path) for size in SIZES])
+
+
+def is_true_on(size, page, archive, folder, path):
+    """Whether what `page` says is true in a folder that has the archive alone, where there is no toolchain, on a terminal of `size`."""
+    home = os.path.join(folder, "home-%d" % size[0])
     os.makedirs(home)
     shutil.copy(archive, home)
     blocks = re.findall(r"^```sh\n(.*?)^```$", page, re.M | re.S)
     # the shell reads the lines of a file, as the terminal is the front end's
     script = os.path.join(home, "script")
     changed.write_file(script, ("set -e\ncd ~\n" + "".join(blocks)).encode())
-    variables = {**SETTINGS, "PATH": path, "HOME": home, "TMPDIR": folder}
-    typed = Typed(["env", "-i", *("%s=%s" % it for it in variables.items()), "sh", script], 60, 24)
-    for key in KEYS:
+    variables = {**READER, "PATH": path, "HOME": home, "TMPDIR": folder}
+    typed = Typed(["env", "-i", *("%s=%s" % it for it in variables.items()), "sh", script], *size)
+    for key in keys_of(page):
         typed.press(key)
     status, said = typed.end(), typed.said()
     diff = subprocess.run(["git", "-C", home + "/first", "diff", "--cached", "--numstat"], stdout=subprocess.PIPE, text=True)
@@ -156,8 +171,7 @@ def by_its_page(unpacked, archive, folder, path):
 
 def names_of_its_page(unpacked):
     """Whether each file that the table of README.md names is there."""
-    with open(os.path.join(unpacked, "README.md")) as file:
-        table = file.read().partition("## What is here")[2]
+    table = page_of(unpacked).partition("## What is here")[2]
     cells = [line.split("|")[1] for line in table.splitlines() if line.startswith("| `")]
     names = [name for cell in cells for name in re.findall(r"`([^`]+)`", cell)]
     return len(names) > 10 and all(os.path.exists(os.path.join(unpacked, name)) for name in names)
@@ -236,27 +250,123 @@ with scm.Session() as session:
     session.press_all("a c")
     print(session.end, session.side_bytes(0), scm.library._name)
 """
+# programs over the module: one with the types of it, and one with another type
+TYPED = """import pathlib
+
+import scm
+
+
+def accepted(old: bytes, new: bytes) -> bytes:
+    with scm.Session() as session:
+        session.add_texts(pathlib.Path("text"), old, new)
+        session.begin_layer(80, 24)
+        session.start(scm.Folds.ALL_OPEN, scm.Key(0, 0, scm.NO_INDEX, scm.NO_INDEX))
+        stage: scm.Stage = session.stage
+        session.press(*["a", "c"] if stage == scm.WAITING else [])
+        return session.side_bytes(0)
+
+
+print(accepted(b"one\\n", b"two\\n"))
+"""
+WITH_ANOTHER_TYPE = """import scm
+
+print(scm.Session().side_bytes("text"))
+"""
+
+
+class Wheel:
+    """A wheel in a virtual environment, with what runs there."""
+
+    def __init__(self, path, environment, folder):
+        self.path, self.folder = path, folder
+        self.python = os.path.join(environment, "bin/python")
+        self.variables = {**SETTINGS, "PATH": environment + "/bin:" + os.environ["PATH"], "HOME": folder}
+
+    def run(self, *words, **variables):
+        """Runs a program. Returns its status, and what it says."""
+        how = {"stdout": subprocess.PIPE, "stderr": subprocess.STDOUT, "text": True, "cwd": self.folder}
+        done = subprocess.run(words, env={**self.variables, **variables}, **how)
+        return done.returncode, done.stdout
+
+    def install(self, *words):
+        """Installs it without the network. Returns whether that is done."""
+        status, said = self.run(self.python, "-m", "pip", "install", "--quiet", "--no-index", "--disable-pip-version-check", *words, self.path)
+        if status:
+            print(said)
+        return status == 0
+
+
+def is_for_this_library(wheel):
+    """Whether the name of a wheel says that it is for the GNU C Library of this system, if the system has that, or an older one."""
+    library = os.confstr("CS_GNU_LIBC_VERSION") if "CS_GNU_LIBC_VERSION" in os.confstr_names else None
+    named = re.search(r"-manylinux_(\d+)_(\d+)_\w+\.whl$", wheel.path)
+    if not library:
+        return not named
+    return named is not None and (2, 5) <= tuple(map(int, named.groups())) <= tuple(map(int, library.split()[1].split(".")[:2]))
+
+
+def has_module_and_programs(wheel, environment):
+    """Whether the module in a virtual environment has its library, and the programs run."""
+    said = wheel.run(wheel.python, "-c", SPLIT)[1]
+    names = "git-select", "gabrosty-diff-editor", "scm-select"
+    versions = [wheel.run(name, "--version")[1] for name in names]
+    is_split = said.startswith("accepted b'\\xff\\n' " + environment)
+    has_programs = all(version.startswith(name + " ") for name, version in zip(names, versions))
+    if not (is_split and has_programs):
+        print(said, versions)
+    return is_split and has_programs and wheel.run("git", "select", "-h")[1].startswith("usage: git-select")
+
+
+def runs_no_module_of_a_clone(wheel):
+    """Whether the programs start without the modules of the current folder, whatever PYTHONPATH says."""
+    planted = [os.path.join(wheel.folder, name + ".py") for name in ("encodings", "os", "sitecustomize", "json")]
+    for path in planted:
+        changed.write_file(path, b"import builtins\nbuiltins.open('ran', 'w')\n")
+    names = "git-select", "gabrosty-diff-editor"
+    ends = [wheel.run(name, "--version", PYTHONPATH=path)[0] for name in names for path in ("", ":", ".")]
+    is_well = not any(ends) and not os.path.exists(os.path.join(wheel.folder, "ran"))
+    for path in planted:
+        os.unlink(path)
+    return is_well
+
+
+def has_types(wheel):
+    """Whether mypy takes a program with the types of the module, and no other one. True where there is no mypy."""
+    if not shutil.which("mypy"):
+        print("skipped: the types of the module in a wheel, as there is no mypy")
+        return True
+    ends = []
+    for text in (TYPED, WITH_ANOTHER_TYPE):
+        program = os.path.join(wheel.folder, "program.py")
+        changed.write_file(program, text.encode())
+        ends.append(wheel.run("mypy", "--strict", "--python-executable", wheel.python, program))
+    run = wheel.run(wheel.python, "-c", TYPED)
+    is_well = ends[0][0] == 0 and ends[1][0] == 1 and "Argument 1 to \"side_bytes\"" in ends[1][1] and run == (0, "b'two\\n'\n")
+    if not is_well:
+        print(ends, run)
+    return is_well
+
+
+def in_a_folder(wheel):
+    """Whether the module and the programs are in a folder of their own, by `pip install --target`, and a line is staged from there."""
+    target = os.path.join(wheel.folder, "target")
+    if not wheel.install("--target", target):
+        return False
+    said = wheel.run(wheel.python, "-c", SPLIT, PYTHONPATH=target)[1]
+    root = Root([], os.path.join(wheel.folder, "in-target"), target + "/bin:" + os.environ["PATH"])
+    keys = keys_of((trying.ROOT / "tools/archive.md").read_text())
+    return said.startswith("accepted b'\\xff\\n' " + target) and has_staged(root, keys)
 
 
 def in_a_new_environment(release, folder):
-    """Makes a wheel, and installs it by pip, without the network: the module has its library, and the programs run. Skipped where there
-    is no pip."""
+    """Makes a wheel, and installs it by pip, without the network: the module has its library and its types, and the programs run, also in
+    a folder of their own. Skipped where there is no pip."""
     out, environment = os.path.join(folder, "wheel"), os.path.join(folder, "environment")
-    python, programs = os.path.join(environment, "bin/python"), os.path.join(environment, "bin")
     if subprocess.run([sys.executable, "-m", "venv", environment], stdout=subprocess.DEVNULL).returncode:
         return "no virtual environment can be made here"
     if subprocess.run([release, "--wheel", out], stdout=subprocess.DEVNULL).returncode:
         return False
-    wheel = os.path.join(out, os.listdir(out)[0])
-    variables = {**SETTINGS, "PATH": programs + ":" + os.environ["PATH"], "HOME": folder}
-    how = {"stdout": subprocess.PIPE, "stderr": subprocess.STDOUT, "text": True, "env": variables, "cwd": folder}
-    done = subprocess.run([python, "-m", "pip", "install", "--quiet", "--no-index", "--disable-pip-version-check", wheel], **how)
-    said = subprocess.run([python, "-c", SPLIT], **how).stdout
-    names = "git-select", "gabrosty-diff-editor", "scm-select"
-    versions = [subprocess.run([name, "--version"], **how).stdout for name in names]
-    helped = subprocess.run(["git", "select", "-h"], **how).stdout
-    is_split = said.startswith("accepted b'\\xff\\n' " + environment)
-    has_programs = all(version.startswith(name + " ") for name, version in zip(names, versions))
-    if not (is_split and has_programs):
-        print(done.stdout, said, versions)
-    return done.returncode == 0 and is_split and has_programs and helped.startswith("usage: git-select")
+    wheel = Wheel(os.path.join(out, os.listdir(out)[0]), environment, folder)
+    is_in_folder = in_a_folder(wheel)
+    is_installed = wheel.install() and has_module_and_programs(wheel, environment) and runs_no_module_of_a_clone(wheel)
+    return is_in_folder and is_installed and is_for_this_library(wheel) and has_types(wheel)

@@ -63,18 +63,22 @@ def split(file, old, new):
     (kind, data), (new_kind, new_data) = kind_and_data(old), kind_and_data(new)
     sides, lines, place = [lines_in(data), lines_in(new_data)], [], [0, 0]
     has_lines = any("lines" in part for _, part in parts_of(file))
+    link = next((data for kind, data in map(kind_and_data, (old, new)) if kind == "link"), None)
     for name, part in parts_of(file):
         if name == "FileMode" and part["is_checked"]:
             kind = new_kind
             data = new_data if len(file["sections"]) == 1 else data
         elif name == "Binary" and part["is_checked"]:
+            kind = new_kind if len(file["sections"]) == 1 else kind
             data = new_data
         for line in part.get("lines", ()):
             step(line, sides, place, lines)
     if has_lines:
         data = joined(lines)
-        # where lines stay, the file stays too
-        kind = kind or (kind_and_data(old)[0] or new_kind if data else None)
+        # where lines stay, the file stays too, and else what it had taken the place of
+        kinds = [it for it in (kind_and_data(old)[0], new_kind) if it not in (None, "link")]
+        kind = kinds[0] if data and kind in (None, "link") else kind
+        data = link if kind == "link" else data
     return None if kind is None else what_of(kind, data)
 
 

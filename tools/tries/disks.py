@@ -98,7 +98,7 @@ def a_full_disk(place):
             return None
         ends = [is_refused(place, folder, words) for words in WORDS]
         ends.append(is_left_by_an_editor(place, folder, ["gabrosty-diff-editor"], 1, "b cannot be written: "))
-        ends.append(is_left_by_an_editor(place, folder, ["scm-select", "-d"], 2, "right/b: "))
+        ends.append(is_left_by_an_editor(place, folder, ["scm-select", "-d"], 2, "scm-select: b: "))
         return all(ends) and is_told_half_done(place, folder)
 
 

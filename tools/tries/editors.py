@@ -273,7 +273,7 @@ def writing_that_is_killed(place):
             ends.append(place.call(*command, "--undo") == (0, "") and changed.read(output) in (old, new))
         else:
             ends.append((status, changed.read(output)) == (0, new))
-        ends.append(not any(name.startswith(".choosing-") for name in os.listdir(output)))
+        ends.append(not any(".gabrosty-" in name for name in [*os.listdir(output), *os.listdir(place.top)]))
     nothing = place.call(*command, "--finish")
     shutil.rmtree(place.temporary)
     os.mkdir(place.temporary)

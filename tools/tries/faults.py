@@ -86,6 +86,12 @@ def a_hook_that_takes_back(place):
     return is_back and is_told and repository.git("show", "HEAD:a", "HEAD:b") == "2\n3\n" and repository.is_sound()
 
 
+def has_spare(repository):
+    """Whether a plan, or a folder that keeps what comes and goes, was left in a repository."""
+    is_kept = os.path.exists(os.path.join(repository.folder, ".git", "gabrosty"))
+    return is_kept or any(name.startswith(".gabrosty-") for name in os.listdir(repository.folder))
+
+
 def points(repository, places, words, number=0, point=0):
     """Runs git select until it is about to run line `point` of `places` (see end-at), where it is sent the signal `number`. Returns
     its status, what it said, and how many of these lines it came to."""
@@ -141,7 +147,7 @@ def is_ended_well(copies, places, before, after, point):
     repository = copies.copy("term-%d" % point)
     status, said, _ = points(repository, places, copies.words, signal.SIGTERM, point)
     found = seen(repository)
-    is_left = not os.path.exists(lock_of(repository)) and ".choosing" not in "".join(os.listdir(repository.folder))
+    is_left = not os.path.exists(lock_of(repository)) and not has_spare(repository)
     is_told = found == before or found == after and "ed: a" in said or found == after and "first: a" in said
     is_right = status == -signal.SIGTERM and is_left and is_told and "Traceback" not in said
     if not is_right:
@@ -156,7 +162,7 @@ def a_signal_at_each_line(place):
     ends = []
     for words, places in (
         ([], "lock.py,git-select:write,git-select:use,ways.py:write"), (["--unstage"], "git-select:write,ways.py:write"),
-        (["--restore"], "lock.py,restore.py:write,files.py:change,files.py:spare,files.py:put,files.py:set_aside"),
+        (["--restore"], "lock.py,restore.py:write,files.py:change,spare.py:spare_for,spare.py:move_to,spare.py:take,spare.py:remove"),
         (["--commit", "-m", "x"], "lock.py,git-select:write,git-select:use,commits.py,signals.py:status_of"),
         (["--stash"], "git-select:write,restore.py:write"), (["--split", "a"], "commits.py:write"),
     ):
@@ -194,7 +200,8 @@ def a_signal_while_a_hook_runs(place):
 
 
 MEND_PLACES = (
-    "files.py:change,files.py:put,files.py:set_aside,files.py:empty,files.py:remove_spare,files.py:write_plan,"
+    "files.py:change,files.py:make_missing,files.py:prune,plans.py:empty,plans.py:made,plans.py:add,plans.py:finish,plans.py:remove,"
+    "spare.py:spare_for,spare.py:make,spare.py:begin,spare.py:take,spare.py:give,spare.py:move_to,spare.py:do,spare.py:empty,spare.py:remove,"
     "lock.py:take,lock.py:__exit__"
 )
 
@@ -221,8 +228,8 @@ def is_mended(copies, before, after, point):
         is_right = not os.remove(lock_of(repository)) and seen(repository) == before
     else:
         is_right = is_removed(repository, told, before, after)
-    names = os.listdir(repository.folder) + os.listdir(os.path.dirname(lock_of(repository)))
-    is_right = is_right and not any(name.startswith((".choosing-", "index.lock")) for name in names)
+    names = os.listdir(os.path.dirname(lock_of(repository)))
+    is_right = is_right and not has_spare(repository) and not any(name.startswith("index.lock") for name in names)
     if not is_right:
         print("KILL at %d: %s" % (point, told))
     shutil.rmtree(repository.folder)
@@ -246,19 +253,21 @@ def a_mending_that_is_killed(place):
     old, new = {"a": b"1\n", "b/c": b"1\n", "d": b"1\n", "gone/x": b"1\n"}, {"a": b"2\n", "b/c": b"2\n", "d": b"2\n"}
     copies = Copies(place, ["--restore"], old, new)
     before, after, _ = copies.ends(MEND_PLACES)
+    cut_places = "spare.py:take,spare.py:move_to"
+
+    def cut(name, at):
+        # a plan is for the folder that it was made for, and for no copy of that
+        repository = copies.copy(name)
+        points(repository, cut_places, ["--restore"], signal.SIGKILL, at)
+        return repository
+
     # the first point at which two files are written
-    for point in range(40, 200):
-        cut = copies.copy("cut")
-        points(cut, MEND_PLACES, ["--restore"], signal.SIGKILL, point)
-        if "with 2 of 4 files written" in select(cut)[1]:
-            break
-        shutil.rmtree(cut.folder)
-    copies.first = cut
-    places = "cut_off.py:finish,cut_off.py:undo,cut_off.py:give_back,cut_off.py:take_away,cut_off.py:removed,files.py:empty"
+    at = next(at for at in range(1, 99) if "with 2 of 4 files written" in select(cut("cut-%d" % at, at))[1])
+    places = "cut_off.py:finish,cut_off.py:undo,spare.py:take,spare.py:give,spare.py:move_to,spare.py:remove,spare.py:empty,files.py:prune"
     ends = []
     for way, wanted in ("--undo", before), ("--finish", after):
         def attempt(point):
-            repository = copies.copy("mend-%d" % point)
+            repository = cut("mend-%d" % point, at)
             points(repository, places, [way], signal.SIGKILL, point)
             if select(repository, way)[0]:
                 # nothing but the lock may be left
@@ -267,7 +276,7 @@ def a_mending_that_is_killed(place):
             shutil.rmtree(repository.folder)
             return is_right
 
-        count = points(copies.copy("whole" + way), places, [way])[2]
+        count = points(cut("whole" + way, at), places, [way])[2]
         ends.append(count > 20 and copies.each(attempt, count))
     shutil.rmtree(place.temporary)
     os.mkdir(place.temporary)
@@ -298,14 +307,12 @@ def what_changed_since_it_was_cut_off(place):
 
 def cut_at(place, repository, point):
     """Cuts a restore off, and returns the files that are there then, in the repository as it was before."""
-    for name in os.listdir(repository.folder):
-        if name.startswith(".choosing-"):
-            shutil.rmtree(os.path.join(repository.folder, name))
+    shutil.rmtree(os.path.join(repository.folder, ".git", "gabrosty"), ignore_errors=True)
     if os.path.exists(lock_of(repository)):
         os.unlink(lock_of(repository))
     changed.write(repository.folder, {"a": b"2\n", "b": b"2\n"})
-    points(repository, "files.py:change,files.py:put", ["--restore"], signal.SIGKILL, point)
-    return {path: what for path, what in repository.files().items() if not path.startswith(".choosing-")}
+    points(repository, "files.py:change,spare.py:take,spare.py:move_to", ["--restore"], signal.SIGKILL, point)
+    return repository.files()
 
 
 def a_race_for_the_index(place):
@@ -411,8 +418,8 @@ def a_fifo(place):
 
 
 NOTES = {
-    "bytes": "binary", "gone": "deleted, +0 -2", "link": "link", "mode": "mode", "mode+": "mode, +1 -1",
-    "new": "new, +3 -0", "empty": "new", "moved": "renamed", "moved+": "renamed, +1 -1", "text": "+2 -1", "no end": "+1 -1",
+    "bytes": "binary, 2 bytes, %s", "gone": "deleted, +0 -2", "link": "link to b", "mode": "mode", "mode+": "mode, +1 -1",
+    "new": "new, +3 -0", "empty": "new", "moved": "renamed from from", "moved+": "renamed from from+, +1 -1", "text": "+2 -1", "no end": "+1 -1",
     "latin": "+1 -1",
 }
 
@@ -431,7 +438,7 @@ def what_each_file_is(place):
         "empty": b"",
     }
     repository = Repository(place, old, new)
-    state, script = os.path.join(place.top, "state"), os.path.join(place.top, "keep")
+    state, script = os.path.join(place.top, "shown"), os.path.join(place.top, "keep")
     changed.write_file(script, b'#!/bin/sh\nscm-select --json --changes "$2" "$STATE"\nexit 1\n')
     os.chmod(script, 0o755)
     repository.select(keys=["c"], SELECT=script, STATE=state)
@@ -440,7 +447,8 @@ def what_each_file_is(place):
     found = dict(file["path"].split("\N{NO-BREAK SPACE}") for file in files)
     renamed = {file["path"].split("\N{NO-BREAK SPACE}")[0]: file["old_path"] for file in files if file["old_path"]}
     is_renamed = renamed == {"moved": "from", "moved+": "from+"}
-    return found == {path: "(%s)" % words for path, words in NOTES.items()} and is_renamed and repository.is_sound()
+    notes = {**NOTES, "bytes": NOTES["bytes"] % repository.git("hash-object", "bytes")[:10]}
+    return found == {path: "(%s)" % words for path, words in notes.items()} and is_renamed and repository.is_sound()
 
 
 def each_byte(place):

@@ -83,6 +83,78 @@ def a_stash_that_cannot_be_taken(place):
     return is_named and is_left and repository.is_sound()
 
 
+def thirty(**lines):
+    """Returns a text of the numbers from 1 to 30, of which those that are named are followed by a word."""
+    return b"".join(b"%d%s\n" % (number, lines.get("line%d" % number, b"")) for number in range(1, 31))
+
+
+def a_stash_beside_staged_lines(place):
+    """A line is staged, and another one of the same file is stashed: `git stash pop` brings that one alone, also once the staged one
+    is committed, or gone. So it is in a file that is new in the index, and in one that git has renamed there."""
+    both, staged, marked = thirty(line5=b" staged", line25=b" marked"), thirty(line5=b" staged"), thirty(line25=b" marked")
+    ends = []
+    steps = {
+        (): both, ("commit", "--quiet", "--message=staged"): both, ("reset", "--quiet", "--hard"): marked,
+        ("commit", "--quiet", "--allow-empty", "--only", "--message=other"): both,
+    }
+    for step, words in ((step, words) for step in steps for words in (["pop"], ["pop", "--index"])):
+        repository = Repository(place, {"a": thirty(), "b": b"1\n"}, {"a": staged, "b": b"2\n"})
+        repository.git("add", "--all")
+        changed.write(repository.folder, {"a": both, "b": b"2\n"})
+        said = repository.select("--stash", keys=["a", "c"])
+        is_stashed = said[0] == 0 and "git stash pop has it back\n" in said[1] and repository.files()["a"] == staged
+        lines = [line for line in repository.git("stash", "show", "-p").splitlines() if line[:1] in "+-"]
+        is_stashed = is_stashed and lines[2:] == ["-25", "+25 marked"] and "-5" not in lines
+        if step:
+            repository.git(*step)
+        index = repository.index()
+        repository.git("stash", *words)
+        is_back = repository.files()["a"] == steps[step] and repository.index() == index
+        ends.append(is_stashed and is_back and repository.is_sound())
+    return all(ends) and staged_paths_in_a_stash(place)
+
+
+def staged_paths_in_a_stash(place):
+    """Whether lines of a file that is new in the index, and of one that is renamed there, are stashed and had back."""
+    repository = Repository(place, {"old": thirty()}, {"new": thirty(), "more": thirty()})
+    repository.git("add", "--all")
+    index, wanted = repository.index(), {"new": thirty(line25=b" marked"), "more": thirty(line5=b" marked")}
+    changed.write(repository.folder, wanted)
+    status, said = repository.select("--stash", keys=["a", "c"])
+    is_stashed = status == 0 and repository.files() == {"new": thirty(), "more": thirty()} and "git stash pop has it back\n" in said
+    repository.git("stash", "apply", "--quiet")
+    is_back = repository.files() == wanted and repository.index() == index
+    repository.git("reset", "--quiet", "--hard")
+    repository.git("stash", "branch", "later")
+    is_back = is_back and repository.files() == wanted and repository.index() == index
+    is_begun = log(repository, "%s", "HEAD^").endswith("base\n") and log(repository, "%s", "-1").startswith("index on ")
+    return is_stashed and is_back and is_begun and not repository.git("stash", "list") and repository.is_sound()
+
+
+def the_way_back_that_is_said(place):
+    """What is said of how a stash is had back is so: by the command that is named, where another part of the file stays changed, or
+    by what the file was, where its other lines are in the way."""
+    new = thirty(line5=b" first", line25=b" second")
+    ends = []
+    for below in "", "c":
+        repository = Repository(place, {"a": thirty(), "c/d": b"1\n"}, {"a": new, "c/d": b"1\n"})
+        folder = os.path.join(repository.folder, below)
+        # the first section
+        status, said = repository.select("--stash", keys=["shift-F", "j", "space", "c"], folder=folder)
+        is_stashed = status == 0 and repository.files()["a"] == thirty(line25=b" second") and "pop has it" not in said
+        command, = (line for line in said.splitlines() if line.endswith(" has it back"))
+        done = place.call("sh", "-c", command.removesuffix(" has it back"), folder=folder)
+        ends.append(is_stashed and done == (0, "") and repository.files()["a"] == new and repository.is_sound())
+    # of two lines that are one section the first one, with its old line
+    new = thirty(line5=b" first", line6=b" second")
+    repository = Repository(place, {"a": thirty()}, {"a": new})
+    status, said = repository.select("--stash", keys=["shift-F", "j", "j", "space", "j", "space", "c"])
+    is_kept = status == 0 and repository.files()["a"] == thirty(line6=b" second") and "has it back" not in said
+    name, = (line.split()[1] for line in said.splitlines() if line.startswith("kept: "))
+    is_kept = is_kept and "to have a file as it was before: git cat-file blob %s > FILE" % name in said
+    return all(ends) and is_kept and repository.git("cat-file", "blob", name).encode() == new and repository.is_sound()
+
+
 def in_two_commits(place):
     """The last commit becomes two: what is chosen comes first, and the second has the files of the last one. Index and working tree
     stay, and so does the author."""
@@ -158,6 +230,6 @@ def a_renamed_file(place):
 
 
 ALL = (
-    to_the_last_commit, as_a_fixup, in_a_stash, a_stash_that_cannot_be_taken, in_two_commits, the_first_commit_in_two,
-    a_renamed_file,
+    to_the_last_commit, as_a_fixup, in_a_stash, a_stash_that_cannot_be_taken, a_stash_beside_staged_lines,
+    the_way_back_that_is_said, in_two_commits, the_first_commit_in_two, a_renamed_file,
 )

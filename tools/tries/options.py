@@ -79,7 +79,7 @@ def edit_folders(place, old, new):
         left, right = place.folder("left", old), place.folder("right", new)
         found = place.type(["gabrosty-diff-editor", left, right], keys)[0], changed.read(right), changed.read(left)
         ends.append(found == (status, wanted, old))
-    return all(ends) and place.has_left_nothing() and sorted(os.listdir(place.top)) == ["left", "right", "temporary"]
+    return all(ends) and place.has_left_nothing() and place.has_only("left", "right")
 
 
 ALL = stage_all, stage_nothing, unstage_all, restore_all, commit_all, edit_folders

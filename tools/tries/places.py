@@ -22,7 +22,9 @@ class Place:
         self.top = tempfile.mkdtemp(prefix="try-tools-")
         self.temporary = self.folder("temporary")
         folders = os.path.join(prefix, "bin") + os.pathsep + (path or os.environ["PATH"])
-        self.environment = {**SETTINGS, "PYTHONDONTWRITEBYTECODE": "1", "PATH": folders, "TMPDIR": self.temporary}
+        self.state = self.folder("state")
+        own = {"PATH": folders, "TMPDIR": self.temporary, "XDG_STATE_HOME": self.state}
+        self.environment = {**SETTINGS, "PYTHONDONTWRITEBYTECODE": "1", **own}
         self.head = ["env", "-i", *("%s=%s" % it for it in self.environment.items())] if path else []
 
     def folder(self, name, files=()):
@@ -48,8 +50,14 @@ class Place:
         done = subprocess.run(command, input=given, cwd=folder or self.top, env=environment, **how)
         return done.returncode, os.fsdecode(done.stdout)
 
+    def has_only(self, *names):
+        """Whether the folder has just these names beside the folders that each place has."""
+        return set(os.listdir(self.top)) - {os.path.basename(it) for it in (self.temporary, self.state)} == set(names)
+
     def has_left_nothing(self):
-        return not os.listdir(self.temporary)
+        """Whether no temporary file and no plan was left."""
+        plans = os.path.join(self.state, "gabrosty")
+        return not os.listdir(self.temporary) and not (os.path.exists(plans) and os.listdir(plans))
 
     def forget_marks(self):
         """Removes the marks that were kept where something was refused."""

@@ -49,7 +49,8 @@ def libraries_side_by_side(place):
     top = place.folder("repository", {**sources, "crates.txt": CRATES, "out/proving-left/crates/a/src/lib.rt": b""})
     programs = place.folder("programs", {"rt": ("run", RT)})
     os.mkdir(os.path.join(top, "tools"))
-    shutil.copy(trying.ROOT / "tools/prove-libraries", os.path.join(top, "tools"))
+    for script in ("prove-libraries", "crates.py"):
+        shutil.copy(trying.ROOT / "tools" / script, os.path.join(top, "tools"))
     status, said, lines = call(place, "d", fails="c")
     is_stopped = status == 1 and "the last line of c\n" in said and "c is not proved" in said and "begin d " not in lines
     status, said, lines = call(place, "d")

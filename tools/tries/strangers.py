@@ -1,0 +1,553 @@
+"""The programs where a clone, a folder or another user is hostile, and where a cleanup fails, for tools/try-tools."""
+import contextlib
+import json
+import os
+import resource
+import shutil
+import signal
+import stat
+import subprocess
+import sys
+import time
+
+import changed
+from choosing.folders import remove_folder
+from disks import disk
+from faults import ACCEPTS, END_AT, HERE, lock_of, points, select
+from places import Repository
+
+EDITOR = "gabrosty-diff-editor"
+FAIL_AT = os.path.join(HERE, "fail-at")
+NOBODY = 65534
+EMPTY = "e3b0c44298fc1c149afbf4c8996fb92427ae41e4649b934ca495991b7852b855"
+SPARE = r"\.gabrosty-.*"
+OLD, NEW = {"a": b"1\n", "b": b"1\n"}, {"a": b"2\n", "b": b"2\n"}
+# what leads out of the folder, to git's or jj's own, or nowhere
+REFUSED = (
+    "../outside", "/outside", "a/../../outside", "./a", "a//b", "a/", "", "a\0b", ".git/hooks/pre-commit", "b/.git/hooks/x", ".GIT/hooks/x",
+    ".Git", "git~1/hooks/x", "GIT~1", ".git./x", ".git /x", ".git . ./x", ".git::$INDEX_ALLOCATION/hooks/x", ".git:x", "a\\.git\\x",
+    ".git\\hooks", ".g\u200cit/x", ".\ufeffgit/x", ".gi\u202et", ".jj/repo", ".JJ", "jj~1/x", ".j\u206aj",
+)
+
+
+def editor(place, *words, **more):
+    """Runs the diff editor, where all is marked and accepted without a terminal. Returns its status, and all that it wrote."""
+    environment = {**os.environ, **place.environment, **ACCEPTS, **more}
+    how = {"stdout": subprocess.PIPE, "stderr": subprocess.STDOUT, "stdin": subprocess.DEVNULL, "timeout": 120}
+    done = subprocess.run([EDITOR, *words], cwd=place.top, env=environment, start_new_session=True, **how)
+    return done.returncode, os.fsdecode(done.stdout)
+
+
+def plan_of_a_clone(path):
+    """Returns a folder that says of a file that it is to be put at `path`."""
+    sides = ["000000", EMPTY], ["100755", EMPTY]
+    return {"plan": json.dumps([[path, *sides]]).encode(), "new-0": ("run", b"#!/bin/sh\ntouch ran\n"), "note": b"mine\n"}
+
+
+def a_clone_with_a_plan(place):
+    """A repository tracks folders like those that keep what comes and goes. They are files like others: nothing is obeyed, and
+    nothing in them is removed."""
+    planted = {}
+    for number, path in enumerate((".git/hooks/pre-commit", "../outside", "c")):
+        for folder in ".choosing-%d" % (number + 7), ".gabrosty-%032x" % number, "gabrosty/%d" % number:
+            planted.update(("%s/%s" % (folder, name), what) for name, what in plan_of_a_clone(path).items())
+    repository = Repository(place, {**planted, "a": b"1\n"}, {**planted, "a": b"2\n"})
+    mends = [select(repository, way) for way in ("--finish", "--undo")]
+    is_none = mends == [(1, "git-select: there is no restore that was cut off\n")] * 2
+    ends = [select(repository, *words)[0] for words in (["--restore"], [], ["--commit", "-m", "x", "--", "a"])]
+    is_left = repository.files() == {**planted, "a": b"1\n"} and not os.path.exists(os.path.join(place.top, "outside"))
+    hooks = os.listdir(os.path.join(repository.folder, ".git", "hooks"))
+    return is_none and ends == [0, 0, 0] and is_left and "pre-commit" not in hooks and repository.is_sound()
+
+
+def a_folder_with_a_plan(place):
+    """Such folders in RIGHT are files like others of the diff editor, which are shown, and written as the user chooses."""
+    planted = {".choosing-7/" + name: what for name, what in plan_of_a_clone("../victim").items()}
+    left, right = place.folder("left", {"a": b"1\n"}), place.folder("right", {"a": b"2\n", **planted})
+    mends = [editor(place, left, right, way) for way in ("--finish", "--undo")]
+    is_none = mends == [(1, EDITOR + ": there is no writing that was cut off\n")] * 2 and changed.read(right) == {"a": b"2\n", **planted}
+    is_shown = editor(place, left, right, "--dry-run")[1] == "would write nothing\n"
+    status, _ = place.type([EDITOR, left, right], ["c"])
+    return is_none and is_shown and (status, changed.read(right)) == (0, {"a": b"1\n"}) and not os.path.exists(place.top + "/victim")
+
+
+def cut_off(repository, words=("--restore",), wanted="with 1 of "):
+    """Kills git select between two files, and returns the paths of its plan and of the folder that keeps what comes and goes."""
+    places = "files.py:make_missing,spare.py:take,spare.py:move_to"
+    for point in range(1, 99):
+        before = repository.files()
+        points(repository, places, list(words), signal.SIGKILL, point)
+        if wanted in select(repository)[1]:
+            break
+        shutil.rmtree(os.path.join(repository.folder, ".git", "gabrosty"), ignore_errors=True)
+        with contextlib.suppress(FileNotFoundError):
+            os.unlink(lock_of(repository))
+        changed.write(repository.folder, before)
+    at = os.path.join(repository.folder, ".git", "gabrosty")
+    names = sorted(os.listdir(at), key=lambda name: name.startswith("."))
+    return [os.path.join(at, name) for name in names]
+
+
+def clear(place):
+    """Removes what a killed program leaves in the folder for temporary files."""
+    shutil.rmtree(place.temporary)
+    os.mkdir(place.temporary)
+
+
+def read_lines(path):
+    with open(path) as file:
+        return [json.loads(line) for line in file]
+
+
+def written(path, lines):
+    text = lines if isinstance(lines, str) else "".join(json.dumps(line) + "\n" for line in lines)
+    changed.write_file(path, text.encode())
+
+
+def plans_that_do_not_fit(first, second):
+    """Yields the plans that do not fit, made of the lines of one that does. """
+    inode, entries = second
+    for path in REFUSED:
+        yield [first, [inode, [*entries, [path, *entries[0][1:]]]]]
+    path, old, new = entries[0]
+    sides = [], ["100644"], ["104755", old[1]], ["100644", old[1][1:]], ["000000", old[1]], [old[1], "100644"], [1, 2], "x", None
+    for side in (*sides, ["040000", EMPTY]):
+        yield [first, [inode, [[path, side, new], *entries[1:]]]]
+        yield [first, [inode, [[path, old, side], *entries[1:]]]]
+    lists = [[]], [["a", [], []]], [*entries, entries[0]], {}
+    for line in ([], {}, None, [inode], ["1", entries], [True, entries], *([inode, entries] for entries in lists), "x"):
+        yield [first, line]
+    yield from ([[*first[:place], 7, *first[place + 1 :]], second] for place in (0, 2, 3, 4))
+    yield from ([[*first[:3], name, first[4]], second] for name in ("..", "a", "../x", ".git"))
+    yield from ([line, second] for line in ([], {}, None, [1] * 9))
+    yield from ("[" * 100_000 + "\n", "{\n", "\0\n", '[["a",[],[]]]\n', "\n")
+    yield [first, second, second]
+
+
+def plans_that_are_malformed(place):
+    """A plan with a path that leads out, with git's own, or with anything that does not fit is named in one sentence, and nothing
+    is touched."""
+    repository = Repository(place, OLD, NEW)
+    plan, spare = cut_off(repository)
+    lines, before, kept = read_lines(plan), repository.files(), changed.read(spare)
+    ends = []
+    for number, other in enumerate(plans_that_do_not_fit(*lines)):
+        written(plan, other)
+        words = (["--undo"], ["--finish"], [])[number % 3]
+        status, said = select(repository, *words)
+        is_named = status == 1 and said.count("\n") == 1 and said.startswith("git-select: %s is no plan that can be" % plan)
+        ends.append(is_named and (repository.files(), changed.read(spare)) == (before, kept))
+        if not ends[-1]:
+            print("%.100r: %s" % (other, said))
+    written(plan, lines)
+    is_undone = select(repository, "--undo") == (0, "as it was: a\nas it was: b\n") and repository.files() == NEW
+    clear(place)
+    return all(ends) and len(ends) > 70 and is_undone and repository.is_sound()
+
+
+def what_is_kept_and_changed(place):
+    """What is kept, or is at a path, is compared with the plan before anything is moved: also a folder that is a link by then."""
+    old, new = {"a": b"1\n", "b/c": b"1\n"}, {"a": b"2\n", "b/c": b"2\n"}
+    repository = Repository(place, old, new)
+    outside = place.folder("outside", {"c": b"2\n"})
+    _, spare = cut_off(repository)
+    before, ends = repository.files(), []
+    for name in ("old-0", "new-1"):
+        kept = changed.read_file(os.path.join(spare, name))
+        for other in (kept + b"x", ("link", "/etc/passwd")):
+            changed.write(os.path.join(spare), {**changed.read(spare), name: other})
+            ends += [select(repository, way) for way in ("--undo", "--finish")]
+        changed.write(spare, {**changed.read(spare), name: kept})
+    is_named = all(status == 1 and "git-select: what is kept for " in said and said.count("\n") == 1 for status, said in ends)
+    is_left = repository.files() == before
+    changed.write(repository.folder, {"a": before["a"], "b": ("link", outside)})
+    links = [select(repository, way) for way in ("--undo", "--finish")]
+    is_named = is_named and links == [(1, "git-select: b/c changed since\n")] * 2 and changed.read(outside) == {"c": b"2\n"}
+    changed.write(repository.folder, before)
+    is_done = select(repository, "--finish")[0] == 0 and repository.files() == old
+    clear(place)
+    return is_named and is_left and is_done and repository.is_sound()
+
+
+def a_plan_that_fits_to_nothing(place):
+    """Where the folder of a plan is gone, or is another one, the plan stops nothing, and the folder is not touched."""
+    repository = Repository(place, OLD, NEW)
+    plan, spare = cut_off(repository)
+    os.unlink(lock_of(repository))
+    lines, ends = read_lines(plan), []
+    for first, second in (([*lines[0][:4], "0" * 32], lines[1]), (lines[0], [lines[1][0] + 1, lines[1][1]])):
+        written(plan, [first, second])
+        ends.append(select(repository, "--undo") == (1, "git-select: there is no restore that was cut off\n"))
+    kept = changed.read(spare)
+    changed.write(repository.folder, NEW)
+    is_staged = select(repository)[0] == 0 and repository.index_files() == NEW
+    clear(place)
+    return all(ends) and is_staged and changed.read(spare) == kept and repository.is_sound()
+
+
+def what_another_user_left(place):
+    """Another user's folders stop nothing, and where plans are kept they are refused before the screen opens. Skipped without the
+    rights to make them."""
+    if os.geteuid():
+        return "that needs another user"
+    left, right = place.folder("left", {"a": b"1\n"}), place.folder("right", {"a": b"2\n", ".choosing-5/x": b"1\n"})
+    os.chown(os.path.join(right, ".choosing-5"), NOBODY, NOBODY)
+    is_done = place.type([EDITOR, left, right], ["c"])[0] == 0 and changed.read(right) == {"a": b"1\n"}
+    repository = Repository(place, OLD, {"a": b"2\n", "b": b"1\n"})
+    kept = os.path.join(place.state, "gabrosty"), os.path.join(repository.folder, ".git", "gabrosty")
+    for folder in kept:
+        os.makedirs(folder, exist_ok=True)
+        os.chown(folder, NOBODY, NOBODY)
+    changed.write(right, {"a": b"2\n"})
+    words = "%s: no plan can be kept in %s: it is no folder that you alone may write to"
+    is_refused = editor(place, left, right) == (1, words % (EDITOR, kept[0]) + "; XDG_STATE_HOME names another folder\n")
+    is_refused = is_refused and editor(place, left, right, "--dry-run")[0] == 0 and changed.read(right) == {"a": b"2\n"}
+    ends = [select(repository, *way) for way in (["--restore"], ["--stash"])]
+    is_refused = is_refused and ends == [(1, words % ("git-select", kept[1]) + "\n")] * 2
+    return is_done and is_refused and select(repository)[0] == 0 and repository.is_sound()
+
+
+def where_no_plan_can_be_kept(place):
+    """The diff editor names the folder and the variable before the screen opens. A link in its place is not followed."""
+    left, right = place.folder("left", {"a": b"1\n"}), place.folder("right", {"a": b"2\n"})
+    state, outside = place.folder("other state"), place.folder("outside")
+    os.symlink(outside, os.path.join(state, "gabrosty"))
+    ends = [editor(place, left, right, XDG_STATE_HOME=where) for where in (os.devnull, state)]
+    named = ["%s: no plan can be kept in %s/gabrosty: " % (EDITOR, where) for where in (os.devnull, state)]
+    end = "; XDG_STATE_HOME names another folder\n"
+    is_named = all(said.startswith(words) and said.endswith(end) for (_, said), words in zip(ends, named))
+    return is_named and changed.read(right) == {"a": b"2\n"} and not os.listdir(outside)
+
+
+def bits_that_set_a_user(place):
+    """A file that is written is never run with another user's rights."""
+    ends = []
+    for bits in (0o4755, 0o2755, 0o6711, 0o1777):
+        left, right = place.folder("left", {"a": ("run", b"1\n")}), place.folder("right", {"a": ("run", b"2\n")})
+        os.chmod(os.path.join(right, "a"), bits)
+        ends.append(place.type([EDITOR, left, right], ["c"])[0] == 0)
+        repository = Repository(place, {"a": ("run", b"1\n")}, {"a": ("run", b"2\n")})
+        os.chmod(os.path.join(repository.folder, "a"), bits)
+        ends.append(select(repository, "--restore")[0] == 0)
+        for folder in (right, repository.folder):
+            found = os.stat(os.path.join(folder, "a"))
+            ends.append(stat.S_IMODE(found.st_mode) == bits & 0o777 and changed.read(folder) == {"a": ("run", b"1\n")})
+        shutil.rmtree(repository.folder)
+    return all(ends)
+
+
+def permissions_of_new_files(place):
+    """A new file has no more permissions than what it is made of. Its owner may read and write it."""
+    ends = []
+    for bits, wanted in ((0o600, 0o600), (0o640, 0o640), (0o444, 0o644), (0o700, 0o700)):
+        left, right = place.folder("left", {"a": b"1\n", "b": b"1\n"}), place.folder("right", {"a": b"2\n"})
+        output = place.folder("output")
+        for folder, name in ((left, "b"), (right, "a")):
+            os.chmod(os.path.join(folder, name), bits)
+        changed.write(output, {})
+        ends.append(place.type([EDITOR, "-o", output, left, right], ["space", "c"])[0] == 0)
+        ends.append(place.type([EDITOR, left, right], ["space", "c"])[0] == 0)
+        found = [os.stat(path).st_mode & 0o7777 for path in (output + "/a", output + "/b", right + "/b")]
+        ends.append(found == [wanted] * 3)
+        single = os.path.join(output, "single")
+        ends.append(editor(place, "-o", single, left + "/b", right + "/a")[0] == 0 and os.stat(single).st_mode & 0o777 == wanted)
+    return all(ends)
+
+
+# reads a file where os.stat says that it is what another one is
+READS = """
+import os, sys
+sys.path.insert(0, os.path.join(sys.argv[1], "lib/gabrosty"))
+from choosing import files, words
+real = os.stat
+if sys.argv[4:]:
+    os.stat = lambda name, **more: real(sys.argv[4])
+try:
+    print(files.Files(sys.argv[2]).read(sys.argv[3]))
+except words.Stop as stop:
+    print(stop)
+"""
+
+
+def read_by(place, *words):
+    command = [sys.executable, "-c", READS, place.prefix, *words]
+    try:
+        return subprocess.run(command, stdout=subprocess.PIPE, timeout=20, text=True).stdout
+    except subprocess.TimeoutExpired:
+        return "it hangs"
+
+
+def what_becomes_a_fifo(place):
+    """A FIFO that takes the place of a file between the look and the reading is no file, and nothing waits for it. A file that
+    has more bytes than it had, and one that is too large, are named."""
+    folder = place.folder("folder", {"a": b"1\n"})
+    os.mkfifo(os.path.join(folder, "pipe"))
+    is_absent = read_by(place, folder, "pipe", os.path.join(folder, "a")) == "(('000000', b''), None)\n"
+    # its size is 0 at each time
+    grows = read_by(place, "/proc/self", "status") if os.path.exists("/proc/self/status") else None
+    is_named = grows in (None, "status cannot be read: it changes while it is read\n")
+    changed.write_file(os.path.join(folder, "large"), b"")
+    os.truncate(os.path.join(folder, "large"), 1_000_000_001)
+    is_large = read_by(place, folder, "large") == "large cannot be read: it has more than 1,000,000,000 bytes\n"
+    left = place.folder("left", {"a": b"2\n"})
+    os.unlink(os.path.join(folder, "pipe"))
+    status, said = editor(place, left, folder, "--dry-run")
+    is_out = status == 0 and "large is left out: it has more than 1,000,000,000 bytes\n" in said
+    return is_absent and is_named and is_large and is_out
+
+
+def deep_file(top, depth, data):
+    """Makes a file that lies `depth` folders deep. Returns its path below `top`."""
+    path = top
+    for _ in range(depth):
+        path += "/d"
+        if not os.path.isdir(path):
+            os.mkdir(path)
+    changed.write_file(path + "/a", data)
+    return os.path.relpath(path + "/a", top)
+
+
+def a_deep_folder(place):
+    """1,500 folders in one another, where 1,024 files may be open."""
+    before = resource.getrlimit(resource.RLIMIT_NOFILE)
+    left, right, repository = place.folder("left"), place.folder("right"), Repository(place, {"a": b"1\n"}, {"a": b"1\n"})
+    path = deep_file(left, 1500, b"1\n")
+    deep_file(right, 1500, b"2\n")
+    deep_file(repository.folder, 1500, b"1\n")
+    repository.commit()
+    deep_file(repository.folder, 1500, b"2\n")
+    limit = ["sh", "-c", 'ulimit -n %d; exec "$@"' % min(1024, before[1]), "sh"]
+    status, said = place.type([*limit, EDITOR, left, right], ["c"])
+    is_written = (status, said) == (0, "") and changed.read_file(os.path.join(right, path)) == b"1\n"
+    status, said = place.type([*limit, "git", "select", "--restore"], ["a", "c"], repository.folder)
+    is_restored = status == 0 and "Traceback" not in said and changed.read_file(os.path.join(repository.folder, path)) == b"1\n"
+    is_left = place.has_left_nothing()
+    for folder in (left, right, repository.folder):
+        remove_folder(folder)
+    return is_written and is_restored and is_left
+
+
+def names_of_git_on_other_disks(place):
+    """What a disk that folds names takes for git's own folder is left out by name, also with --output."""
+    hook, names = ("run", b"#!/bin/sh\ntouch ran\n"), (".GIT", "git~1", ".git ", ".g\u200cit", ".jJ")
+    planted = {name + "/hooks/pre-commit": hook for name in names}
+    left, right = place.folder("left", {"a": b"1\n"}), place.folder("right", {"a": b"2\n", **planted, "d/.Git": b"x\n"})
+    repository = Repository(place, {"a": b"1\n"}, {"a": b"1\n"}, "output")
+    ends = []
+    for words in (["--output", repository.folder], []):
+        status, said = editor(place, *words, left, right)
+        words = "%s: %s is left out: git or jj keeps that for itself, on some disks"
+        lines = [words % (EDITOR, name) for name in (".GIT", "git~1", "d/.Git", ".jJ")]
+        ends.append(status == 0 and all(line + "\n" in said for line in lines) and said.count("is left out") == 6)
+    return all(ends) and repository.files() == {"a": b"2\n"} and changed.read(right) == {"a": b"2\n", **planted, "d/.Git": b"x\n"}
+
+
+def failing(place, folder, failure, program, *words):
+    """Runs a program in which a function of the system fails (see fail-at). Returns its status, and all that it wrote."""
+    environment = {**os.environ, **place.environment, **ACCEPTS}
+    how = {"stdout": subprocess.PIPE, "stderr": subprocess.STDOUT, "stdin": subprocess.DEVNULL, "timeout": 120}
+    command = [FAIL_AT, *failure, os.path.join(place.prefix, "bin", program), *words]
+    done = subprocess.run(command, cwd=folder, env=environment, start_new_session=True, **how)
+    return done.returncode, os.fsdecode(done.stdout)
+
+
+def a_spare_folder_that_stays(place):
+    """Where all is written, and what was kept meanwhile cannot be removed, that is said, and the rest stays: a stash too."""
+    ends = []
+    for failure, words in (
+        (("rmdir", SPARE, "ENOTEMPTY"), "stays: Directory not empty\n"), (("unlink", "old-0", "EIO"), "stays: Input/output error\n"),
+        (("unlink", ".*[.]done", "EIO"), "stays: Input/output error\n"), (("rename", ".*[.]plan", "EIO"), "stays: Input/output error\n"),
+    ):
+        for way in "--stash", "--restore":
+            repository = Repository(place, {"a": b"1\n"}, {"a": b"2\n"})
+            status, said = failing(place, repository.folder, failure, "git-select", way)
+            ends.append(status == 0 and words in said and "nothing was" not in said and repository.files() == {"a": b"1\n"})
+            ends.append(len(repository.git("stash", "list").splitlines()) == (way == "--stash") and not os.path.exists(lock_of(repository)))
+            remove_folder(repository.folder)
+        left, right = place.folder("left", {"a": b"1\n"}), place.folder("right", {"a": b"2\n"})
+        status, said = failing(place, place.top, failure, EDITOR, "--output", right, right, left)
+        ends.append(status == 0 and words in said and "nothing was" not in said and changed.read(right) == {"a": b"1\n"})
+        shutil.rmtree(os.path.join(place.state, "gabrosty"))
+        if not all(ends):
+            print(failure, said)
+    return all(ends) and place.has_left_nothing()
+
+
+def a_folder_that_others_write_into(place):
+    """What someone puts into the folder that keeps what comes and goes is not removed, and stops nothing later."""
+    repository = Repository(place, OLD, NEW)
+    _, spare = cut_off(repository)
+    changed.write_file(os.path.join(spare, "note"), b"mine\n")
+    status, said = select(repository, "--undo")
+    is_said = status == 0 and said.endswith("%s stays: Directory not empty\n" % spare) and repository.files() == NEW
+    is_left = changed.read(spare) == {"note": b"mine\n"} and select(repository)[0] == 0
+    clear(place)
+    return is_said and is_left and repository.is_sound()
+
+
+def two_files_that_are_cut_off(place):
+    """Killed between the two renames, RIGHT is gone: the next call says what was cut off, and finishes or undoes it."""
+    left, right = os.path.join(place.folder("left", {"r": b"1\n"}), "r"), os.path.join(place.folder("right", {"r": b"2\n"}), "r")
+    count, program = os.path.join(place.top, "count"), os.path.join(place.prefix, "bin", EDITOR)
+    how = {"stdout": subprocess.DEVNULL, "stderr": subprocess.DEVNULL, "stdin": subprocess.DEVNULL, "start_new_session": True}
+    ends = []
+    for way, wanted in (("--undo", b"2\n"), ("--finish", b"1\n")):
+        for point in range(1, 40):
+            changed.write_file(right, b"2\n")
+            words = [END_AT, "spare.py:take,spare.py:move_to", str(int(signal.SIGKILL)), str(point), count, program, "-o", right, right, left]
+            subprocess.run(words, env={**os.environ, **place.environment, **ACCEPTS}, **how)
+            if not os.path.exists(right):
+                break
+            place.call(EDITOR, "-o", right, right, left, "--undo")
+        said = place.call(EDITOR, right, right)[1], place.call(EDITOR, left, right)[1]
+        ends += ["writing was cut off, with 0 of 1 file written (" in words for words in said]
+        ends.append(place.call(EDITOR, left, right, way)[0] == 0 and changed.read(os.path.dirname(right)) == {"r": wanted})
+    clear(place)
+    return all(ends)
+
+
+def a_lock_that_is_killed(place):
+    """Killed while the new index is written, the lock is named by the next run, and --undo removes it."""
+    repository, ends = Repository(place, {"a": b"1\n"}, {"a": b"2\n"}), []
+    before, after = repository.index(), repository.index_of("add", "--all")
+    for point in range(1, 30):
+        repository.git("reset", "--quiet")
+        points(repository, "lock.py:keep,lock.py:__exit__", [], signal.SIGKILL, point)
+        names = [name for name in os.listdir(os.path.join(repository.folder, ".git")) if name.startswith("index")]
+        if names == ["index"]:
+            break
+        ends.append("index.lock was left by a git select that was cut off: git select --undo removes it" in select(repository)[1])
+        ends.append(select(repository, "--undo") == (0, "") and repository.index() in (before, after))
+        names = [name for name in os.listdir(os.path.join(repository.folder, ".git")) if name.startswith("index")]
+        ends.append(names == ["index"])
+    clear(place)
+    return all(ends) and len(ends) > 20 and repository.index() == after and repository.is_sound()
+
+
+def folders_that_undo_leaves(place):
+    """Folders that were made for a file, also if it did not come, are gone when that is undone."""
+    repository, ends = Repository(place, {"a": b"1\n", "d/e/f": b"1\n"}, {"a": b"1\n"}), []
+    for point in range(1, 30):
+        points(repository, "files.py:make_missing,spare.py:move_to", ["--restore"], signal.SIGKILL, point)
+        if "d/e/f" in repository.files() and not os.path.exists(lock_of(repository)):
+            break
+        ends.append(select(repository, "--undo")[0] == 0 and os.listdir(repository.folder) in ([".git", "a"], ["a", ".git"]))
+    clear(place)
+    return all(ends) and len(ends) > 8 and repository.is_sound()
+
+
+def a_new_file_for_hg(place):
+    """hg ends where a new file is gone, so that is said before the screen opens."""
+    left, right = place.folder("left", {"a": b"1\n"}), place.folder("right", {"a": b"2\n", "b": b"1\n", "c": b"1\n"})
+    words = "%s: b and 1 file more are new: mark all that is new, since hg ends where a new file is gone, and copies only some files back\n"
+    calls = (["--dry-run"], {"HG": "/usr/bin/hg"}), ([], {}), ([], {"HG": "/usr/bin/hg"})
+    said = [editor(place, left, right, *words, **more)[1] for words, more in calls]
+    return [words % EDITOR in text for text in said] == [False, False, True]
+
+
+def a_folder_on_a_disk_of_its_own(place):
+    """What is kept lies in RIGHT there, and is left out by name, while another folder of such a name is not. Skipped where no disk
+    can be made."""
+    with disk(place) as right:
+        if right is None:
+            return None
+        left, other = place.folder("left", {"a": b"1\n", "b": b"1\n"}), ".gabrosty-" + "0" * 32
+        changed.write(right, {"a": b"2\n", "b": b"2\n", other + "/x": b"1\n"})
+        count, program = os.path.join(place.top, "count"), os.path.join(place.prefix, "bin", EDITOR)
+        how = {"stdout": subprocess.DEVNULL, "stderr": subprocess.DEVNULL, "stdin": subprocess.DEVNULL, "start_new_session": True}
+        words = [END_AT, "spare.py:move_to", str(int(signal.SIGKILL)), "4", count, program, "--output", right, left, left]
+        subprocess.run(words, env={**os.environ, **place.environment, **ACCEPTS}, **how)
+        names = [name for name in os.listdir(right) if name.startswith(".gabrosty-") and name != other]
+        status, said = editor(place, left, right, "--dry-run")
+        is_named = len(names) == 1 and "%s is left out: another call keeps there what it writes\n" % names[0] in said
+        is_shown = other not in said and status == 0
+        is_undone = editor(place, left, right, "--undo")[0] == 0
+        is_undone = is_undone and changed.read(right) == {"a": b"2\n", "b": b"2\n", other + "/x": b"1\n"}
+        clear(place)
+        return is_named and is_shown and is_undone
+
+
+# as another user renames each spare folder that is made in a folder, and puts a link to `target` in its place
+RACES = """
+import os, sys, time
+folder, target, ready, user = sys.argv[1:]
+os.setgroups([])
+os.setgid(int(user))
+os.setuid(int(user))
+open(ready, "w").close()
+end = time.monotonic() + 60
+while time.monotonic() < end:
+    for name in os.listdir(folder):
+        if name.startswith(".gabrosty-") and not os.path.islink(os.path.join(folder, name)):
+            try:
+                os.rename(os.path.join(folder, name), os.path.join(folder, "moved" + name))
+                os.symlink(target, os.path.join(folder, name))
+            except OSError:
+                pass
+"""
+
+
+def states_in(folder):
+    """Returns of each file of a folder its name, and what changes with it and with its permissions."""
+    found = [(name, os.stat(os.path.join(folder, name))) for name in sorted(os.listdir(folder))]
+    return [(name, it.st_ino, it.st_mode, it.st_uid, it.st_size, it.st_ctime_ns) for name, it in found]
+
+
+def a_race_by_another_user(place):
+    """Another user, who owns the folder around RIGHT and RIGHT, puts links in the place of the folder that keeps what comes: nothing is
+    made in the folder that they lead to, nor are its permissions changed. Skipped without the rights of two users."""
+    if os.geteuid():
+        return "that needs another user"
+    victim = place.folder("victim", {"new-0": b"mine\n", "old-0": b"mine\n", "secret": b"mine\n"})
+    for path in (victim, *(os.path.join(victim, name) for name in os.listdir(victim))):
+        os.chmod(path, 0o700)
+    before, races = states_in(victim), []
+    os.chmod(place.top, 0o755)
+    shared, left = place.folder("shared"), place.folder("left", {"a": b"1\n"})
+    right = place.folder("shared/right")
+    for number, folder in enumerate((shared, right)):
+        os.chown(folder, NOBODY, NOBODY)
+        ready = os.path.join(shared, "ready-%d" % number)
+        races.append(subprocess.Popen([sys.executable, "-c", RACES, folder, victim, ready, str(NOBODY)]))
+        while not os.path.exists(ready):
+            time.sleep(0.01)
+    try:
+        for _ in range(8):
+            changed.write_file(os.path.join(right, "a"), b"2\n")
+            editor(place, "--output", right, right, left)
+    finally:
+        for race in races:
+            race.kill()
+            race.wait()
+    return states_in(victim) == before
+
+
+
+def names_like_ours_beside_the_index(place):
+    """What has a name like that of a file which git-select makes beside the index stays, if git-select did not make it."""
+    repository = Repository(place, {"a": b"1\n"}, {"a": b"2\n"})
+    index = os.path.join(repository.folder, "my-index")
+    shutil.copy(os.path.join(repository.folder, ".git", "index"), index)
+    notes, pipe = (os.path.join(repository.folder, "git-select-" + end) for end in ("notes.txt", "0" * 16))
+    changed.write_file(notes, b"notes\n")
+    os.mkfifo(pipe)
+    status, said = repository.select("a", keys=["a", "c"], GIT_INDEX_FILE=index)
+    return (status, said) == (0, "staged: a\n") and changed.read_file(notes) == b"notes\n" and os.path.exists(pipe)
+
+
+def marks_that_are_no_text(place):
+    """Kept marks with half of a character are refused in one line."""
+    repository = Repository(place, {"a": b"1\n"}, {"a": b"2\n"})
+    marks = os.path.join(place.top, "m")
+    changed.write_file(marks, b'{"messages": ["\\ud800"], "files": []}')
+    end = place.call("git", "select", "--commit", "--marks", marks, folder=repository.folder)
+    return end == (1, "git-select: %s has no marks that were kept\n" % marks)
+
+
+ALL = (
+    a_clone_with_a_plan, a_folder_with_a_plan, plans_that_are_malformed, what_is_kept_and_changed, a_plan_that_fits_to_nothing,
+    what_another_user_left, where_no_plan_can_be_kept, bits_that_set_a_user, permissions_of_new_files, what_becomes_a_fifo,
+    a_deep_folder, names_of_git_on_other_disks, a_spare_folder_that_stays, a_folder_that_others_write_into, two_files_that_are_cut_off,
+    a_lock_that_is_killed, folders_that_undo_leaves, a_new_file_for_hg, a_folder_on_a_disk_of_its_own,
+    a_race_by_another_user, names_like_ours_beside_the_index, marks_that_are_no_text,
+)

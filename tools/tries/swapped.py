@@ -1,0 +1,148 @@
+"""git-select where someone puts another repository in the place of the user's, for tools/try-tools."""
+import os
+import shutil
+
+import changed
+from outputs import select_patched
+from places import Repository
+from settings import configure, write_hook
+
+WORDS = [], ["--unstage"], ["--restore"], ["--stash"], ["--commit", "-m", "x"], ["--amend"], ["--split"]
+
+
+def hostile(place, ran, name="hostile"):
+    """Makes a repository that writes the file `ran` where git runs what is set in it."""
+    repository = Repository(place, {"a": b"1\n", ".gitattributes": b"a filter=f\n"}, {"a": b"2\n", ".gitattributes": b"a filter=f\n"})
+    runs = "touch '%s'; cat" % ran
+    for hook in "pre-commit", "post-commit", "post-index-change", "reference-transaction":
+        write_hook(repository, hook, runs + "\n")
+    configure(repository, {"core.fsmonitor": runs, "filter.f.clean": runs, "filter.f.smudge": runs, "core.editor": runs})
+    folder = os.path.join(place.top, name)
+    os.rename(repository.folder, folder)
+    if os.path.exists(ran):
+        os.unlink(ran)
+    return folder
+
+
+def changed_by(words, place, swap, ran):
+    """Has `swap` put another repository in the place of the user's while the screen is open. Returns whether nothing of it was run,
+    and all is as it was."""
+    other = hostile(place, ran)
+    repository = Repository(place, {"a": b"1\n", "b": b"1\n"}, {"a": b"2\n", "b": b"2\n"})
+    if words in (["--unstage"], ["--split"]):
+        repository.git("add", "--all")
+    if words == ["--split"]:
+        repository.git("commit", "--quiet", "--message=second")
+    before = repository.index(), repository.files(), repository.git("for-each-ref")
+    moved = os.path.join(place.top, "moved")
+    status, said = repository.select(*words, keys=["space", "c"], before_last=lambda: swap(repository.folder, other, moved))
+    is_stopped = status == 1 and " is another folder by now: nothing was " in said
+    is_free = not any(name.endswith(".lock") for top in (repository.folder, moved) for name in os.listdir(top))
+    swap(repository.folder, moved, other)
+    place.forget_marks()
+    after = repository.index(), repository.files(), repository.git("for-each-ref")
+    return is_stopped and is_free and before == after and not os.path.exists(ran) and repository.is_sound()
+
+
+def swap_all(folder, other, moved):
+    os.rename(folder, moved)
+    os.rename(other, folder)
+
+
+def swap_git(folder, other, moved):
+    """Swaps what git keeps alone, and leaves the files."""
+    os.makedirs(moved, exist_ok=True)
+    os.rename(os.path.join(folder, ".git"), os.path.join(moved, ".git"))
+    os.rename(os.path.join(other, ".git"), os.path.join(folder, ".git"))
+
+
+def another_repository_meanwhile(place):
+    """The folder of the repository, or its .git alone, is another one when the user accepts: that is said, nothing is written, and
+    nothing that is set in the other one runs."""
+    ran = os.path.join(place.folder("ran"), "ran")
+    ends = []
+    for number, (words, swap) in enumerate((words, swap) for words in WORDS for swap in (swap_all, swap_git)):
+        ends.append(changed_by(words, place, swap, ran))
+        for name in "repository", "hostile", "moved":
+            if os.path.exists(os.path.join(place.top, name)):
+                os.rename(os.path.join(place.top, name), os.path.join(place.top, "%s-%d" % (name, number)))
+    return all(ends)
+
+
+# what git-select calls behind its last look at the repository, where `.git` is another folder then
+SWAPS = """import repository
+kept = repository.Repository.check_same
+def swaps(self):
+    kept(self)
+    os.rename(".git", "../moved")
+    os.rename("../other", ".git")
+repository.Repository.check_same = swaps
+"""
+
+
+def a_folder_behind_the_last_look(place):
+    """Where the folder of the index is another one just after it was compared, that one has no lock, no index and nothing else of
+    ours: the index that was opened is written, or git says what it finds."""
+    ends = []
+    for words in [], ["--restore"]:
+        repository = Repository(place, {"a": b"1\n"}, {"a": b"2\n"})
+        other, own, moved = (os.path.join(place.top, name) for name in ("other", "repository/.git", "moved"))
+        os.mkdir(other)
+        changed.write(other, {"index": b"mine\n", "git-select-1": b"mine\n"})
+        before, old = changed.read(other), repository.index()
+        select_patched(repository, SWAPS, *words)
+        ends.append(changed.read(own) == before)
+        os.rename(own, other)
+        os.rename(moved, own)
+        names = [name for name in os.listdir(own) if name.endswith(".lock") or name.startswith("git-select")]
+        ends.append(not names and repository.index() in (old, repository.index_of("add", "--all")))
+        for path in repository.folder, other:
+            shutil.rmtree(path)
+        place.forget_marks()
+    return all(ends)
+
+
+# a folder becomes a link between the look at its files and the reading
+LINKS = """import look
+kept = look.Look.converted
+def links(self, paths):
+    if not os.path.islink("d"):
+        os.rename("d", "../d")
+        os.symlink("../outside", "d")
+    return kept(self, paths)
+look.Look.converted = links
+"""
+
+
+def a_folder_that_becomes_a_link(place):
+    """What lies outside, where the link leads, is not read, and the file is left out by name."""
+    repository = Repository(place, {"d/f": b"1\n"}, {"d/f": b"2\n"})
+    place.folder("outside", {"f": b"private\n"})
+    before = repository.index()
+    status, said = select_patched(repository, LINKS)
+    place.forget_marks()
+    return "d/f is left out: " in said and repository.index() == before
+
+
+def a_repository_of_another_user(place):
+    """It is refused as git refuses it, also where it comes in the place of the user's own. Skipped where its owner cannot be
+    changed."""
+    repository = Repository(place, {"a": b"1\n"}, {"a": b"2\n"})
+    other = os.path.join(place.top, "other")
+    Repository(place, {"a": b"1\n"}, {"a": b"2\n"}, "other")
+    if os.geteuid():
+        return None
+    for path in other, os.path.join(other, ".git"):
+        os.chown(path, 65534, 65534)
+    said = place.call("git", "select", folder=other)
+    is_refused = said[0] == 1 and "dubious ownership" in said[1]
+    before = repository.index()
+    # the folder stays, and becomes another user's
+    status, said = repository.select(keys=["a", "c"], before_last=lambda: os.chown(repository.folder, 65534, 65534))
+    is_stopped = status == 1 and "dubious ownership" in said and "nothing was staged" in said
+    os.chown(repository.folder, 0, 0)
+    place.forget_marks()
+    return is_refused and is_stopped and repository.index() == before and repository.is_sound()
+
+
+ALL = another_repository_meanwhile, a_folder_behind_the_last_look, a_folder_that_becomes_a_link, a_repository_of_another_user
