@@ -10,7 +10,7 @@
  *
  * timing SHAPE COUNT PAINT WORD ..: hands in the words in turn, COUNT of them, and then prints how many bytes
  * the last paint has. PAINT is `none`, `changed` to paint after each word, `twice` to paint once more then, or `all` to paint
- * every row then. Valgrind counts its instructions, for tools/count-paints. */
+ * every row then. Valgrind counts its instructions, for tools/measure. */
 #define _XOPEN_SOURCE 700
 #include "scm.h"
 

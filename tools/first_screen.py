@@ -1,10 +1,5 @@
-#!/usr/bin/env python3
-"""tools/time-start PREFIX..
-
-Times how long `git select` takes until its first screen, as it is installed below each PREFIX (tools/install): with 1,000 files of a
-hundred lines, of which three changed in each; with a file in which 100,000 lines became 100,000 others; and with one in which each
-tenth of 100,000 lines changed. It prints the median and the least of seven runs in seconds, and the least of processor seconds, which
-other work on the machine changes less. It needs git and Python 3.9."""
+"""How long `git select` takes until its first screen, as it is installed: with 1,000 files of a hundred lines, of which three changed in
+each; with a file in which 100,000 lines became 100,000 others; and with one in which each tenth of 100,000 lines changed."""
 import os
 import random
 import resource
@@ -19,6 +14,8 @@ sys.path.insert(1, os.path.join(HERE, os.pardir, "examples", "terminal"))
 from apart import SETTINGS  # noqa: E402
 from typed import Typed  # noqa: E402
 
+# the columns of its table
+HEAD = "What changed, and where it is installed", "Seconds, the median", "The least", "Processor seconds"
 RUNS = 7
 chance = random.Random(1)
 
@@ -79,15 +76,12 @@ def run(prefix, folder):
     return taken, processor_seconds() - used
 
 
-def main():
-    if len(sys.argv) < 2:
-        sys.exit(__doc__)
+def rows(prefixes):
+    """Yields for each shape and prefix the median and the least of some runs in seconds, and the least of processor seconds, which other work on
+    the machine changes less."""
     for words, files in shapes():
-        with tempfile.TemporaryDirectory(prefix="time-start-") as folder:
+        with tempfile.TemporaryDirectory(prefix="measure-") as folder:
             make(folder, files)
-            for prefix in sys.argv[1:]:
+            for prefix in prefixes:
                 taken, used = map(sorted, zip(*(run(prefix, folder) for _ in range(RUNS))))
-                print("%s, %s: %.2f, least %.2f, processor %.2f" % (prefix, words, taken[RUNS // 2], taken[0], used[0]), flush=True)
-
-
-main()
+                yield "%s, %s" % (words, prefix), ["%.2f" % it for it in (taken[RUNS // 2], taken[0], used[0])]
