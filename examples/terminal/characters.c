@@ -6,15 +6,21 @@ typedef struct range {
     uint32_t first, last;
 } range;
 
-/* Controls, the no-break space, line separators, marks of the reading order, and other marks of a format. */
+/* Controls, blanks other than the space, ends of lines and paragraphs, marks of a format, tags, and what each font has for its own use.
+ * Python has the same list: what str.isprintable does not take, but for code points that Unicode has not assigned. The programs in Python
+ * go by that (words.py), and a try compares both. */
 static const range UNSEEN[] = {
-    {0, 0x1f}, {0x7f, 0xa0}, {0xad, 0xad}, {0x61c, 0x61c}, {0x180e, 0x180e}, {0x200b, 0x200f}, {0x2028, 0x202e}, {0x2060, 0x206f},
-    {0xfeff, 0xfeff}, {0xfff0, 0xfffb}, {0x1bca0, 0x1bca3}, {0x1d173, 0x1d17a}, {0xe0000, 0xe0fff},
+    {0, 0x1f}, {0x7f, 0xa0}, {0xad, 0xad}, {0x600, 0x605}, {0x61c, 0x61c}, {0x6dd, 0x6dd}, {0x70f, 0x70f}, {0x890, 0x891}, {0x8e2, 0x8e2},
+    {0x1680, 0x1680}, {0x180e, 0x180e}, {0x2000, 0x200f}, {0x2028, 0x202f}, {0x205f, 0x206f}, {0x3000, 0x3000}, {0xe000, 0xf8ff},
+    {0xfeff, 0xfeff}, {0xfff0, 0xfffb}, {0x110bd, 0x110bd}, {0x110cd, 0x110cd}, {0x13430, 0x1343f}, {0x1bca0, 0x1bca3}, {0x1d173, 0x1d17a},
+    {0xe0000, 0xe00ff}, {0xe01f0, 0xe0fff}, {0xf0000, 0x10ffff},
 };
 
-/* What Unicode lets a program ignore, beside those above. */
+/* What a file system that folds names may leave out: marks of a format, and what else Unicode lets a program ignore. */
 static const range IGNORED[] = {
-    {0x34f, 0x34f}, {0x115f, 0x1160}, {0x17b4, 0x17b5}, {0x180b, 0x180f}, {0x3164, 0x3164}, {0xfe00, 0xfe0f}, {0xffa0, 0xffa0},
+    {0x7f, 0xa0}, {0xad, 0xad}, {0x34f, 0x34f}, {0x61c, 0x61c}, {0x115f, 0x1160}, {0x17b4, 0x17b5}, {0x180b, 0x180f}, {0x200b, 0x200f},
+    {0x2028, 0x202e}, {0x2060, 0x206f}, {0x3164, 0x3164}, {0xfe00, 0xfe0f}, {0xfeff, 0xfeff}, {0xffa0, 0xffa0}, {0xfff0, 0xfffb},
+    {0x1bca0, 0x1bca3}, {0x1d173, 0x1d17a}, {0xe0000, 0xe0fff},
 };
 
 static bool is_in(uint32_t code, const range *ranges, size_t count) {
@@ -28,9 +34,7 @@ static bool is_in(uint32_t code, const range *ranges, size_t count) {
 
 bool is_unseen(uint32_t code) { return is_in(code, UNSEEN, sizeof UNSEEN / sizeof *UNSEEN); }
 
-bool is_ignorable(uint32_t code) {
-    return (code >= ' ' && is_unseen(code)) || is_in(code, IGNORED, sizeof IGNORED / sizeof *IGNORED);
-}
+bool is_ignorable(uint32_t code) { return is_in(code, IGNORED, sizeof IGNORED / sizeof *IGNORED); }
 
 size_t character_at(const char *bytes, size_t length, uint32_t *code) {
     static const uint32_t least[] = {0, 0, 0x80, 0x800, 0x10000};

@@ -1,10 +1,10 @@
 /* Bytes in memory and in files. No proof covers this file. */
 #define _GNU_SOURCE
 #include "files.h"
+#include "target.h"
 
 #include <errno.h>
 #include <fcntl.h>
-#include <libgen.h>
 #include <stdarg.h>
 #include <stdio.h>
 #include <stdlib.h>
@@ -13,11 +13,11 @@
 #include <sys/stat.h>
 #include <unistd.h>
 
-enum { PERMISSIONS = 0777, ALL_MAY_WRITE = 0666, OWN = 0600 };
+enum { OWN = 0600, FIRST_BYTES = 64 };
 
 bool append(text *text, const char *bytes, size_t length) {
     size_t end = text->length + length;
-    if ((!text->bytes || text->room < end) && !make_room(text, end < FIRST_ROOM ? FIRST_ROOM : end + end / 2)) {
+    if ((!text->bytes || text->room < end) && !make_room(text, end < FIRST_BYTES ? FIRST_BYTES : end + end / 2)) {
         return false;
     }
     if (length > 0) {
@@ -50,33 +50,55 @@ static bool close_written(int file, bool is_written) {
     return is_written && is_closed;
 }
 
-mode_t new_file_mask(void) {
-    mode_t mask = umask(0);
-    umask(mask);
-    return mask;
+const char *reason(void) {
+    return errno == EOVERFLOW    ? "it has more than 1,073,741,824 bytes"
+           : errno == ESTALE     ? "it changed meanwhile"
+           : errno == OF_ANOTHER ? "it is another user's, in a folder that all may write to"
+           : errno == TOO_DEEP   ? "it lies in more than 4,096 folders"
+                                 : strerror(errno);
 }
 
-const char *reason(void) {
-    return errno == EOVERFLOW ? "it has more than 1,073,741,824 bytes" : errno == ESTALE ? "it changed meanwhile" : strerror(errno);
+void hold_signals(sigset_t *before) {
+    sigset_t held;
+    signal(SIGXFSZ, SIG_IGN);
+    sigfillset(&held);
+    sigdelset(&held, SIGXFSZ);
+    sigprocmask(SIG_BLOCK, &held, before);
+}
+
+void release_signals(const sigset_t *before) { sigprocmask(SIG_SETMASK, before, NULL); }
+
+bool is_asked_to_end(void) {
+    static const int numbers[] = {SIGINT, SIGQUIT, SIGHUP, SIGTERM};
+    struct sigaction action;
+    sigset_t held;
+    bool is_known = sigpending(&held) == 0;
+    for (size_t i = 0; i < sizeof numbers / sizeof *numbers && is_known; i++) {
+        /* one that is ignored is held back too */
+        if (sigismember(&held, numbers[i]) && sigaction(numbers[i], NULL, &action) == 0 && action.sa_handler != SIG_IGN) {
+            return true;
+        }
+    }
+    return false;
 }
 
 bool read_source(const char *path, text *into, mode_t *permissions) {
     struct stat now;
     int file = open(path, O_RDONLY | O_NOCTTY | O_CLOEXEC);
     if (file >= 0 && fstat(file, &now) == 0 && S_ISREG(now.st_mode)) {
-        *permissions &= now.st_mode;
+        limit_permissions(file, permissions);
     }
     return read_and_close(file, into);
 }
 
-/* Writes an open file that is new, gives it its permissions, and waits until it is on the disk. Closes it. */
-static bool fill(int file, mode_t permissions, piece bytes) {
-    return close_written(file, write_bytes(file, bytes.bytes, bytes.length) && fchmod(file, permissions) == 0 && fsync(file) == 0);
+/* Writes an open file that is new, gives it its access, and waits until it is on the disk. Closes it. */
+static bool fill(int file, const access_rules *access, piece bytes) {
+    return close_written(file, write_bytes(file, bytes.bytes, bytes.length) && give_access(file, access) && fsync(file) == 0);
 }
 
-bool write_new_file(int folder, const char *name, mode_t permissions, piece bytes) {
+bool write_new_file(int folder, const char *name, const access_rules *access, piece bytes) {
     int file = openat(folder, name, O_WRONLY | O_CREAT | O_EXCL | O_NOFOLLOW | O_CLOEXEC, OWN);
-    bool is_made = file >= 0, is_filled = is_made && fill(file, permissions, bytes);
+    bool is_made = file >= 0, is_filled = is_made && fill(file, access, bytes);
     int error = errno;
     if (is_made && !is_filled) {
         unlinkat(folder, name, 0);
@@ -100,40 +122,33 @@ static bool choose_name(random_name *name) {
     return is_chosen;
 }
 
-/* Returns the permissions of the file that takes the place of `name` in a folder, or of a new one. */
-static mode_t permissions_like(int folder, const char *name, mode_t permissions) {
-    struct stat old;
-    bool is_there = fstatat(folder, name, &old, AT_SYMLINK_NOFOLLOW) == 0 && S_ISREG(old.st_mode);
-    return is_there ? old.st_mode & PERMISSIONS : permissions & ALL_MAY_WRITE & ~new_file_mask();
+/* Sets `access` to that of the file that takes the place of a target. One that may not be read is its owner's alone. */
+static bool find_access(const target *target, mode_t permissions, access_rules *access) {
+    set_new_access(access, permissions & NEW_FILE & ~new_file_mask());
+    if (!S_ISREG(target->status.st_mode)) {
+        return true;
+    }
+    int file = openat(target->folder, target->name, O_RDONLY | O_NOFOLLOW | O_NONBLOCK | O_NOCTTY | O_CLOEXEC);
+    if (file < 0) {
+        access->permissions = target->status.st_mode & OWN_FOLDER;
+        return errno == EACCES;
+    }
+    return close_written(file, read_access(file, access));
 }
 
-/* Writes a file beside `name` in an open folder, and gives it that name. Returns false with errno set if that fails; then no file is
- * beside it. */
-static bool write_in(int folder, const char *name, piece bytes, mode_t permissions) {
+/* Writes a file beside a target, and gives it that name. Returns false with errno set if that fails; then no file is beside it. */
+static bool write_beside(const target *target, piece bytes, mode_t permissions) {
     random_name beside;
-    bool is_made = choose_name(&beside) && write_new_file(folder, beside.name, permissions_like(folder, name, permissions), bytes);
-    bool is_done = is_made && renameat(folder, beside.name, folder, name) == 0;
+    access_rules access;
+    bool is_made = choose_name(&beside) && find_access(target, permissions, &access)
+                   && write_new_file(target->folder, beside.name, &access, bytes);
+    bool is_done = is_made && renameat(target->folder, beside.name, target->folder, target->name) == 0;
     int error = errno;
     if (is_made && !is_done) {
-        unlinkat(folder, beside.name, 0);
+        unlinkat(target->folder, beside.name, 0);
     }
     errno = error;
     return is_done;
-}
-
-/* Writes a file in the folder of `target`. */
-static bool write_beside(const char *target, piece bytes, mode_t permissions) {
-    char *folder_copy = strdup(target), *name_copy = strdup(target);
-    int folder = folder_copy && name_copy ? open(dirname(folder_copy), O_PATH | O_DIRECTORY | O_CLOEXEC) : -1;
-    bool is_written = folder >= 0 && write_in(folder, basename(name_copy), bytes, permissions);
-    int error = errno;
-    if (folder >= 0) {
-        close(folder);
-    }
-    free(folder_copy);
-    free(name_copy);
-    errno = error;
-    return is_written;
 }
 
 /* Returns whether nothing is in an open file that would be lost: a pipe, a device, or an empty file. Else errno says why. */
@@ -145,20 +160,32 @@ static bool can_be_written(int file) {
     return is_empty;
 }
 
-/* Writes to a pipe or a device, or to the file that a link names and that is not there. */
-static bool write_onto(const char *path, piece bytes, mode_t permissions) {
-    int file = open(path, O_WRONLY | O_CREAT | O_NOCTTY | O_CLOEXEC, permissions & ALL_MAY_WRITE);
+/* Writes to a pipe or a device, or to what is open already, as a link of /proc says. */
+static bool write_onto(const target *target, piece bytes) {
+    int file = openat(target->folder, target->name, O_WRONLY | O_NOCTTY | O_CLOEXEC);
     return file >= 0 && close_written(file, can_be_written(file) && write_bytes(file, bytes.bytes, bytes.length));
 }
 
-bool replace_file(const char *path, piece bytes, mode_t permissions) {
-    struct stat old, itself;
-    char *target = realpath(path, NULL);
-    bool is_there = target && stat(target, &old) == 0;
-    bool is_beside = is_there ? S_ISREG(old.st_mode) : lstat(path, &itself) != 0;
-    bool is_done = is_beside ? write_beside(is_there ? target : path, bytes, permissions) : write_onto(path, bytes, permissions);
+/* Writes to a file, while signals wait. */
+static bool write_held(const target *target, piece bytes, mode_t permissions) {
+    sigset_t before;
+    hold_signals(&before);
+    bool is_done = write_beside(target, bytes, permissions);
     int error = errno;
-    free(target);
+    release_signals(&before);
+    errno = error;
+    return is_done;
+}
+
+bool replace_file(const char *path, piece bytes, mode_t permissions) {
+    target target;
+    if (!find_target(path, &target)) {
+        return false;
+    }
+    mode_t mode = target.status.st_mode;
+    bool is_done = mode == 0 || S_ISREG(mode) ? write_held(&target, bytes, permissions) : write_onto(&target, bytes);
+    int error = errno;
+    close(target.folder);
     errno = error;
     return is_done;
 }

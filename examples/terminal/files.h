@@ -2,9 +2,13 @@
 #ifndef FILES_H
 #define FILES_H
 
+#include "access.h"
 #include "bytes.h"
 
-#include <sys/types.h>
+#include <signal.h>
+
+/* Numbers of errno for what no call of the system says. */
+enum { OF_ANOTHER = EPROTO, TOO_DEEP = E2BIG };
 
 /* The name of the program, as it says it. */
 #ifndef NAME
@@ -31,20 +35,25 @@ bool append_words(text *text, const char *form, ...) __attribute__((format(print
 /* Returns what errno says of a file that was read or is to be written. */
 const char *reason(void);
 
-/* Sets `into` to the bytes of the file at `path`, and leaves of `permissions` those that it has, if it is no pipe or device. Returns false
- * with errno set if that fails. */
+/* Sets `into` to the bytes of the file at `path`, and leaves of `permissions` those of a file that is made of it, if it is no pipe or
+ * device. Returns false with errno set if that fails. */
 bool read_source(const char *path, text *into, mode_t *permissions);
 
-/* Makes a new file `name` with these permissions in an open folder, and waits until its bytes are on the disk. Returns false with errno
+/* Makes a new file `name` in an open folder, gives it its access, and waits until its bytes are on the disk. Returns false with errno
  * set if that fails, and then it is not there. */
-bool write_new_file(int folder, const char *name, mode_t permissions, piece bytes);
-
-/* Returns the bits of a mode that new files and folders do not get. */
-mode_t new_file_mask(void);
+bool write_new_file(int folder, const char *name, const access_rules *access, piece bytes);
 
 /* Replaces the file at `path`. Returns false with errno set if that fails, and then the file is as it was: the bytes are written beside
- * it first. It keeps its permissions, and a new file has no others than `permissions`. What is no file (a pipe, a device) is written
- * to. */
+ * it first, and no signal comes between. It keeps its access, and a new file has no others than `permissions`. What is no file (a pipe, a
+ * device) is written to. */
 bool replace_file(const char *path, piece bytes, mode_t permissions);
+
+/* Holds back all signals but that of a file that is too large, which is an error of the write then. */
+void hold_signals(sigset_t *before);
+
+void release_signals(const sigset_t *before);
+
+/* Returns whether a signal that ends the program was held back. */
+bool is_asked_to_end(void);
 
 #endif

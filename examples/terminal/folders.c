@@ -9,7 +9,7 @@
 #include <stdio.h>
 #include <string.h>
 
-enum { FIRST_PATHS = 64 };
+enum { FIRST_PATHS = 64, MOST_FOLDERS = 4096 };
 
 bool show_difference(differing *file) {
     static const piece none = {"", 0};
@@ -107,9 +107,18 @@ static bool is_left_over(const char *name, const struct stat *status) {
 static bool is_left_alone(const list *list, const char *name) {
     bool is_plain, is_kept = is_of_others(name, &is_plain);
     if (is_kept && !is_plain) {
-        say("%s%s%s is left out: a file system may take it for .git or .jj", list->below, *list->below ? "/" : "", name);
+        say("%s%s%s is left out: a file system may take it for .git or .jj", named(list->below), *list->below ? "/" : "", name);
     }
     return is_kept;
+}
+
+/* Returns whether a folder lies in as many others as one may. */
+static bool is_deep(const char *path) {
+    size_t count = 0;
+    for (const char *end = strchr(path, '/'); end; end = strchr(end + 1, '/')) {
+        count++;
+    }
+    return count >= MOST_FOLDERS;
 }
 
 /* Adds the path of a name in the folder. */
@@ -147,8 +156,9 @@ static DIR *open_list(below *below, const char *path) {
 
 /* Adds the paths of all that is in the folder at `path`. */
 static bool list_folder(below *below, const char *path, paths *folders, paths *files) {
-    list list = {path, open_list(below, path), folders, files};
+    list list = {path, is_deep(path) ? NULL : open_list(below, path), folders, files};
     bool is_listed = list.folder;
+    errno = is_deep(path) ? TOO_DEEP : errno;
     struct dirent *entry = is_listed ? next_entry(list.folder) : NULL;
     while (is_listed && entry) {
         is_listed = list_name(&list, entry->d_name);
@@ -208,7 +218,7 @@ static bool add_if_differing(folders *folders, const char *path) {
         return show_difference(&folders->files[folders->differ - 1]);
     }
     if (is_read && !is_file) {
-        say("%s is left out: it is neither a file nor a link", path);
+        say("%s is left out: it is neither a file nor a link", named(path));
     }
     int error = errno;
     free_difference(&file);

@@ -57,6 +57,16 @@ static int open_looked_at(place at, const struct stat *looked_at) {
     return file;
 }
 
+/* Opens a file to be read, and finds what a file that is made of it may give. */
+static int open_source(place at, found *found) {
+    int file = open_looked_at(at, &found->status);
+    found->given = ALL;
+    if (file >= 0) {
+        limit_permissions(file, &found->given);
+    }
+    return file;
+}
+
 /* Reads a file or a link that was looked at. */
 static bool read_place(place at, found *found, bool *is_file) {
     mode_t mode = found->status.st_mode;
@@ -65,7 +75,7 @@ static bool read_place(place at, found *found, bool *is_file) {
     }
     *is_file = S_ISREG(mode);
     return !*is_file
-           || (read_and_close(open_looked_at(at, &found->status), &found->bytes)
+           || (read_and_close(open_source(at, found), &found->bytes)
                && describe(found, (mode & S_IXUSR) ? PROGRAM_MODE : FILE_MODE));
 }
 
@@ -88,12 +98,23 @@ bool read_found(below *below, const char *path, found *found, bool *is_file) {
     return found->status.st_mode == 0 ? describe(found, SCM_ABSENT) : read_place(at, found, is_file);
 }
 
-bool is_still_there(below *below, const char *path, const found *found) {
+int open_found(below *below, const char *path, const found *found) {
+    place at;
+    return find_place(below, path, &at) ? open_looked_at(at, &found->status) : -1;
+}
+
+static bool is_same_time(struct timespec one, struct timespec other) { return one.tv_sec == other.tv_sec && one.tv_nsec == other.tv_nsec; }
+
+same compare_found(below *below, const char *path, const found *found) {
     place at;
     struct stat now;
     const struct stat *then = &found->status;
-    return look_at(below, path, &at, &now) && is_same_file(&now, then) && now.st_size == then->st_size
-           && now.st_mtim.tv_sec == then->st_mtim.tv_sec && now.st_mtim.tv_nsec == then->st_mtim.tv_nsec;
+    if (!look_at(below, path, &at, &now) || !is_same_file(&now, then) || now.st_mode != then->st_mode || now.st_uid != then->st_uid
+        || now.st_gid != then->st_gid || now.st_size != then->st_size) {
+        return IS_OTHER;
+    }
+    bool is_as_it_was = is_same_time(now.st_mtim, then->st_mtim) && is_same_time(now.st_ctim, then->st_ctim);
+    return is_as_it_was ? IS_SAME : MAY_BE_SAME;
 }
 
 void free_found(found *found) {

@@ -2,6 +2,7 @@
 #define _GNU_SOURCE
 #include "handed.h"
 #include "marks.h"
+#include "shown.h"
 
 #include <stdio.h>
 #include <stdlib.h>
@@ -75,7 +76,7 @@ static bool begin_change(handed *handed, piece path) {
         handed->room = room;
     }
     change begun = {.path = path, .old_path = none, .note = none, .old = absent, .new = absent};
-    handed->changes[handed->count++] = (handed_change){begun, none};
+    handed->changes[handed->count++] = (handed_change){.change = begun, .marks = none};
     return true;
 }
 
@@ -116,16 +117,35 @@ static const char *follow(handed *handed, const record *record) {
     return NULL;
 }
 
+/* Has the texts of a change be as they are shown. */
+static bool show_texts(handed_change *handed) {
+    change *change = &handed->change;
+    piece *const texts[SHOWN_TEXTS] = {&change->path, &change->old_path, &change->note, &change->old.words, &change->new.words};
+    bool is_shown = true;
+    for (size_t i = 0; i < SHOWN_TEXTS && is_shown; i++) {
+        is_shown = show(texts[i], &handed->shown[i]);
+    }
+    return is_shown;
+}
+
 const char *read_handed(piece bytes, handed *handed) {
     const char *why = NULL;
     record record;
     while (bytes.length > 0 && !why) {
         why = take_record(&bytes, &record) ? follow(handed, &record) : BAD_FORM;
     }
+    for (size_t i = 0; i < handed->count && !why; i++) {
+        why = show_texts(&handed->changes[i]) ? NULL : NO_ROOM;
+    }
     return why;
 }
 
-void free_handed(handed *handed) { free(handed->changes); }
+void free_handed(handed *handed) {
+    for (size_t i = 0; i < handed->count * SHOWN_TEXTS; i++) {
+        free(handed->changes[i / SHOWN_TEXTS].shown[i % SHOWN_TEXTS].bytes);
+    }
+    free(handed->changes);
+}
 
 /* ---- To a session ---- */
 

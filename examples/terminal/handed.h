@@ -6,10 +6,15 @@
 
 enum { MOST_COMMITS = 2 };
 
-/* A changed file with its marks: a character for each item, '1' if it is marked, or nothing. */
+/* The texts of a change that are shown: both paths, the note, and the words of both versions. */
+enum { SHOWN_TEXTS = 5 };
+
+/* A changed file with its marks: a character for each item, '1' if it is marked, or nothing. It owns the texts that are shown in another
+ * form than they were handed in. */
 typedef struct handed_change {
     change change;
     piece marks;
+    text shown[SHOWN_TEXTS];
 } handed_change;
 
 /* What was handed in. Its pieces lie in the bytes that were read. */

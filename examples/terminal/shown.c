@@ -29,6 +29,60 @@ static bool add_printable(text *into, piece bytes, bool has_doubled_backslashes)
     return is_added;
 }
 
+/* Returns whether bytes can stand on a screen as they are. */
+static bool is_printable(piece bytes) {
+    for (size_t at = 0, length = 0; at < bytes.length; at += length) {
+        uint32_t code = 0;
+        length = character_at(bytes.bytes + at, bytes.length - at, &code);
+        if (length == 0 || is_unseen(code)) {
+            return false;
+        }
+    }
+    return true;
+}
+
+bool show(piece *shown, text *made) {
+    if (is_printable(*shown)) {
+        return true;
+    }
+    bool is_made = add_printable(made, *shown, false);
+    *shown = is_made ? (piece){made->bytes, made->length} : *shown;
+    return is_made;
+}
+
+/* Adds a character as JSON writes it out: in one number of 16 bits, or in two. */
+static bool add_numbers(text *into, uint32_t code) {
+    uint32_t above = code - 0x10000;
+    return code <= 0xffff ? append_words(into, "\\u%04x", code)
+                          : append_words(into, "\\u%04x\\u%04x", 0xd800 + (above >> 10), 0xdc00 + (above & 0x3ff));
+}
+
+bool add_plain_json(text *into, piece json) {
+    bool is_added = append(into, "", 0);
+    size_t begun = 0;
+    for (size_t at = 0, length = 0; at < json.length && is_added; at += length > 0 ? length : 1) {
+        uint32_t code = 0;
+        length = character_at(json.bytes + at, json.length - at, &code);
+        /* controls of ASCII are written out already, and a line end is none of a string's */
+        if (length > 0 && code > '~' && is_unseen(code)) {
+            is_added = append(into, json.bytes + begun, at - begun) && add_numbers(into, code);
+            begun = at + length;
+        }
+    }
+    return is_added && append(into, json.bytes + begun, json.length - begun);
+}
+
+const char *named(const char *path) {
+    enum { LONGEST = 600, PART = 250 };
+    static char words[LONGEST];
+    size_t length = strlen(path);
+    if (length < LONGEST) {
+        return path;
+    }
+    snprintf(words, sizeof words, "%.*s .. %s", PART, path, path + length - PART);
+    return words;
+}
+
 bool add_shown(text *into, const char *path) { return add_printable(into, (piece){path, strlen(path)}, true); }
 
 void print_shown(const char *end, const char *form, ...) {

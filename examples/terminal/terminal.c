@@ -62,7 +62,7 @@ static void check(bool is_well, const char *what, const char *why) {
     int error = errno;
     if (!is_well) {
         errno = error;
-        say("%s: %s", what, why ? why : reason());
+        say("%s: %s", named(what), why ? why : reason());
         exit(FAILED);
     }
 }
@@ -139,10 +139,19 @@ static void open_files(scm_session *session, task *task) {
     add(session, task, &file->change);
 }
 
+/* Checks that no folder of the two lies in the other one, or is it: what is written would be read, and what is read be taken away. */
+static void check_apart(const task *task) {
+    int left = task->folders.left.top, right = task->folders.right.top;
+    check(!is_same_folder(left, right), task->to, "it is the same folder as LEFT");
+    check(!lies_in(left, right), task->from, "it lies in RIGHT");
+    check(!lies_in(right, left), task->to, "it lies in LEFT");
+}
+
 static void open_folders(scm_session *session, task *task) {
     char *path = NULL;
     check(open_top(&task->folders.left, task->from), task->from, NULL);
     check(open_top(&task->folders.right, task->to), task->to, NULL);
+    check_apart(task);
     bool is_read = read_folders(&task->folders, &path);
     check(is_read, path ? path : task->to, NULL);
     check_code(scm_state_new(session, false), task->to);
@@ -226,9 +235,10 @@ static int give_up(scm_session *session, bool is_there) {
     return !is_there || is_cancelled ? GIVEN_UP : FAILED;
 }
 
-/* Writes bytes to the file of a task, or to standard output. */
+/* Writes bytes to the file of a task, or to standard output. A limit of the size of files is an error of the write. */
 static void write_output(const task *task, piece bytes) {
     const char *path = task->output;
+    signal(SIGXFSZ, SIG_IGN);
     bool is_written = path ? replace_file(path, bytes, task->permissions)
                            : write_bytes(STDOUT_FILENO, bytes.bytes, bytes.length) && close(STDOUT_FILENO) == 0;
     check(is_written, path ? path : "standard output", NULL);
@@ -238,10 +248,17 @@ static void write_output(const task *task, piece bytes) {
 static void write_text(scm_session *session, const task *task) {
     text accepted = {0};
     bool is_handed = task->form == HANDED_IN && !task->is_as_json;
+    text plain = {0};
     uint32_t code = is_handed ? write_accepted_sides(session, &task->handed, &accepted) : read_text(session, &accepted);
     check_code(code, "cannot go on");
-    write_output(task, (piece){accepted.bytes, accepted.length});
+    piece bytes = {accepted.bytes, accepted.length};
+    if (!is_handed) {
+        check(add_plain_json(&plain, bytes), "cannot go on", NULL);
+        bytes = (piece){plain.bytes, plain.length};
+    }
+    write_output(task, bytes);
     free(accepted.bytes);
+    free(plain.bytes);
 }
 
 /* Writes the selected side of the file. */
@@ -259,7 +276,7 @@ static void write_folder(scm_session *session, task *task) {
     int end = write_right(session, &task->folders, &failure);
     if (end != WRITTEN) {
         const char *left = end == HALF_WRITTEN ? "a part is written" : "nothing was written";
-        say("%s: %s: %s", failure.path ? failure.path : task->to, failure.why, left);
+        say("%s: %s: %s", named(failure.path ? failure.path : task->to), failure.why, left);
         exit(FAILED);
     }
 }

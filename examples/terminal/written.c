@@ -3,13 +3,12 @@
 #include "written.h"
 #include "shown.h"
 
-#include <signal.h>
 #include <stdio.h>
 #include <string.h>
 #include <sys/random.h>
 
 /* Permissions. */
-enum { MAY_RUN = 0111, MAY_READ = 0444, NEW_FILE = 0666, ALL = 0777, OWN_FOLDER = 0700, OTHERS_MAY_WRITE = 0022 };
+enum { MAY_RUN = 0111, MAY_READ = 0444 };
 
 /* A file as it is to be, or not to be if its mode is SCM_ABSENT. */
 typedef struct wanted {
@@ -92,42 +91,44 @@ static bool is_to_be(const plan *plan, size_t index, size_t *next) {
     return find_place(&folders->right, path, &at) && fstatat(at.folder, at.name, &now, AT_SYMLINK_NOFOLLOW) == 0;
 }
 
-/* Returns whether one of the folders that a path lies in is itself to be a file. `are_to_be` says it of each path. */
-static bool is_in_a_file(const paths *paths, const bool *are_to_be, const char *path) {
-    for (const char *end = strchr(path, '/'); end; end = strchr(end + 1, '/')) {
-        char *folder = strndup(path, (size_t)(end - path));
-        char **at = folder ? bsearch(&folder, paths->at, paths->count, sizeof *paths->at, compare_paths) : NULL;
-        free(folder);
-        if (at && are_to_be[at - paths->at]) {
-            return true;
-        }
+/* Orders paths so that behind each one comes what lies in it. */
+static int compare_by_folder(const void *one, const void *other) {
+    const unsigned char *first = *(const unsigned char *const *)one, *second = *(const unsigned char *const *)other;
+    size_t at = 0;
+    while (first[at] && first[at] == second[at]) {
+        at++;
     }
-    return false;
+    int before = first[at] == '/' ? 1 : first[at] ? first[at] + 1 : 0, after = second[at] == '/' ? 1 : second[at] ? second[at] + 1 : 0;
+    return before - after;
 }
 
-/* Returns the index of the first file that is to lie in another one, or how many there are if none is. */
-static size_t first_misfit(const paths *paths, const bool *are_to_be) {
-    size_t index = 0;
-    while (index < paths->count && !(are_to_be[index] && is_in_a_file(paths, are_to_be, paths->at[index]))) {
-        index++;
+/* Returns the first path that is to lie in another one, or NULL if none is. The paths are ordered by folders. */
+static const char *first_misfit(const char *const *paths, size_t count) {
+    for (size_t i = 1; i < count; i++) {
+        size_t length = strlen(paths[i - 1]);
+        if (!strncmp(paths[i - 1], paths[i], length) && paths[i][length] == '/') {
+            return paths[i];
+        }
     }
-    return index;
+    return NULL;
 }
 
 /* Checks that no file is to lie in another one. */
 static bool check_fits(plan *plan) {
     const paths *paths = &plan->folders->paths;
-    bool *are_to_be = calloc(paths->count + 1, sizeof *are_to_be);
-    size_t next = 0;
-    for (size_t i = 0; are_to_be && i < paths->count; i++) {
-        are_to_be[i] = is_to_be(plan, i, &next);
+    const char **kept = calloc(paths->count + 1, sizeof *kept);
+    size_t next = 0, count = 0;
+    for (size_t i = 0; kept && i < paths->count; i++) {
+        kept[count] = paths->at[i];
+        count += is_to_be(plan, i, &next);
     }
-    if (!are_to_be) {
+    if (!kept) {
         return fail(plan, NULL, NULL);
     }
-    size_t bad = first_misfit(paths, are_to_be);
-    free(are_to_be);
-    return bad == paths->count || fail(plan, paths->at[bad], "it cannot be there beside a file that it would lie in");
+    qsort(kept, count, sizeof *kept, compare_by_folder);
+    const char *bad = first_misfit(kept, count);
+    free(kept);
+    return !bad || fail(plan, bad, "it cannot be there beside a file that it would lie in");
 }
 
 /* ---- What comes ---- */
@@ -146,17 +147,24 @@ static bool check_unchanged(plan *plan, wanted *wanted) {
     return is_unchanged;
 }
 
-/* Returns the permissions of a file of this mode in the place of what is there. It keeps those that it has, but for those to run it. A
+/* Sets `access` to that of a file of this mode in the place of what is there. It keeps what that has, but for permissions to run it. A
  * new file has no more than the one that it is made of. */
-static mode_t permissions_of(const wanted *wanted) {
-    const struct stat *now = &wanted->now.status, *source = &wanted->file->old.status;
+static bool find_access(plan *plan, const wanted *wanted, access_rules *access) {
+    const struct stat *source = &wanted->file->old.status;
     bool is_program = wanted->side.mode == PROGRAM_MODE;
-    if (S_ISREG(now->st_mode)) {
-        mode_t kept = now->st_mode & ALL;
-        return is_program ? kept | (kept & MAY_READ) >> 2 : kept & ~(mode_t)MAY_RUN;
+    if (S_ISREG(wanted->now.status.st_mode)) {
+        int file = open_found(&plan->folders->right, wanted->file->path, &wanted->now);
+        bool is_read = file >= 0 && read_access(file, access);
+        mode_t kept = is_read ? access->permissions : 0;
+        access->permissions = is_program ? kept | (kept & MAY_READ) >> 2 : kept & ~(mode_t)MAY_RUN;
+        if (file >= 0) {
+            close(file);
+        }
+        return is_read;
     }
-    mode_t most = S_ISREG(source->st_mode) ? source->st_mode : ALL;
-    return (is_program ? ALL : NEW_FILE) & most & ~new_file_mask();
+    mode_t most = S_ISREG(source->st_mode) ? wanted->file->old.given : ALL;
+    set_new_access(access, (is_program ? ALL : NEW_FILE) & most & ~new_file_mask());
+    return true;
 }
 
 static bool make_link(int folder, const char *name, piece target) {
@@ -166,20 +174,23 @@ static bool make_link(int folder, const char *name, piece target) {
     return is_made;
 }
 
+static bool make_file(plan *plan, const wanted *wanted, size_t index) {
+    access_rules access;
+    return find_access(plan, wanted, &access) && write_new_file(plan->spare.folder, number_of(index).name, &access, wanted->side.bytes);
+}
+
 /* Makes what comes for a wanted file in the spare folder. */
 static bool make_wanted(plan *plan, size_t index) {
     wanted *wanted = &plan->files[index];
     const side *side = &wanted->side;
-    number made = number_of(index);
     if (!check_unchanged(plan, wanted)) {
         return false;
     }
     if (side->mode == SCM_ABSENT) {
         return true;
     }
-    wanted->is_in_spare = side->mode == LINK_MODE
-                              ? make_link(plan->spare.folder, made.name, side->bytes)
-                              : write_new_file(plan->spare.folder, made.name, permissions_of(wanted), side->bytes);
+    wanted->is_in_spare = side->mode == LINK_MODE ? make_link(plan->spare.folder, number_of(index).name, side->bytes)
+                                                  : make_file(plan, wanted, index);
     return wanted->is_in_spare || fail(plan, wanted->file->path, NULL);
 }
 
@@ -210,6 +221,9 @@ static bool make_all(plan *plan) {
         return fail(plan, plan->spare.name, why);
     }
     for (size_t i = 0; i < plan->folders->differ; i++) {
+        if (is_asked_to_end()) {
+            return fail(plan, NULL, "a signal asked for the end");
+        }
         if (plan->files[i].is_other && !make_wanted(plan, i)) {
             return false;
         }
@@ -239,31 +253,50 @@ static void remove_spare(const plan *plan) {
 
 /* ---- What is put in place ---- */
 
-/* Returns the permissions of a new folder at the first `length` bytes of a path: those of the left one, if it is there. */
+/* Returns the most permissions of a new folder at the first `length` bytes of a path: those of the left one, if it is there. */
 static mode_t permissions_of_folder(below *left, const char *path, size_t length) {
-    struct stat status;
-    int like = folder_below(left, path, length);
-    return like >= 0 && fstat(like, &status) == 0 ? (status.st_mode & ALL) | OWN_FOLDER : ALL;
+    mode_t most = ALL;
+    int like = folder_below(left, path, length), listed = like < 0 ? -1 : openat(like, ".", O_RDONLY | O_DIRECTORY | O_CLOEXEC);
+    if (listed >= 0) {
+        limit_permissions(listed, &most);
+        close(listed);
+    }
+    return (most & ~new_file_mask()) | OWN_FOLDER;
 }
 
-/* Makes the folder at the first `length` bytes of a path. That of the last name in them is there. */
-static bool make_folder(folders *folders, const char *path, size_t length) {
-    char *folder = strndup(path, length);
-    place at;
-    bool is_made = folder && find_place(&folders->right, folder, &at)
-                   && mkdirat(at.folder, at.name, permissions_of_folder(&folders->left, path, length)) == 0;
-    free(folder);
+/* Gives a new folder its permissions. The group of the folder around it may have become its group: that gets what all have. */
+static bool give_permissions(int folder, mode_t permissions) {
+    struct stat now;
+    return fstat(folder, &now) == 0
+           && fchmod(folder, (now.st_mode & S_ISGID) | (now.st_gid == getegid() ? permissions : narrow(permissions))) == 0;
+}
+
+/* A folder that is made below the right one, for a path. */
+typedef struct new_folder {
+    folders *folders;
+    const char *path;
+} new_folder;
+
+/* Makes the folder `name`, whose path has `length` bytes. */
+static bool make_folder(void *with, int around, const char *name, size_t length) {
+    const new_folder *new = with;
+    mode_t permissions = permissions_of_folder(&new->folders->left, new->path, length);
+    int folder = mkdirat(around, name, OWN_FOLDER) == 0 ? openat(around, name, O_RDONLY | O_DIRECTORY | O_NOFOLLOW | O_CLOEXEC) : -1;
+    bool is_made = folder >= 0 && give_permissions(folder, permissions);
+    int error = errno;
+    if (folder >= 0) {
+        close(folder);
+    }
+    errno = error;
     return is_made;
 }
 
 /* Makes the folders that a path lies in, if they are not there. */
 static bool make_folders(folders *folders, const char *path) {
-    bool is_made = true;
-    for (const char *end = strchr(path, '/'); end && is_made; end = strchr(end + 1, '/')) {
-        size_t length = (size_t)(end - path);
-        is_made = folder_below(&folders->right, path, length) >= 0 || (errno == ENOENT && make_folder(folders, path, length));
-    }
-    return is_made;
+    const char *slash = strrchr(path, '/');
+    new_folder new = {folders, path};
+    maker maker = {make_folder, &new};
+    return !slash || make_folder_below(&folders->right, path, (size_t)(slash - path), &maker);
 }
 
 /* Removes the folders that a path lies in, as far as they are empty. */
@@ -301,13 +334,29 @@ static bool put_in_place(plan *plan, size_t index) {
     return !wanted->is_in_spare;
 }
 
+/* Returns whether what was looked at is still there. The way to it is gone anew, from the top. If the system noted a write, or another
+ * number of names, it is read once more. */
+static bool is_still_there(plan *plan, wanted *wanted) {
+    below *right = &plan->folders->right;
+    forget_last(right);
+    same same = compare_found(right, wanted->file->path, &wanted->now);
+    if (same == IS_OTHER) {
+        return fail(plan, wanted->file->path, "it changed meanwhile");
+    }
+    bool is_same = same == IS_SAME || check_unchanged(plan, wanted);
+    if (same == MAY_BE_SAME) {
+        forget_last(right);
+    }
+    return is_same;
+}
+
 /* Puts a wanted file in place, or takes away what is there, if that is still what was looked at. */
 static bool put(plan *plan, size_t index) {
-    const wanted *wanted = &plan->files[index];
+    wanted *wanted = &plan->files[index];
     below *right = &plan->folders->right;
     const char *path = wanted->file->path;
-    if (!is_still_there(right, path, &wanted->now)) {
-        return fail(plan, path, "it changed meanwhile");
+    if (!is_still_there(plan, wanted)) {
+        return false;
     }
     bool is_put = wanted->side.mode == SCM_ABSENT ? take_away(right, path) : put_in_place(plan, index);
     return is_put || fail(plan, path, NULL);
@@ -331,16 +380,15 @@ static int put_all(plan *plan) {
 
 int write_right(scm_session *session, folders *folders, failure *failure) {
     plan plan = {.folders = folders, .spare = {.folder = -1}, .failure = failure};
-    sigset_t all, before;
-    sigfillset(&all);
-    sigprocmask(SIG_BLOCK, &all, &before);
+    sigset_t before;
+    hold_signals(&before);
     /* what was opened before the user chose is looked for anew */
     forget_last(&folders->left);
     forget_last(&folders->right);
     bool is_made = read_wanted(&plan, session) && check_fits(&plan) && make_all(&plan);
     int end = is_made ? put_all(&plan) : NOTHING_WRITTEN;
     remove_spare(&plan);
-    sigprocmask(SIG_SETMASK, &before, NULL);
+    release_signals(&before);
     for (size_t i = 0; plan.files && i < folders->differ; i++) {
         free(plan.files[i].bytes.bytes);
     }

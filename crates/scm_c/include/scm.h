@@ -607,9 +607,9 @@ uint32_t scm_version(void);
  * or SCM_MAX_ROWS shows the screen at its top left.
  *
  * When it returns, the terminal and the handlers of signals are as before. Meanwhile it hears the signals SIGTSTP, SIGCONT,
- * SIGWINCH, SIGINT, SIGQUIT, SIGHUP and SIGTERM. Other signals of the program end no run, whatever their handlers (also without
- * SA_RESTART), and neither does an open file that never waits (O_NONBLOCK). One run at a time is in a process: while one goes on,
- * another call changes nothing, and returns -1 with EBUSY.
+ * SIGWINCH, SIGINT, SIGQUIT, SIGHUP and SIGTERM, and SIGXFSZ is ignored. Other signals of the program end no run, whatever their
+ * handlers (also without SA_RESTART), and neither does an open file that never waits (O_NONBLOCK). One run at a time is in a process:
+ * while one goes on, another call changes nothing, and returns -1 with EBUSY.
  *
  * This call is written in C, over the others (crates/scm_c/terminal/run.c): no proof covers it.
  *

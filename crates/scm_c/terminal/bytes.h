@@ -19,7 +19,7 @@ typedef struct text {
     size_t room;
 } text;
 
-enum { FIRST_ROOM = 1 << 15, MORE_ROOM = 1 << 20 };
+enum { FIRST_ROOM = 1 << 15 };
 
 /* Gives a text room for `room` bytes and the zero behind them. Returns false if that fails; the text is as it was. */
 static inline bool make_room(text *text, size_t room) {
@@ -32,6 +32,15 @@ static inline bool make_room(text *text, size_t room) {
         text->room = room;
     }
     return larger;
+}
+
+/* Gives back the room that a text has beyond its bytes, if that is much. */
+static inline void leave_room(text *text) {
+    char *smaller = text->room / 2 > text->length ? (char *)realloc(text->bytes, text->length + 1) : NULL;
+    if (smaller) {
+        text->bytes = smaller;
+        text->room = text->length;
+    }
 }
 
 /* Ends a text after `length` bytes, which it has room for. */
@@ -74,10 +83,11 @@ enum { MOST_BYTES = 1 << 30 };
 /* Reads on behind the first `*length` bytes, up to `most` bytes in all, and adds to `*length`. Returns 0 at the end, and -1 with errno
  * set if that fails. */
 static inline ssize_t read_more(int file, text *into, size_t *length, size_t most) {
-    if (!make_room(into, *length < into->room ? into->room : *length + MORE_ROOM)) {
+    size_t left = most - *length, wanted = *length < into->room ? into->room : 2 * into->room;
+    if (left > 0 && !make_room(into, wanted < most ? wanted : most)) {
         return -1;
     }
-    size_t room = into->room - *length, left = most - *length;
+    size_t room = into->room - *length;
     ssize_t count;
     do {
         count = read(file, into->bytes + *length, room < left ? room : left);
@@ -102,7 +112,7 @@ static inline bool find_size(int file, size_t *size) {
  * EOVERFLOW if the file has more than MOST_BYTES bytes. */
 static inline bool read_and_close(int file, text *into) {
     size_t most = 0, length = 0;
-    bool is_opened = file >= 0 && find_size(file, &most) && make_room(into, most <= MOST_BYTES ? most : MORE_ROOM);
+    bool is_opened = file >= 0 && find_size(file, &most) && make_room(into, most <= MOST_BYTES ? most : FIRST_ROOM);
     ssize_t count = is_opened ? 1 : -1;
     while (count > 0) {
         count = read_more(file, into, &length, most);
@@ -110,6 +120,7 @@ static inline bool read_and_close(int file, text *into) {
     bool is_read = count == 0 && length <= MOST_BYTES;
     int error = count == 0 && !is_read ? EOVERFLOW : errno;
     end_at(into, is_read ? length : 0);
+    leave_room(into);
     if (file >= 0) {
         close(file);
     }

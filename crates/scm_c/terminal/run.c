@@ -4,6 +4,7 @@
 #include "bytes.h"
 
 #include <limits.h>
+#include <sched.h>
 #include <signal.h>
 #include <stdatomic.h>
 #include <stdio.h>
@@ -36,20 +37,26 @@ typedef struct run {
 
 /* ---- Signals ---- */
 
-enum { STOP, CONTINUE, NEW_SIZE, INTERRUPT, QUIT, HANG_UP, TERMINATE, SIGNALS };
-static const int NUMBERS[SIGNALS] = {SIGTSTP, SIGCONT, SIGWINCH, SIGINT, SIGQUIT, SIGHUP, SIGTERM};
+enum { STOP, CONTINUE, NEW_SIZE, INTERRUPT, QUIT, HANG_UP, TERMINATE, TOO_LARGE, SIGNALS };
+static const int NUMBERS[SIGNALS] = {SIGTSTP, SIGCONT, SIGWINCH, SIGINT, SIGQUIT, SIGHUP, SIGTERM, SIGXFSZ};
 
 static struct sigaction actions_before[SIGNALS];
 /* What handlers have seen. */
 static volatile sig_atomic_t ended_by, is_stopped, is_continued, is_resized;
 /* A pipe, to which handlers write. So a wait ends if a signal comes, whichever thread of the process it comes to. */
 static int wake[2];
+/* The end that handlers write to, or -1, and how many handlers are at work: in a program of several threads one may still be when the run
+ * has ended. */
+static atomic_int wake_end = -1, at_work;
 
 static void on_signal(int number) {
     int error = errno;
+    at_work++;
+    int end = wake_end;
     *(number == SIGTSTP ? &is_stopped : number == SIGCONT ? &is_continued : number == SIGWINCH ? &is_resized : &ended_by) = number;
-    ssize_t count = write(wake[1], "", 1); /* a pipe that is full wakes too */
+    ssize_t count = end < 0 ? 0 : write(end, "", 1); /* a pipe that is full wakes too */
     (void)count;
+    at_work--;
     errno = error;
 }
 
@@ -64,9 +71,10 @@ static void handle(int signal, void (*handler)(int)) {
 }
 
 static void hear_signals(void) {
-    for (int i = 0; i < SIGNALS; i++) {
+    for (int i = 0; i < TOO_LARGE; i++) {
         handle(i, on_signal);
     }
+    handle(TOO_LARGE, SIG_IGN); /* a write says it */
 }
 
 static void restore_signals(void) {
@@ -78,14 +86,22 @@ static void restore_signals(void) {
 /* Keeps the actions of signals. Returns false with errno set if that fails. */
 static bool keep_signals(void) {
     ended_by = is_stopped = is_continued = is_resized = 0;
+    at_work = 0; /* a fork may have copied another number */
     for (int i = 0; i < SIGNALS; i++) {
         sigaction(NUMBERS[i], NULL, &actions_before[i]);
     }
-    return pipe2(wake, O_CLOEXEC | O_NONBLOCK) == 0;
+    bool is_open = pipe2(wake, O_CLOEXEC | O_NONBLOCK) == 0;
+    wake_end = is_open ? wake[1] : -1;
+    return is_open;
 }
 
+/* Gives back the actions of signals. The pipe is closed when no handler writes to it any more: its number may be another file's then. */
 static void forget_signals(void) {
     restore_signals();
+    wake_end = -1;
+    while (at_work > 0) {
+        sched_yield();
+    }
     close(wake[0]);
     close(wake[1]);
 }
@@ -274,12 +290,24 @@ static void give_files(int terminal) {
     }
 }
 
+/* Holds back all signals: no handler of this program comes in what is to be another one. */
+static void hold_signals(sigset_t *before) {
+    sigset_t all;
+    sigfillset(&all);
+    sigprocmask(SIG_BLOCK, &all, before);
+}
+
 /* Returns whether the user's editor has edited the file at `path`. It has the terminal, and the signals as they were before. */
 static bool run_editor(const run *run, const char *path) {
     int terminal = open_again(run);
+    sigset_t before;
+    hold_signals(&before);
     pid_t editor = fork();
     if (editor == 0) {
         restore_signals();
+    }
+    sigprocmask(SIG_SETMASK, &before, NULL);
+    if (editor == 0) {
         give_files(terminal < 0 ? run->terminal : terminal);
         execl("/bin/sh", "sh", "-c", "eval \"${VISUAL:-${EDITOR:-vi}} \\\"\\$1\\\"\"", "sh", path, (char *)NULL);
         _exit(EXIT_FAILURE);

@@ -1,0 +1,153 @@
+/* The file or folder that the user names, where links are followed one by one. No proof covers this file. */
+#define _GNU_SOURCE
+#include "target.h"
+#include "access.h"
+#include "files.h"
+
+#include <errno.h>
+#include <fcntl.h>
+#include <linux/magic.h>
+#include <stdlib.h>
+#include <string.h>
+#include <sys/vfs.h>
+#include <unistd.h>
+
+/* How many links are followed, as by the kernel. */
+enum { MOST_LINKS = 40 };
+
+/* A walk along a path: the folder that it came to, and what is left of the path. */
+typedef struct walk {
+    int folder;
+    char rest[2 * PATH_MAX];
+    int links;
+} walk;
+
+/* Returns whether what is in a folder is the user's, or the folder's owner's, or came there by a right that not all have. So the kernel
+ * looks at links, if it is told to (fs.protected_symlinks). */
+static bool is_trusted(int folder, const struct stat *status) {
+    struct stat around;
+    bool is_known = fstat(folder, &around) == 0;
+    bool is_shared = is_known && (around.st_mode & S_ISVTX) && (around.st_mode & OTHERS_MAY_WRITE);
+    bool is_own = is_known && (!is_shared || status->st_uid == geteuid() || status->st_uid == around.st_uid);
+    errno = is_known && !is_own ? OF_ANOTHER : errno;
+    return is_own;
+}
+
+/* Goes on in another folder. Returns whether it is open. */
+static bool enter(walk *walk, int folder) {
+    int error = errno;
+    if (walk->folder >= 0) {
+        close(walk->folder);
+    }
+    walk->folder = folder;
+    errno = error;
+    return folder >= 0;
+}
+
+/* Takes bytes off the rest of the path, and the slashes behind them. Returns how many these are. */
+static size_t take_off(walk *walk, size_t length) {
+    size_t slashes = strspn(walk->rest + length, "/");
+    const char *rest = walk->rest + length + slashes;
+    memmove(walk->rest, rest, strlen(rest) + 1);
+    return slashes;
+}
+
+/* Begins at the root, if the path does. */
+static bool begin(walk *walk) {
+    bool is_absolute = take_off(walk, 0) > 0;
+    return (walk->folder >= 0 && !is_absolute) || enter(walk, open(is_absolute ? "/" : ".", O_PATH | O_DIRECTORY | O_CLOEXEC));
+}
+
+/* Puts the target of a link before the rest of the path. */
+static bool follow_link(walk *walk, const char *name, bool is_last) {
+    char link[2 * PATH_MAX];
+    ssize_t length = readlinkat(walk->folder, name, link, PATH_MAX);
+    size_t left = strlen(walk->rest);
+    if (length < 0) {
+        return false;
+    }
+    if (length == 0 || (size_t)length + left + 2 > sizeof link || ++walk->links > MOST_LINKS) {
+        errno = walk->links > MOST_LINKS ? ELOOP : length == 0 ? ENOENT : ENAMETOOLONG;
+        return false;
+    }
+    link[length] = is_last ? 0 : '/';
+    memcpy(link + length + 1, walk->rest, left + 1);
+    memcpy(walk->rest, link, (size_t)length + left + 2);
+    return begin(walk);
+}
+
+/* Returns whether a folder is one of /proc. */
+static bool is_of_processes(int folder) {
+    struct statfs system;
+    return fstatfs(folder, &system) == 0 && system.f_type == PROC_SUPER_MAGIC;
+}
+
+/* Takes the next name off the rest of the path. Sets `is_last` to whether nothing comes behind it, not even a slash. */
+static bool take_name(walk *walk, char *name, bool *is_last) {
+    size_t length = strcspn(walk->rest, "/");
+    if (length > NAME_MAX) {
+        errno = ENAMETOOLONG;
+        return false;
+    }
+    memcpy(name, length > 0 ? walk->rest : ".", length > 0 ? length : 1);
+    name[length > 0 ? length : 1] = 0;
+    *is_last = take_off(walk, length) == 0;
+    return true;
+}
+
+/* Takes a step. Sets `is_found` if it came to what the path names. */
+static bool step(walk *walk, target *target, bool *is_found) {
+    bool is_last = false;
+    struct stat *status = &target->status;
+    memset(status, 0, sizeof *status);
+    if (!take_name(walk, target->name, &is_last)) {
+        return false;
+    }
+    bool is_there = fstatat(walk->folder, target->name, status, AT_SYMLINK_NOFOLLOW) == 0;
+    *is_found = is_last && (!is_there ? errno == ENOENT : !S_ISLNK(status->st_mode) || is_of_processes(walk->folder));
+    if (*is_found || !is_there) {
+        return *is_found && (!is_there || S_ISDIR(status->st_mode) || is_trusted(walk->folder, status));
+    }
+    if (S_ISLNK(status->st_mode)) {
+        return is_trusted(walk->folder, status) && follow_link(walk, target->name, is_last);
+    }
+    return enter(walk, openat(walk->folder, target->name, O_PATH | O_DIRECTORY | O_NOFOLLOW | O_CLOEXEC));
+}
+
+bool find_target(const char *path, target *target) {
+    walk walk = {.folder = -1};
+    bool is_found = false;
+    if (!*path || strlen(path) >= PATH_MAX) {
+        errno = *path ? ENAMETOOLONG : ENOENT;
+        return false;
+    }
+    strcpy(walk.rest, path);
+    bool is_well = begin(&walk);
+    while (is_well && !is_found) {
+        is_well = step(&walk, target, &is_found);
+    }
+    if (!is_well) {
+        enter(&walk, -1);
+    }
+    target->folder = walk.folder;
+    return is_well;
+}
+
+int open_named_folder(const char *path) {
+    char inside[PATH_MAX + 2];
+    target target;
+    size_t length = strlen(path);
+    if (length >= PATH_MAX - 2) {
+        errno = ENAMETOOLONG;
+        return -1;
+    }
+    memcpy(inside, path, length);
+    strcpy(inside + length, length > 0 ? "/." : "");
+    if (!find_target(inside, &target)) {
+        return -1;
+    }
+    int folder = openat(target.folder, ".", O_RDONLY | O_DIRECTORY | O_CLOEXEC), error = errno;
+    close(target.folder);
+    errno = error;
+    return folder;
+}

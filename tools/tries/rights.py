@@ -1,0 +1,348 @@
+"""scm-select among other users, signals, limits and odd characters, for tools/try-tools."""
+import contextlib
+import json
+import os
+import shutil
+import signal
+import stat
+import struct
+import subprocess
+import threading
+import time
+import unicodedata
+
+import changed
+from choosing.words import printable
+from selects import NEW, OLD, data_of, two, type_into
+from typed import Typed
+
+NOBODY, A_GROUP = 65534, 12345
+LIST = "system.posix_acl_access"
+NOT_ROOT = "the user may not give files away"
+OWNER, A_USER, GROUP, MASK, OTHERS, NO_NUMBER = 0x01, 0x02, 0x04, 0x10, 0x20, 0xFFFFFFFF
+
+
+def access_list(user, group, others, mask):
+    """Returns an access list that gives NOBODY `user`, and the group `group`."""
+    entries = (OWNER, 6, NO_NUMBER), (A_USER, user, NOBODY), (GROUP, group, NO_NUMBER), (MASK, mask, NO_NUMBER), (OTHERS, others, NO_NUMBER)
+    return struct.pack("<I", 2) + b"".join(struct.pack("<HHI", *entry) for entry in entries)
+
+
+def list_of(path):
+    """Returns the access list of a file, or None."""
+    with contextlib.suppress(OSError):
+        return os.getxattr(path, LIST)
+    return None
+
+
+def give(path, mode=0o640, group=None, rules=None):
+    """Gives a file its access. Returns whether the disk keeps access lists, if there is one."""
+    os.chown(path, -1, -1 if group is None else group)
+    os.chmod(path, mode)
+    with contextlib.suppress(OSError):
+        if rules:
+            os.setxattr(path, LIST, rules)
+        return True
+    return False
+
+
+def access_of(path):
+    status = os.lstat(path)
+    return stat.S_IMODE(status.st_mode), status.st_gid, list_of(path)
+
+
+def group_and_list_stay(place):
+    """A file that is written anew keeps its group and its access list: of two folders, and with -o."""
+    if os.geteuid():
+        return NOT_ROOT
+    rules = access_list(4, 0, 0, 4)
+    left, right = place.folder("left", {"a": OLD, "b": OLD}), place.folder("right", {"a": NEW, "b": NEW})
+    old, new = two(place)
+    # a folder gives its list to what is new in it
+    with contextlib.suppress(OSError):
+        os.setxattr(right, "system.posix_acl_default", access_list(7, 7, 0, 7))
+    if not all(give(path, 0o640, A_GROUP, rules) for path in (right + "/b", new)):
+        return "the disk keeps no access lists"
+    give(right + "/a", 0o640, A_GROUP)
+    before = [access_of(path) for path in (right + "/a", right + "/b", new)]
+    ends = [place.type(["scm-select", "-d", left, right], ["c"])[0], type_into(place, ["c"], "-o", new, old, new)[0]]
+    after = [access_of(path) for path in (right + "/a", right + "/b", new)]
+    return ends == [0, 0] and after == before and data_of(new) == OLD and changed.read(right) == changed.read(left)
+
+
+def no_more_for_another_group(place):
+    """What is new gives its group no more than everybody had: where a source has an access list, or another group; and where the group of
+    a file cannot be kept."""
+    if os.geteuid() or not shutil.which("setpriv"):
+        return NOT_ROOT
+    left, right = place.folder("left", {"a": OLD, "b": OLD, "c/d": OLD, "e": OLD, "f": OLD}), place.folder("right", {"f": NEW})
+    # one user is shut out by a list, and the group is not what the bits of the mode say
+    if not give(left + "/a", rules=access_list(0, 4, 4, 4)) or not give(left + "/b", rules=access_list(6, 0, 0, 6)):
+        return "the disk keeps no access lists"
+    for path, mode in (("c", 0o770), ("c/d", 0o640), ("e", 0o664)):
+        give(os.path.join(left, path), mode, A_GROUP)
+    give(right + "/f", 0o640, A_GROUP)
+    for path in (place.top, place.temporary, right):
+        os.chown(path, NOBODY, NOBODY)
+    os.chown(right + "/f", NOBODY, -1)
+    for folder, _, names in os.walk(left):
+        os.chown(folder, NOBODY, -1)
+        for name in names:
+            os.chown(os.path.join(folder, name), NOBODY, -1)
+    as_nobody = ["setpriv", "--reuid=%d" % NOBODY, "--regid=%d" % NOBODY, "--clear-groups"]
+    status, _ = place.type([*as_nobody, "scm-select", "-d", left, right], ["c"])
+    found = [access_of(os.path.join(right, path)) for path in ("a", "b", "c", "c/d", "e", "f")]
+    return status == 0 and found == [(mode, NOBODY, None) for mode in (0o600, 0o600, 0o700, 0o600, 0o644, 0o600)]
+
+
+def shared(place):
+    """Returns a folder in which all may put files, and take away their own alone."""
+    folder = place.folder("shared")
+    os.chmod(folder, 0o1777)
+    return folder
+
+
+def what_another_user_put_there(place):
+    """Where all may put files, a link, a file and a pipe of another user are not written to, and such a link leads to no RIGHT; they are
+    named. A link of one's own is followed, and one of the folder's owner."""
+    if os.geteuid():
+        return NOT_ROOT
+    folder, private = shared(place), place.folder("private", {"x": OLD})
+    old, new = two(place)
+    planted = {"link": ("link", private + "/x"), "lost": ("link", private + "/y"), "around": ("link", private), "file": b"theirs\n"}
+    changed.write(folder, planted)
+    os.mkfifo(folder + "/pipe")
+    for name in (*planted, "pipe"):
+        os.chown(os.path.join(folder, name), NOBODY, NOBODY, follow_symlinks=False)
+    held = os.open(folder + "/pipe", os.O_RDWR)
+    ends = []
+    for name in ("link", "lost", "around/z", "file", "pipe"):
+        path = os.path.join(folder, name)
+        status, said, _ = type_into(place, ["a", "c"], "-o", path, old, new)
+        ends.append(status == 2 and "%s: it is another user's, in a folder that all may write to\n" % path in said)
+    os.close(held)
+    said = place.call("scm-select", "-d", place.folder("left"), folder + "/around")
+    ends.append(said == (2, "scm-select: %s/around: it is another user's, in a folder that all may write to\n" % folder))
+    is_left = changed.read(private) == {"x": OLD} and data_of(folder + "/file") == b"theirs\n"
+    os.symlink(private + "/x", folder + "/own")
+    ends.append(type_into(place, ["a", "c"], "-o", folder + "/own", old, new)[0] == 0 and data_of(private + "/x") == NEW)
+    os.chown(folder, NOBODY, NOBODY)
+    ends.append(type_into(place, ["c"], "-o", folder + "/link", old, new)[0] == 0 and data_of(private + "/x") == OLD)
+    return all(ends) and is_left
+
+
+def signals_while_it_writes(place):
+    """A signal that comes while a file is written waits until it is in its place: nothing is left beside it. A limit of the size of
+    files is an error that is named."""
+    if not shutil.which("strace"):
+        return "there is no strace"
+    old, new = two(place, OLD, NEW + b"x\n" * 20_000)
+    output = place.folder("output")
+    path, ends = output + "/x", []
+    for name in ("TERM", "HUP", "INT"):
+        traced = ["strace", "-o", os.devnull, "-e", "trace=fsync", "-e", "inject=fsync:signal=SIG%s" % name]
+        status, _ = place.type([*traced, "scm-select", "-o", path, old, new], ["a", "c"])
+        ends.append(status == -signal.Signals["SIG" + name] and data_of(path) == data_of(new) and os.listdir(output) == ["x"])
+        os.unlink(path)
+    limited = ["sh", "-c", 'ulimit -f 8; exec scm-select "$@"', "sh"]
+    status, said = place.type([*limited, "-o", path, old, new], ["a", "c"])
+    ends.append(status == 2 and "scm-select: %s: File too large\n" % path in said and os.listdir(output) == [])
+    left, right = place.folder("left", {"a": data_of(new)}), place.folder("right", {"a": OLD})
+    status, said = place.type([*limited, "-d", left, right], ["c"])
+    ends.append(status == 2 and "scm-select: a: File too large: nothing was written\n" in said)
+    return all(ends) and changed.read(right) == {"a": OLD}
+
+
+def a_signal_before_the_first_step(place):
+    """A signal that comes while new files are made ends the program before anything is put in place, and nothing is left. One that is
+    ignored, as under nohup, ends nothing."""
+    if not shutil.which("strace"):
+        return "there is no strace"
+    old, new = ({"%d" % number: data for number in range(5)} for data in (OLD, NEW))
+    left, right = place.folder("left", old), place.folder("right", new)
+    ends = []
+    for name, ignored, wanted in (("TERM", "", (-signal.SIGTERM, new)), ("HUP", "trap '' HUP; ", (0, old))):
+        traced = ["strace", "-o", os.devnull, "-e", "trace=fsync", "-e", "inject=fsync:signal=SIG%s:when=2" % name]
+        command = ["sh", "-c", ignored + 'exec "$@"', "sh", *traced, "scm-select", "-d", left, right]
+        ends.append((place.type(command, ["c"])[0], changed.read(right)) == wanted)
+    return all(ends)
+
+
+def slowly(place, files, change):
+    """Has `change` be called while a new file of a folder is written, which takes two seconds. Returns the status, what was said, and
+    RIGHT."""
+    left, right = place.folder("left", dict.fromkeys(files, OLD)), place.folder("right", dict.fromkeys(files, NEW))
+    slow = ["strace", "-o", os.devnull, "-e", "trace=fsync", "-e", "inject=fsync:delay_enter=2000000:when=1"]
+
+    def wait():
+        end = time.monotonic() + 30
+        while not any(name.startswith(".choosing-") and os.listdir(os.path.join(right, name)) for name in os.listdir(right)):
+            if time.monotonic() > end:
+                return
+            time.sleep(0.01)
+        change(right)
+
+    thread = threading.Thread(target=wait)
+    status, said = place.type([*slow, "scm-select", "-d", left, right], ["c"], before_last=thread.start)
+    thread.join()
+    return status, said, right
+
+
+def write_unseen(path, data):
+    """Writes as many bytes as a file has, and gives it the time that it had. Only the system notes another one."""
+    before = os.stat(path)
+    with open(path, "r+b") as file:
+        file.write(data)
+    os.utime(path, ns=(before.st_atime_ns, before.st_mtime_ns))
+
+
+def what_happens_between(place):
+    """While a new file is written, another program writes to the old one and gives it its time back, or gives it other permissions: it
+    changed meanwhile. What only got another name, or a new time, is replaced."""
+    if not shutil.which("strace"):
+        return "there is no strace"
+    other = NEW.replace(b"o", b"0")
+    ends = []
+    for change in (lambda right: write_unseen(right + "/a", other), lambda right: os.chmod(right + "/a", 0o600)):
+        status, said, right = slowly(place, ["a"], change)
+        ends.append(status == 2 and "scm-select: a: it changed meanwhile: nothing was written\n" in said and os.listdir(right) == ["a"])
+        ends.append(data_of(right + "/a") in (NEW, other))
+    for change in (lambda right: os.utime(right + "/a"), lambda right: os.link(right + "/a", os.path.join(place.top, "other"))):
+        status, _, right = slowly(place, ["a"], change)
+        ends.append(status == 0 and changed.read(right) == {"a": OLD})
+    return all(ends)
+
+
+def names_of_one_file(place):
+    """Two names of one file are both replaced: what the first rename notes in the file is no change of the second one."""
+    left, right = place.folder("left", {"b": OLD, "c": OLD}), place.folder("right", {"a": NEW})
+    for name in ("b", "c"):
+        os.link(right + "/a", os.path.join(right, name))
+    return place.type(["scm-select", "-d", left, right], ["c"])[0] == 0 and changed.read(right) == {"b": OLD, "c": OLD}
+
+
+def a_folder_that_is_moved(place):
+    """A folder that is moved away while a new file is written is not written to: the way is gone once more from RIGHT on."""
+    if not shutil.which("strace"):
+        return "there is no strace"
+    outside = place.folder("outside")
+    status, said, right = slowly(place, ["d/a"], lambda right: os.rename(right + "/d", outside + "/d"))
+    is_named = status == 2 and "scm-select: d/a: it changed meanwhile: nothing was written\n" in said
+    return is_named and changed.read(outside) == {"d/a": NEW} and os.listdir(right) == []
+
+
+def make_deep(top, depth, data):
+    """Makes a file `depth` folders deep."""
+    folder = os.open(top, os.O_RDONLY)
+    for _ in range(depth):
+        os.mkdir("d", dir_fd=folder)
+        below = os.open("d", os.O_RDONLY, dir_fd=folder)
+        os.close(folder)
+        folder = below
+    with open(os.open("a", os.O_WRONLY | os.O_CREAT, dir_fd=folder), "wb") as file:
+        file.write(data)
+    os.close(folder)
+
+
+def a_deeper_tree(place):
+    """4,000 folders are made, and taken away, in a time that grows as their number does; more than 4,096 are refused by name, in a line of
+    some hundred characters."""
+    deep, flat, right = place.folder("deep"), place.folder("flat", {"b": OLD}), place.folder("right", {"b": NEW})
+    ends = []
+    try:
+        make_deep(deep, 4000, OLD)
+        # the limit is of the processor's time: other tries run beside this one
+        for left, wanted in ((deep, ["d"]), (flat, ["b"])):
+            status, _ = place.type(["sh", "-c", 'ulimit -t 15; exec scm-select -d "$@"', "sh", left, right], ["c"])
+            ends.append(status == 0 and os.listdir(right) == wanted)
+        make_deep(flat, 4100, OLD)
+        status, said = place.call("scm-select", "-d", flat, right)
+        ends.append(status == 2 and said.endswith(": it lies in more than 4,096 folders\n") and len(said) < 700)
+    finally:
+        subprocess.run(["rm", "-rf", deep, flat, right])
+    return ends == [True] * 3
+
+
+def many_small_files(place):
+    """A file takes the room that it has: 300 small files are shown and written in 150 MB of address space."""
+    left, right = (place.folder(name, {"%04d" % number: data for number in range(1000)}) for name, data in (("left", OLD), ("right", NEW)))
+    limited = ["sh", "-c", 'ulimit -v 150000; exec scm-select -d "$@"', "sh", left, right]
+    return place.type(limited, ["c"])[0] == 0 and changed.read(right) == changed.read(left)
+
+
+def written_out(c):
+    """Returns a character as scm-select shows it, where the programs in Python write it out or do not."""
+    code = ord(c)
+    return c if printable(c) == c else "\\x%02x" % code if code < 0x80 else "\\u%04x" % code if code < 0x10000 else "\\U%08x" % code
+
+
+def characters_of_both_lists(place):
+    """A message writes out the characters that the programs in Python write out, of all that Unicode has assigned."""
+    every = [chr(code) for code in range(1, 0x110000) if unicodedata.category(chr(code)) not in ("Cn", "Cs")]
+    ends = []
+    for begun in range(0, len(every), 25_000):
+        part = every[begun : begun + 25_000]
+        status, said = place.call("env", "SELECT_THEME=" + "".join(part), "scm-select", "a", "b")
+        wanted = "scm-select: SELECT_THEME is %s: write dark, light, sixteen or none\n" % "".join(map(written_out, part))
+        ends.append((status, said) == (2, wanted))
+    return all(ends) and len(every) > 200_000
+
+
+# a line separator, a tag, an annotation, a control of one byte, a mark of the reading order, and a blank
+UNSEEN = "\u2028", "\U000e0041", "\ufff9", "\x9b", "\u202e", "\u00a0"
+
+
+def records(*pairs):
+    return b"".join(b"%s %d\n%s\n" % (word.encode(), len(it.encode()), it.encode()) for word, it in pairs)
+
+
+def what_another_program_hands_in(place):
+    """Paths, notes and words that another program hands in are shown with all written out that is not seen."""
+    changes, text = os.path.join(place.top, "changes"), "a%sb" % "".join(UNSEEN)
+    file = ("path", text), ("old-path", "o" + text), ("old-mode", "100644"), ("new-mode", "100644")
+    words = ("old-words", "w" + text), ("new-words", "v" + text), ("note", "n" + text)
+    changed.write_file(changes, records(*file, *words))
+    typed = Typed(["scm-select", "--changes", changes, os.path.join(place.top, "accepted")], 400, 30, place.environment, place.top)
+    typed.press("shift-F")
+    shown = typed.screen().decode()
+    typed.press("q")
+    wanted = text.translate({ord(c): written_out(c) for c in UNSEEN})
+    is_shown = all(before + wanted in shown for before in ("", "o", "w", "v", "n"))
+    # one no-break space is between the path and what the file is
+    return typed.end() in (0, 1) and is_shown and not any(c in typed.seen.decode() for c in UNSEEN[:-1]) and shown.count("\u00a0") <= 1
+
+
+def json_for_a_terminal(place):
+    """With --json no character that is not seen reaches the terminal, or a reader that takes it for a line end: it is a number. The
+    texts are the same."""
+    text = "1%s2\n" % "".join(UNSEEN)
+    old, new = two(place, b"", text.encode())
+    status, _, printed = type_into(place, ["a", "c"], "--json", old, new)
+    lines = printed.decode().split("\n")
+    section = json.loads(lines[1])["files"][0]["sections"]
+    is_same = text in json.dumps(section, ensure_ascii=False) or text[:-1] in json.dumps(section, ensure_ascii=False)
+    side = next(line for line in lines if line.startswith("selected "))
+    is_same = is_same and json.loads(side.split(" ", 3)[3]) == text
+    return status == 0 and is_same and not any(c in printed.decode() for c in UNSEEN)
+
+
+def folders_in_one_another(place):
+    """LEFT in RIGHT, RIGHT in LEFT, and one folder twice are named, also by a link. So is a file whose name ends in a slash."""
+    top = place.folder("top", {"below/a": OLD, "b": NEW})
+    os.symlink("top", os.path.join(place.top, "link"))
+    link, below = os.path.join(place.top, "link"), top + "/below"
+    said = [place.call("scm-select", "-d", *pair) for pair in ((top, link), (below, link), (link, below))]
+    wanted = link + ": it is the same folder as LEFT", below + ": it lies in RIGHT", below + ": it lies in LEFT"
+    old, new = two(place)
+    ends = [said == [(2, "scm-select: %s\n" % words) for words in wanted]]
+    for name, why in (("zz/", "No such file or directory"), ("old/", "Not a directory"), ("top/", "Is a directory")):
+        status, words, _ = type_into(place, ["c"], "-o", os.path.join(place.top, name), old, new)
+        ends.append(status == 2 and "/%s: %s\n" % (name, why) in words)
+    return all(ends) and place.has_only("top", "link", "old", "new", "printed") and data_of(old) == OLD
+
+
+ALL = (
+    group_and_list_stay, no_more_for_another_group, what_another_user_put_there, signals_while_it_writes, a_signal_before_the_first_step,
+    what_happens_between, names_of_one_file, a_folder_that_is_moved, a_deeper_tree, many_small_files, characters_of_both_lists,
+    what_another_program_hands_in, json_for_a_terminal, folders_in_one_another,
+)
