@@ -25,12 +25,18 @@ class Room:
     def __init__(self, path, place, hint="", is_removed=False):
         self.path, self.place, self.hint, self.is_removed = path, place, hint, is_removed
 
+    def check_absolute(self):
+        """Raises OSError if the path depends on the current folder, which may be a stranger's."""
+        if not os.path.isabs(self.path):
+            raise OSError(errno.ENOENT, "HOME names no folder")
+
     def make(self):
         with contextlib.suppress(FileExistsError):
             os.mkdir(self.path, 0o700)
 
     def open(self):
         """Opens the folder. Raises OSError if it cannot be used."""
+        self.check_absolute()
         if os.path.islink(self.path):
             raise OSError(errno.ELOOP, "it is a link, and no link is followed here", self.path)
         folder = os.open(self.path, IS_FOLDER)
@@ -86,6 +92,7 @@ class UserRoom(Room):
         super().__init__(os.path.join(folder, NAME), place, ANOTHER_STATE)
 
     def make(self):
+        self.check_absolute()
         above = os.path.dirname(self.path)
         try:
             make_folders(above)

@@ -4,7 +4,7 @@ import heapq
 import os
 import stat
 
-from choosing.change import ABSENT, in_the_way
+from choosing.change import ABSENT, digest_of, in_the_way
 from choosing.cut_off import names_within
 from choosing.files import ABSENT_SIDE, Files
 from choosing.folders import MOST_BYTES, TOO_LARGE, below
@@ -95,6 +95,7 @@ class Folders:
         self.pairs = {}  # the two sides of each file that differs, by path
         self.total, self.sizes = 0, []  # how many bytes they have, and each by a number below 0, with its path: a heap
         self.sources = {}  # the permissions that a new file may have, by path
+        self.digests = {} if options.output else None  # by what the other files are known, by path, where OUTPUT gets them too
 
     @functools.cached_property
     def there(self):
@@ -115,10 +116,14 @@ class Folders:
         left_out = {path: reason for path, reason in found if reason}
         for path in sorted({path for path, _ in found} - left_out.keys()):
             (old, for_old), (new, for_new) = (files.read(path) for files in (self.left, self.right))
-            if old != new and not self.is_told(path):
+            if self.is_told(path):
+                continue
+            if old != new:
                 self.pairs[path] = old, new
                 self.sources[path] = permissions_of_both(for_old, for_new)
                 left_out.update(self.without_largest(path))
+            elif self.digests is not None:
+                self.digests[path] = digest_of(new)
         return self.pairs, left_out
 
     def without_largest(self, path):
@@ -131,8 +136,6 @@ class Folders:
             self.total += size
             del self.pairs[largest]
             left_out[largest] = TOO_MUCH % format(MOST_IN_ALL, ",")
-        for found in (self.there, self.in_right):
-            found.update((path, left_out[path]) for path in left_out.keys() & found.keys())
         return left_out
 
     def instructions(self):
@@ -148,12 +151,11 @@ class Folders:
         wanted = {path: new for path, (_, new) in self.pairs.items()}
         wanted.update((change.path, (mode, data)) for change, mode, data in choices)
         entries, total = [], 0
-        for path in sorted({*self.in_right, *self.there, *wanted}):
-            is_left_out = self.in_right.get(path) or self.there.get(path)
-            if not is_left_out and not self.is_told(path):
-                added = self.entry(path, wanted.get(path))
-                entries += added
-                total += sum(bytes_in(sides) for _, *sides in added)
+        # what was left out, also by LEFT alone, is neither
+        for path in sorted({*self.digests, *wanted}):
+            added = self.entry(path, wanted.get(path))
+            entries += added
+            total += sum(bytes_in(sides) for _, *sides in added)
             if total > MOST_IN_ALL:
                 raise Stop("%s cannot be written: OUTPUT would be given more than %s bytes" % (shown(path), format(MOST_IN_ALL, ",")))
         return entries
@@ -167,8 +169,10 @@ class Folders:
     def entry(self, path, wanted):
         """Returns the entry of a path of OUTPUT, if it is to be changed: to what is `wanted`, or else to what RIGHT has."""
         now = self.target.read(path)[0]
-        if not wanted:
+        if wanted is None:
             wanted, self.sources[path] = self.right.read(path)
+            if digest_of(wanted) != self.digests[path]:
+                raise Stop("%s changed meanwhile" % shown(path))
         return [(path, now, wanted)] if now != wanted else []
 
     def check_fits(self, entries):

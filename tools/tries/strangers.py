@@ -477,10 +477,10 @@ def a_folder_on_a_disk_of_its_own(place):
         return is_named and is_shown and is_undone
 
 
-# as another user renames each spare folder that is made in a folder, and puts a link to `target` in its place
+# as another user renames each folder that is made in a folder, if its name begins so, and puts a link to `target` in its place
 RACES = """
 import os, sys, time
-folder, target, ready, user = sys.argv[1:]
+folder, target, ready, user, begin = sys.argv[1:]
 os.setgroups([])
 os.setgid(int(user))
 os.setuid(int(user))
@@ -488,7 +488,7 @@ open(ready, "w").close()
 end = time.monotonic() + 60
 while time.monotonic() < end:
     for name in os.listdir(folder):
-        if name.startswith(".gabrosty-") and not os.path.islink(os.path.join(folder, name)):
+        if name.startswith(begin) and not os.path.islink(os.path.join(folder, name)):
             try:
                 os.rename(os.path.join(folder, name), os.path.join(folder, "moved" + name))
                 os.symlink(target, os.path.join(folder, name))
@@ -518,7 +518,7 @@ def a_race_by_another_user(place):
     for number, folder in enumerate((shared, right)):
         os.chown(folder, NOBODY, NOBODY)
         ready = os.path.join(shared, "ready-%d" % number)
-        races.append(subprocess.Popen([sys.executable, "-c", RACES, folder, victim, ready, str(NOBODY)]))
+        races.append(subprocess.Popen([sys.executable, "-c", RACES, folder, victim, ready, str(NOBODY), ".gabrosty-"]))
         while not os.path.exists(ready):
             time.sleep(0.01)
     try:
@@ -683,6 +683,58 @@ def links_where_plans_are_kept(place):
     return all(ends)
 
 
+def a_file_that_changes_unseen(place):
+    """A file that LEFT and RIGHT have alike is not shown. If it is another one by the time that OUTPUT gets it, that is said, and nothing
+    is written. What only LEFT has left out is left out of OUTPUT too."""
+    left, right = place.folder("left", {"a": b"1\n", "b": b"1\n"}), place.folder("right", {"a": b"2\n", "b": b"1\n", "pipe": b"x\n"})
+    os.mkfifo(os.path.join(left, "pipe"))
+    output, words = place.folder("output"), "%s: b changed meanwhile: nothing was written\n" % EDITOR
+    status, said = editor(place, "--output", output, left, right, MEANWHILE="echo 3 > '%s/b'" % right)
+    is_said = status == 1 and said.endswith(words) and changed.read(output) == {}
+    changed.write_file(os.path.join(right, "b"), b"1\n")
+    status, said = editor(place, "--output", output, left, right)
+    is_out = (status, said) == (0, "%s: pipe is left out: it is neither a file nor a link\n" % EDITOR)
+    return is_said and is_out and changed.read(output) == {"a": b"2\n", "b": b"1\n"}
+
+
+def no_home(place):
+    """Where no folder is the user's own, no plan is looked for in the current one, which may be a stranger's."""
+    left, right = place.folder("left", {"a": b"1\n"}), place.folder("right", {"a": b"2\n"})
+    state = place.folder(".local/state/gabrosty")
+    os.chmod(state, 0o700)
+    ends = [editor(place, "--output", right, right, left, *words, HOME=".", XDG_STATE_HOME="state") for words in ([], ["--undo"])]
+    said = "%s: no plan can be kept in ./.local/state/gabrosty: HOME names no folder; XDG_STATE_HOME names another folder\n" % EDITOR
+    return ends == [(1, said), (1, EDITOR + ": there is no writing that was cut off\n")] and changed.read(right) == {"a": b"2\n"}
+
+
+def a_race_for_a_new_folder(place):
+    """Another user, who owns RIGHT, puts a link in the place of a folder just when it is made, which is to have the permissions that it
+    had: those of the folder that the link leads to stay. Skipped without the rights of two users."""
+    if os.geteuid():
+        return "that needs another user"
+    victim = place.folder("victim", {"private": b"mine\n"})
+    os.chmod(victim, 0o700)
+    os.chmod(place.top, 0o755)
+    left, shared = place.folder("left", {"d/b": b"1\n"}), place.folder("shared")
+    right = place.folder("shared/right")
+    for folder in shared, right:
+        os.chown(folder, NOBODY, NOBODY)
+    ready = os.path.join(shared, "ready")
+    race = subprocess.Popen([sys.executable, "-c", RACES, right, victim, ready, str(NOBODY), "d"])
+    before = os.stat(victim).st_mode, os.listdir(victim), states_in(victim)
+    try:
+        while not os.path.exists(ready):
+            time.sleep(0.01)
+        for number in range(8):
+            changed.write(right, {})
+            changed.write(left, {"d/e%d/b" % number: b"1\n"})
+            editor(place, "--output", right, right, left)
+    finally:
+        race.kill()
+        race.wait()
+    return before == (os.stat(victim).st_mode, os.listdir(victim), states_in(victim))
+
+
 ALL = (
     a_clone_with_a_plan, a_folder_with_a_plan, plans_that_are_malformed, what_is_kept_and_changed, a_plan_that_fits_to_nothing,
     what_another_user_left, where_no_plan_can_be_kept, bits_that_set_a_user, permissions_of_new_files, what_becomes_a_fifo,
@@ -690,5 +742,5 @@ ALL = (
     a_lock_that_is_killed, folders_that_undo_leaves, a_new_file_for_hg, a_folder_on_a_disk_of_its_own,
     a_race_by_another_user, names_like_ours_beside_the_index, marks_that_are_no_text, marks_in_what_is_no_file,
     paths_that_git_refuses, what_git_says_beside_its_editor, files_that_have_too_much_together, a_lock_that_was_copied,
-    links_where_plans_are_kept,
+    links_where_plans_are_kept, a_file_that_changes_unseen, no_home, a_race_for_a_new_folder,
 )
