@@ -11,7 +11,10 @@ const LIBRARY: &str = "libscm_c.a";
 const MEMORY: &str = "liblibc_c.a";
 /// The file that says of an installed library that nothing was proved.
 const UNPROVED: &str = "gabrosty/unproved";
-const MISSING: &str = "the library for C is not found. One of these commands makes it, in a clone of Gabrosty:
+const MISSING: &str = "the library for C is not found. An archive of Gabrosty has it beside this crate: there the crate is lib/gabrosty/rust, and finds
+the library by itself. For a crate elsewhere, set GABROSTY_LIB_DIR to the folder lib of the archive, or of what it installed.
+
+Without an archive, one of these commands makes the library, in a clone of Gabrosty:
 
     tools/build-c            builds it for a crate in that clone
     tools/install ~/.local   installs it: then set PKG_CONFIG_PATH to ~/.local/lib/pkgconfig, or GABROSTY_LIB_DIR to ~/.local/lib

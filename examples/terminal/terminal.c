@@ -1,6 +1,7 @@
 /* Selects changes in a terminal, over the library for C: reads files, folders or a state, runs it, and writes what was accepted. No
  * proof covers this file, nor those beside it, of which it is made. */
 #define _GNU_SOURCE
+#include "failed.h"
 #include "handed.h"
 #include "layer.h"
 #include "shown.h"
@@ -378,6 +379,7 @@ int main(int argc, char **argv) {
     check(task.output || task.form == TWO_FOLDERS || fcntl(STDOUT_FILENO, F_GETFD) >= 0, "standard output", NULL);
     fill_standard_files();
     read_environment(&task);
+    hear_failed_checks();
     signal(SIGCHLD, SIG_DFL); /* else the editor's status would be lost */
     open_session(&session, &task);
     bool is_chosen = !has_nothing(&task);

@@ -1,12 +1,12 @@
-"""An archive of tools/release, unpacked and used where there is little else, with its crate for Rust, and a wheel of it, for
+"""An archive of tools/release, unpacked and used where there is little else, with its crate for Rust, and the wheel of the same image, for
 tools/try-tools."""
-import filecmp
 import os
 import re
 import shutil
 import subprocess
 import sys
 import sysconfig
+import tempfile
 
 import changed
 import trying
@@ -156,7 +156,7 @@ def is_true_on(size, page, archive, folder, path):
     home = os.path.join(folder, "home-%d" % size[0])
     os.makedirs(home)
     shutil.copy(archive, home)
-    blocks = re.findall(r"^```sh\n(.*?)^```$", page, re.M | re.S)
+    blocks = re.findall(r"^```sh\n(.*?)^```$", page.partition("## From C")[0], re.M | re.S)
     # the shell reads the lines of a file, as the terminal is the front end's
     script = os.path.join(home, "script")
     changed.write_file(script, ("set -e\ncd ~\n" + "".join(blocks)).encode())
@@ -177,14 +177,24 @@ def names_of_its_page(unpacked):
     return len(names) > 10 and all(os.path.exists(os.path.join(unpacked, name)) for name in names)
 
 
-def is_the_same_again(archive, release, folder):
-    """Whether the archive is the same, made again by another user: with another mask, language, time zone and home."""
-    other = {"TZ": "Pacific/Auckland", "LC_ALL": "C.UTF-8", "LANG": "de_DE.UTF-8", "HOME": folder, "SOURCE_DATE_EPOCH": "1"}
-    out = os.path.join(folder, "again")
-    done = subprocess.run([release, out], stdout=subprocess.DEVNULL, env={**os.environ, **other}, preexec_fn=lambda: os.umask(0o077))
-    if done.returncode:
-        return False
-    return filecmp.cmp(archive, os.path.join(out, os.path.basename(archive)), shallow=False)
+def from_c_by_its_page(unpacked, folder):
+    """Links a program by the lines of the page, after the install that they name, and once more without a shared library, and starts both.
+    Skipped where there is no C compiler or no pkg-config."""
+    if not shutil.which("cc") or not shutil.which("pkg-config"):
+        return "there is no cc or no pkg-config"
+    home = os.path.join(folder, "home-for-c")
+    os.makedirs(home)
+    changed.write(home, {"old": OLD, "new": NEW})
+    shutil.copy(trying.EXAMPLES / "embed/split.c", os.path.join(home, "tool.c"))
+    section = page_of(unpacked).partition("## From C")[2].partition("\n## ")[0]
+    lines = re.search(r"^```sh\n(.*?)^```$", section, re.M | re.S)[1]
+    static = re.search(r"`(cc -static [^`]*)`", section)[1]
+    run = './tool old new "a c" | cmp - new\nrm tool\n'
+    script = "set -e\n%s ~/.local > /dev/null\n" % os.path.join(unpacked, "install") + lines + run
+    if os.path.exists(os.path.join(unpacked, "share/gabrosty/scm-select")):
+        script += static + "\n" + run
+    variables = {"HOME": home, "PATH": os.environ["PATH"]}
+    return subprocess.run(["sh", "-c", script], cwd=home, env=variables).returncode == 0
 
 
 def with_the_crate(unpacked, folder):
@@ -192,13 +202,17 @@ def with_the_crate(unpacked, folder):
     it. Skipped where there is no cargo."""
     if not shutil.which("cargo") or not shutil.which("cc"):
         return "there is no cargo, or no C compiler that it links with"
-    tool = os.path.join(folder, "tool")
+    return builds_a_tool(os.path.join(unpacked, "lib/gabrosty/rust/plain"), folder)
+
+
+def builds_a_tool(crate, folder):
+    """Whether a tool in Rust, in a new folder of `folder`, builds over the crate and runs."""
+    tool = tempfile.mkdtemp(dir=folder)
     os.makedirs(os.path.join(tool, "src"))
-    crate = os.path.join(unpacked, "lib/gabrosty/rust/plain")
     changed.write_file(os.path.join(tool, "Cargo.toml"), (MANIFEST % crate).encode())
     changed.write_file(os.path.join(tool, "src/main.rs"), TOOL.encode())
     # cargo may be a program that finds the one to start by the home folder; rt is not on the path of what it builds
-    programs = os.path.join(folder, "rust")
+    programs = os.path.join(tool, "programs")
     os.makedirs(programs)
     for name in ("cargo", "rustc", "cc", "ld", "ar"):
         if shutil.which(name):
@@ -358,15 +372,13 @@ def in_a_folder(wheel):
     return said.startswith("accepted b'\\xff\\n' " + target) and has_staged(root, keys)
 
 
-def in_a_new_environment(release, folder):
-    """Makes a wheel, and installs it by pip, without the network: the module has its library and its types, and the programs run, also in
+def in_a_new_environment(path, folder):
+    """Installs the wheel at `path` by pip, without the network: the module has its library and its types, and the programs run, also in
     a folder of their own. Skipped where there is no pip."""
-    out, environment = os.path.join(folder, "wheel"), os.path.join(folder, "environment")
+    environment = os.path.join(folder, "environment")
     if subprocess.run([sys.executable, "-m", "venv", environment], stdout=subprocess.DEVNULL).returncode:
         return "no virtual environment can be made here"
-    if subprocess.run([release, "--wheel", out], stdout=subprocess.DEVNULL).returncode:
-        return False
-    wheel = Wheel(os.path.join(out, os.listdir(out)[0]), environment, folder)
+    wheel = Wheel(path, environment, folder)
     is_in_folder = in_a_folder(wheel)
     is_installed = wheel.install() and has_module_and_programs(wheel, environment) and runs_no_module_of_a_clone(wheel)
     return is_in_folder and is_installed and is_for_this_library(wheel) and has_types(wheel)

@@ -208,6 +208,32 @@ static void give_back(run *run) {
     }
 }
 
+/* The run that may have the terminal, for a check that fails, and what SIGILL did before it. */
+static run *volatile checked;
+static struct sigaction check_before;
+
+/* Gives the terminal back, and ends as the program would without a run: a check that is compiled in ends it by this signal. */
+static void on_failed_check(int number) {
+    ended_by = number; /* no write waits for long */
+    if (checked) {
+        give_back(checked);
+    }
+    sigaction(number, &check_before, NULL);
+    raise(number);
+}
+
+/* Has a check that fails give the terminal of `run` back. */
+static void hear_failed_check(run *run) {
+    struct sigaction action = {.sa_handler = on_failed_check};
+    checked = run;
+    sigaction(SIGILL, &action, &check_before);
+}
+
+static void forget_failed_check(void) {
+    sigaction(SIGILL, &check_before, NULL);
+    checked = NULL;
+}
+
 /* Stops the whole job with the terminal given back, and comes back when it goes on. */
 static void stop(run *run) {
     is_stopped = 0;
@@ -487,10 +513,12 @@ static int run_alone(run *run) {
         return -1;
     }
     hear_signals();
+    hear_failed_check(run);
     is_continued = 1; /* the first turn takes the terminal */
     hear(run, "", 0); /* a message may be waited for */
     take_turns(run);
     give_back(run);
+    forget_failed_check();
     forget_signals();
     free(run->frame.bytes);
     errno = run->error;
