@@ -11,7 +11,12 @@ use std::alloc::Global;
 /// Writes to `out` the records of what becomes of the paths that the records `rows` have, clipped to the length of `out`,
 /// and their whole length to `written`. Returns the code of the call.
 #[unsafe(no_mangle)]
-pub extern "C" fn scm_decide_rows(alloc: Global, rows: &[u8], out: &mut [u8], written: &mut usize) -> u32 {
+pub extern "C" fn scm_decide_rows(
+    alloc: Global,
+    rows: &[u8],
+    out: &mut [u8],
+    written: &mut usize,
+) -> u32 {
     match decide_records(alloc, rows) {
         Ok(answer) => {
             *written = write_text(answer.as_slice(), out);

@@ -58,7 +58,11 @@ fn add_entries<'a>(asked: &mut Asked<'a>, record: &Record<'a>) -> Result<(), Rea
 }
 
 /// Adds what the marks of file `file` ask for at the record's path.
-fn add_wish<'a>(asked: &mut Asked<'a>, record: &Record<'a>, file: usize) -> Result<(), ReadError<'a>> {
+fn add_wish<'a>(
+    asked: &mut Asked<'a>,
+    record: &Record<'a>,
+    file: usize,
+) -> Result<(), ReadError<'a>> {
     asked.marks.push(Mark {
         path: record.path,
         wish: Wish {

@@ -94,7 +94,11 @@ pub(crate) fn record_of<'a>(bytes: &'a [u8]) -> Option<Record<'a>> {
         ask: ask_of(bytes[2])?,
         is_second: is_second(bytes[3])?,
     };
-    if is_sound(&record) { Some(record) } else { None }
+    if is_sound(&record) {
+        Some(record)
+    } else {
+        None
+    }
 }
 
 /// The version of the old tree, as a number of contents.
