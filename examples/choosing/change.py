@@ -125,15 +125,3 @@ def described(side, data):
         return counted_bytes(data.size) + ", not shown by lines"
     size = "%s byte%s" % (format(len(data), ","), "" if len(data) == 1 else "s")
     return "link to " + shown(os.fsdecode(data)) if side.mode == LINK else "%s, %s" % (size, side.name[:10])
-
-
-def folders_of(path):
-    parts = path.split("/")
-    return ["/".join(parts[:count]) for count in range(1, len(parts))]
-
-
-def in_the_way(kept, added):
-    """Returns, by path of `added`, a path of `kept` that cannot be beside it: one of the two would lie in the other."""
-    found = {folder: path for path in kept for folder in folders_of(path) if folder in added}
-    found.update((path, folder) for path in added for folder in folders_of(path) if folder in kept)
-    return found

@@ -51,9 +51,13 @@ SELECT names another front end: a command that takes --changes, a file of change
 man page of scm-select has their form, and says how to choose colours (SELECT_THEME, NO_COLOR) and keys (~/.config/gabrosty/keys)."""
 
 
+def own_front_end():
+    return [INSTALLED if os.path.exists(INSTALLED) else BUILDS]
+
+
 def front_end():
     try:
-        return shlex.split(os.environ.get("SELECT", "")) or [INSTALLED if os.path.exists(INSTALLED) else BUILDS]
+        return shlex.split(os.environ.get("SELECT", "")) or own_front_end()
     except ValueError as error:
         raise Stop("SELECT has no such form: %s" % error) from None
 

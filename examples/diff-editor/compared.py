@@ -4,8 +4,9 @@ import heapq
 import os
 import stat
 
-from choosing.change import ABSENT, digest_of, in_the_way
+from choosing.change import ABSENT, digest_of
 from choosing.cut_off import names_within
+from choosing.decided import ABSENT as NOTHING, CHOSEN, KEPT, Row, decide
 from choosing.files import ABSENT_SIDE, Files
 from choosing.folders import MOST_BYTES, TOO_LARGE, below
 from choosing.git import Git
@@ -177,11 +178,16 @@ class Folders:
 
     def check_fits(self, entries):
         """Stops if a file would have to lie in another one: what one needs the removal of is not chosen."""
-        wanted = {path: new[0] for path, _, new in entries}
-        stays = {path for path in self.there if wanted.get(path) != ABSENT}
-        stays |= {path for path, mode in wanted.items() if mode != ABSENT}
-        for path, other in sorted(in_the_way(stays, stays).items()):
-            raise Stop("%s and %s cannot both be there, as what is marked asks for" % (shown(path), shown(other)))
+        for paths in sorted(map(sorted, decide(self.rows(entries)).left_out.values())):
+            raise Stop("%s and %s cannot both be there, as what is marked asks for" % tuple(map(shown, paths)))
+
+    def rows(self, entries):
+        """Returns the rows of all paths: LEFT is what is there now, and all of it marked is RIGHT. What does not differ stays."""
+        wanted = {path: new[0] != ABSENT for path, _, new in entries}
+        rows = [Row(path, old[0] != ABSENT, new[0] != ABSENT, CHOSEN if wanted.get(path, path in self.there) else NOTHING, path)
+                for path, (old, new) in self.pairs.items()]
+        others = (path for path in self.there if path not in self.pairs and wanted.get(path, True))
+        return [*rows, *(Row(path, True, False, KEPT, None) for path in others)]
 
     def is_copied_back(self):
         """Whether hg copies RIGHT back, file by file."""

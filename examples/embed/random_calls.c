@@ -331,6 +331,50 @@ static uint32_t read_out(void) {
     return code;
 }
 
+/* Writes up to eight rows of paths at random, some of which are none. Returns their length. */
+static size_t random_rows(char *rows) {
+    static const char *const paths[] = {"a", "a/b", "a/b/c", "b", "a-", "B", ".git/x", "", "a\xff"};
+    size_t length = 0;
+    for (uint32_t i = random_below(9); i > 0; i--) {
+        const char *path = paths[random_below(sizeof paths / sizeof *paths)];
+        rows[length++] = "o-"[random_below(2)];
+        rows[length++] = "n-"[random_below(2)];
+        rows[length++] = "onc-=z"[random_below(random_below(8) == 0 ? 6 : 5)];
+        rows[length++] = " +"[random_below(4) == 0];
+        memcpy(rows + length, path, strlen(path) + 1);
+        length += strlen(path) + 1;
+    }
+    return length - (length > 0 && random_below(20) == 0);
+}
+
+/* Looks that an answer is what scm.h says: versions of paths, and then two records for each file that is left out, or one fault. */
+static void check_decided(const char *answer, size_t length) {
+    bool is_fault = length > 0 && strchr("#2!/+", answer[0]), is_refusal = false;
+    for (size_t at = 0, count = 0; at < length; count++) {
+        char letter = answer[at];
+        size_t size = strnlen(answer + at, length - at);
+        assert(size >= 2 && size < length - at && answer[at + 1] == ' ');
+        assert(is_fault ? count == 0 : strchr(is_refusal ? "xy" : "onc-x", letter) != NULL);
+        is_refusal = is_refusal || letter == 'x';
+        at += size + 1;
+    }
+}
+
+/* Decides what becomes of random rows, in a buffer that may be too short. */
+static uint32_t decide(void) {
+    static char rows[ROOM], out[ROOM];
+    size_t count = random_rows(rows), room = random_below(4) ? ROOM : random_below(20), length = 77;
+    memset(out, GUARD, sizeof out);
+    uint32_t code = one_of(scm_decide_rows(rows, count, out, room, &length), SCM_DONE, SCM_DONE, SCM_DONE);
+    check_buffer(out, room, length, code == SCM_DONE);
+    assert(code == SCM_DONE || length == 77);
+    if (code == SCM_DONE && length <= room) {
+        check_decided(out, length);
+    }
+    assert(scm_path_fault(rows, count) <= SCM_PATH_WITH_NUL);
+    return code;
+}
+
 /* A call that opens or closes a session. Returns whether what was asked before still counts. */
 static void open_or_close(void) {
     static const char json[] = "{\"is_read_only\":false,\"commits\":[{\"message\":\"m\"}],\"files\":[{\"old_path\":null,\"path\":\"p\","
@@ -364,7 +408,7 @@ static void random_call(void) {
     bool is_building = stage_before == SCM_BUILDING;
     bool is_begin = kind < (is_building ? 8 : 4);
     uint32_t code = is_begin ? begin() : kind < (is_building ? 55 : 10) ? add_lines() : kind < (is_building ? 90 : 14) ? add_other()
-        : kind < (is_building ? 92 : 70) ? input() : kind < 94 ? read_out() : answer();
+        : kind < (is_building ? 92 : 70) ? input() : kind < 94 ? read_out() : kind < 96 ? decide() : answer();
     refused_after = 0;
     if (code != SCM_DONE) {
         assert(is_begin && code == SCM_NO_MEMORY ? scm_stage(&session) == SCM_ENDED : asked() == before);

@@ -249,6 +249,15 @@ def check_paths():
         assert paths == [("old", "new/caf\u00e9"), ("h", "g"), (None, "i")], paths
 
 
+def check_trees():
+    """What becomes of paths, also of so many that the answer has to be asked for again. And which paths are refused."""
+    assert scm.decide(b"-nn a/b\0o-o a\0") == b"o a\0- a/b\0x a/b\0y a\0" and scm.decide(b"") == b""
+    many = [b"f%d" % number for number in range(2000)]
+    found = scm.decide(b"".join(b"onn %s\0" % path for path in many))
+    assert sorted(found.split(b"\0")[:-1]) == sorted(b"n " + path for path in many)
+    assert [scm.path_fault(path) for path in (b"a/b", b"a/../b", b".Git", b"a\0b")] == ["", "dot_dot", "of_git", "with_nul"]
+
+
 def check_docstrings():
     """All that is public has a docstring."""
     public = [(name, getattr(scm, name)) for name in scm.__all__]
@@ -310,6 +319,7 @@ def main():
     check_numbers()
     check_values()
     check_paths()
+    check_trees()
     check_docstrings()
     run_in_threads()
     drive_a_layer()

@@ -2,7 +2,7 @@
 import os
 
 from choosing.change import ABSENT, Renamed, Side, Unread
-from choosing.refusals import Row, refusals
+from choosing.decided import ABSENT as NOTHING, CHOSEN, GOAL, KEPT, NOW, Row, decide
 from choosing.waiting import counted, waits
 from choosing.words import Stop, shown
 from lock import Lock
@@ -18,6 +18,11 @@ MOST_NAMED = 20
 def file_of(change):
     """Returns the change as it is shown: both paths of a renamed file are one."""
     return change.whole or change
+
+
+def paths_of(file):
+    """Returns the changes of the paths of a file as it is shown."""
+    return (file.gone, file.come) if isinstance(file, Renamed) else (file,)
 
 
 def name_of(change):
@@ -138,23 +143,37 @@ class Stage(Way):
         """Returns the paths that are beside those of a choice."""
         return self.repository.indexed()
 
+    def row(self, change, choice, file):
+        """Returns the row of a path of a shown file: without a choice its marks ask for what is there now."""
+        now, goal = (getattr(change, side).mode != ABSENT for side in (self.now, self.goal))
+        wanted = (NOW if now else NOTHING) if not choice else NOTHING if choice.mode == ABSENT else self.version_of(choice)
+        return Row(change.path, now, goal, wanted, file)
+
+    def version_of(self, choice):
+        """Returns which version of its path a choice is that leaves a file there."""
+        goal = getattr(choice.change, self.goal).mode, getattr(choice.change, self.goal + "_data")
+        return GOAL if (choice.mode, choice.data) == goal else CHOSEN
+
     def rows(self, choices):
-        """Returns the paths of `choices`, and if one of them comes also those beside them."""
-        rows = [Row(choice.change.path, getattr(choice.change, self.now).mode != ABSENT, choice.mode != ABSENT, file_of(choice.change))
-                for choice in choices]
-        if all(row.is_there or not row.is_wanted for row in rows):
+        """Returns the rows of the files of `choices`, and if a path of these comes also those of the paths beside them."""
+        chosen = {choice.change.path: choice for choice in choices}
+        files = dict.fromkeys(file_of(choice.change) for choice in choices)
+        rows = [self.row(change, chosen.get(change.path), file) for file in files for change in paths_of(file)]
+        if all(row.is_there or row.wanted == NOTHING for row in rows):
             return rows
-        chosen = {row.path for row in rows}
-        return [*rows, *(Row(path, True, True, None) for path in self.paths_there() if path not in chosen)]
+        others = dict.fromkeys(self.paths_there())
+        for row in rows:
+            others.pop(row.path, None)
+        return [*rows, *(Row(path, True, False, KEPT, None) for path in others)]
 
     def without_blocked(self, choices):
         """Returns `choices` without the files that would remove one that stays. Notes these."""
-        rows = self.rows(choices)
-        refused, files = refusals(rows), {row.path: row.file for row in rows}
-        for file, (_, other) in sorted(refused.items(), key=lambda it: it[0].path):
-            why = "stays" if files[other] in refused else "is not marked"
+        rows = {row.path: row for row in self.rows(choices)}
+        decided = decide(rows.values())
+        for file, (_, other) in sorted(decided.left_out.items(), key=lambda it: it[0].path):
+            why = "stays" if rows[other].file in decided.left_out else "is not marked"
             self.notes.append("%s is not %s: that would remove %s, which %s" % (name_of(file), self.done, shown(other), why))
-        return [choice for choice in choices if file_of(choice.change) not in refused]
+        return [choice for choice in choices if decided.is_taken(rows[choice.change.path])]
 
     def all_of(self, choices):
         """Returns `choices`. Stops if one of them would remove a file that is not chosen."""

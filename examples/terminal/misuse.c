@@ -693,6 +693,76 @@ static void take_null(void) {
     close_session();
 }
 
+/* ---- From tree to tree ---- */
+
+/* Looks that what is decided of rows is `wanted`, `length` bytes, also in a buffer that is too short. */
+static void decides(const char *rows, size_t count, const char *wanted, size_t length) {
+    char out[256];
+    size_t written = 77;
+    memset(out, 'z', sizeof out);
+    assert(scm_decide_rows(rows, count, out, sizeof out, &written) == SCM_DONE);
+    assert(written == length && memcmp(out, wanted, length) == 0 && out[length] == 'z');
+    memset(out, 'z', sizeof out);
+    assert(scm_decide_rows(rows, count, out, 1, &written) == SCM_DONE && written == length && out[1] == 'z');
+}
+
+/* The bytes of a literal, also the zero behind it, which ends its last record. */
+#define ALL(literal) literal, sizeof(literal)
+
+/* What becomes of paths: a file makes room for another one, or is in its way. */
+static void decide_paths(void) {
+    size_t written = 77;
+    decides(ALL("-nn a/b\0o-- a\0o-= c"), ALL("- a\0n a/b"));
+    decides(ALL("-nn a/b\0o-o a\0o-= c"), ALL("o a\0- a/b\0x a/b\0y a"));
+    decides(ALL("o-- b\0-nn+b/c\0o-= a\0-nc a/d"), ALL("- a/d\0- b\0n b/c\0x a/d\0y a"));
+    decides(ALL("onc f\0on= g\0onn h"), ALL("c f\0n h"));
+    decides(ALL("onn f\0onn f"), ALL("2 f"));
+    decides(ALL("-nn .GIT/f"), ALL("! .GIT/f"));
+    decides(ALL("on= a\0on= a/b"), ALL("/ "));
+    decides(ALL("o-o a\0-nn+b"), ALL("+ b"));
+    decides(ALL("--- a"), ALL("# --- a"));
+    decides(ALL("o-n a"), ALL("# o-n a"));
+    decides(ALL("o--+a"), ALL("# o--+a"));
+    decides("onn", 3, ALL("# onn"));
+    assert(scm_decide_rows(NULL, 0, NULL, 0, &written) == SCM_DONE && written == 0);
+}
+
+#ifdef __GLIBC__
+/* Refuses one allocation after another of a decision: it says so, or all is decided. */
+static void decide_without_memory(void) {
+    static const char rows[] = "-nn a/b\0o-o a\0o-- d\0-nn+e";
+    uint32_t code = SCM_NO_MEMORY;
+    for (long count = 0; code != SCM_DONE; count++) {
+        char out[256];
+        size_t written = 77;
+        granted = count;
+        is_refused = true;
+        code = scm_decide_rows(rows, sizeof rows, out, sizeof out, &written);
+        is_refused = false;
+        granted = 0;
+        assert(code == SCM_DONE || (code == SCM_NO_MEMORY && written == 77));
+        assert(count < 1000 && (count > 0 || code == SCM_NO_MEMORY));
+    }
+}
+#else
+static void decide_without_memory(void) {}
+#endif
+
+static void tell_path_faults(void) {
+    static const struct {
+        const char *path;
+        uint32_t fault;
+    } paths[] = {
+        {"a/b", SCM_PATH_FINE},       {"", SCM_PATH_EMPTY},           {"/a", SCM_PATH_EMPTY},       {"a//b", SCM_PATH_EMPTY},
+        {"a/./b", SCM_PATH_DOT},      {"../a", SCM_PATH_DOT_DOT},     {".git/a", SCM_PATH_OF_GIT},  {"a/.GIT.", SCM_PATH_OF_GIT},
+        {"git~1", SCM_PATH_OF_GIT},   {"a/.jj", SCM_PATH_OF_JJ},      {".gitignore", SCM_PATH_FINE}, {".g\xe2\x80\x8cit", SCM_PATH_OF_GIT},
+    };
+    for (size_t i = 0; i < sizeof paths / sizeof *paths; i++) {
+        assert(scm_path_fault(paths[i].path, strlen(paths[i].path)) == paths[i].fault);
+    }
+    assert(scm_path_fault("a\0b", 3) == SCM_PATH_WITH_NUL && scm_path_fault(NULL, 0) == SCM_PATH_EMPTY);
+}
+
 /* ---- A second run ---- */
 
 /* A run on a terminal of its own, by another thread. */
@@ -788,6 +858,9 @@ int main(void) {
     refuse_after_the_end();
     end_by_memory();
     take_null();
+    decide_paths();
+    decide_without_memory();
+    tell_path_faults();
     refuse_runs();
     return 0;
 }

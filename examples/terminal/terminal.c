@@ -1,6 +1,7 @@
 /* Selects changes in a terminal, over the library for C: reads files, folders or a state, runs it, and writes what was accepted. No
  * proof covers this file, nor those beside it, of which it is made. */
 #define _GNU_SOURCE
+#include "decided.h"
 #include "failed.h"
 #include "handed.h"
 #include "layer.h"
@@ -20,7 +21,8 @@ static const char HELP[] =
     "usage: " NAME " [-o FILE] OLD NEW\n"
     "       " NAME " -d LEFT RIGHT\n"
     "       " NAME " [-o FILE] STATE.json\n"
-    "       " NAME " --changes CHANGES ACCEPTED\n\n"
+    "       " NAME " --changes CHANGES ACCEPTED\n"
+    "       " NAME " --decide < ROWS\n\n"
     "Shows how the file NEW differs from OLD, and writes OLD with the changes that you mark to FILE, or to standard output.\n"
     "With -d, LEFT and RIGHT are folders, and RIGHT then has what LEFT has with the changes that you mark.\n"
     "A state has changes as JSON. With --json, what you accept is written in that form, also of files and folders.\n\n"
@@ -323,12 +325,24 @@ static int print(const char *words) {
     return fputs(words, stdout) >= 0 && fclose(stdout) == 0 ? 0 : FAILED;
 }
 
+/* Writes what becomes of the paths of the rows on standard input. Returns the status. */
+static int print_decided(void) {
+    text rows = {0}, decided = {0};
+    check(read_and_close(STDIN_FILENO, &rows), "standard input", NULL);
+    check_code(decide(&rows, &decided), "standard input");
+    bool is_written = write_bytes(STDOUT_FILENO, decided.bytes, decided.length) && close(STDOUT_FILENO) == 0;
+    check(is_written, "standard output", NULL);
+    free(rows.bytes);
+    free(decided.bytes);
+    return 0;
+}
+
 /* Reads the options into `task`. Returns the letter of one that asks for a text, or 0. */
 static int read_options(int argc, char **argv, task *task) {
     static const struct option options[] = {
         {"dir-diff", no_argument, NULL, 'd'}, {"output", required_argument, NULL, 'o'}, {"json", no_argument, NULL, 'j'},
         {"changes", no_argument, NULL, 'c'},  {"help", no_argument, NULL, 'h'},         {"version", no_argument, NULL, 'v'},
-        {0},
+        {"decide", no_argument, NULL, 'D'},   {0},
     };
     int letter;
     opterr = 0;
@@ -372,6 +386,10 @@ int main(int argc, char **argv) {
     task task = {.permissions = ~(mode_t)0, .folders = {.left = NOT_OPEN, .right = NOT_OPEN}};
     scm_session session = {0};
     int asked = read_options(argc, argv, &task);
+    if (asked == 'D') {
+        check(optind == argc, "wrong arguments", "try " NAME " --help");
+        return print_decided();
+    }
     if (asked) {
         return print(asked == 'v' ? NAME " " SCM_VERSION_TEXT "\n" BUILD : HELP);
     }

@@ -1,6 +1,7 @@
 /* The right folder of two, as the user wants it. No proof covers this file. */
 #define _GNU_SOURCE
 #include "written.h"
+#include "decided.h"
 #include "shown.h"
 
 #include <stdio.h>
@@ -78,57 +79,59 @@ static bool read_wanted(plan *plan, scm_session *session) {
     return plan->files || fail(plan, NULL, NULL);
 }
 
-/* Returns whether there is to be a file or a link at the path `paths.at[index]`. `next` is the index of the first wanted file from it
- * on. */
-static bool is_to_be(const plan *plan, size_t index, size_t *next) {
-    folders *folders = plan->folders;
-    const char *path = folders->paths.at[index];
+/* Returns whether there is anything at a path below a folder now. */
+static bool is_in(below *below, const char *path) {
     struct stat now;
     place at;
-    if (*next < folders->differ && folders->files[*next].path == path) {
-        return plan->files[(*next)++].side.mode != SCM_ABSENT;
-    }
-    return find_place(&folders->right, path, &at) && fstatat(at.folder, at.name, &now, AT_SYMLINK_NOFOLLOW) == 0;
+    return find_place(below, path, &at) && fstatat(at.folder, at.name, &now, AT_SYMLINK_NOFOLLOW) == 0;
 }
 
-/* Orders paths so that behind each one comes what lies in it. */
-static int compare_by_folder(const void *one, const void *other) {
-    const unsigned char *first = *(const unsigned char *const *)one, *second = *(const unsigned char *const *)other;
-    size_t at = 0;
-    while (first[at] && first[at] == second[at]) {
-        at++;
-    }
-    int before = first[at] == '/' ? 1 : first[at] ? first[at] + 1 : 0, after = second[at] == '/' ? 1 : second[at] ? second[at] + 1 : 0;
-    return before - after;
+/* Adds the row of a file that differs: the left folder is what is there now, and the right one has what is marked in the end. */
+static bool add_wanted(text *rows, const wanted *wanted) {
+    const change *change = &wanted->file->change;
+    char head[] = {change->old.mode == SCM_ABSENT ? '-' : 'o', change->new.mode == SCM_ABSENT ? '-' : 'n',
+                   wanted->side.mode == SCM_ABSENT ? '-' : 'c', ' '};
+    return add_row(rows, head, wanted->file->path);
 }
 
-/* Returns the first path that is to lie in another one, or NULL if none is. The paths are ordered by folders. */
-static const char *first_misfit(const char *const *paths, size_t count) {
-    for (size_t i = 1; i < count; i++) {
-        size_t length = strlen(paths[i - 1]);
-        if (!strncmp(paths[i - 1], paths[i], length) && paths[i][length] == '/') {
-            return paths[i];
+/* Adds a row for each path. What is in the right folder and is no file that differs stays. */
+static bool add_rows(plan *plan, text *rows) {
+    folders *folders = plan->folders;
+    bool is_added = true;
+    size_t next = 0;
+    for (size_t i = 0; i < folders->paths.count && is_added; i++) {
+        const char *path = folders->paths.at[i];
+        if (next < folders->differ && folders->files[next].path == path) {
+            is_added = add_wanted(rows, &plan->files[next++]);
+        } else if (is_in(&folders->right, path)) {
+            is_added = add_row(rows, is_in(&folders->left, path) ? "on= " : "-nn ", path);
         }
     }
-    return NULL;
+    return is_added;
+}
+
+/* Fails if what was decided leaves a file out: of the two paths, the one that would lie in the other is named. */
+static bool check_decided(plan *plan, const text *decided) {
+    const char *refusal = first_refusal(decided);
+    const char *comes = refusal ? refusal + 2 : NULL, *blocker = refusal ? comes + strlen(comes) + 1 + 2 : NULL;
+    if (!refusal) {
+        return true;
+    }
+    if (*refusal != 'x') {
+        return fail(plan, *comes ? comes : NULL, "it is no path that a file can be given");
+    }
+    return fail(plan, strlen(comes) > strlen(blocker) ? comes : blocker, "it cannot be there beside a file that it would lie in");
 }
 
 /* Checks that no file is to lie in another one. */
 static bool check_fits(plan *plan) {
-    const paths *paths = &plan->folders->paths;
-    const char **kept = calloc(paths->count + 1, sizeof *kept);
-    size_t next = 0, count = 0;
-    for (size_t i = 0; kept && i < paths->count; i++) {
-        kept[count] = paths->at[i];
-        count += is_to_be(plan, i, &next);
-    }
-    if (!kept) {
-        return fail(plan, NULL, NULL);
-    }
-    qsort(kept, count, sizeof *kept, compare_by_folder);
-    const char *bad = first_misfit(kept, count);
-    free(kept);
-    return !bad || fail(plan, bad, "it cannot be there beside a file that it would lie in");
+    text rows = {0}, decided = {0};
+    bool is_decided = add_rows(plan, &rows) && decide(&rows, &decided) == SCM_DONE;
+    errno = is_decided ? errno : ENOMEM;
+    bool is_fit = is_decided ? check_decided(plan, &decided) : fail(plan, NULL, NULL);
+    free(rows.bytes);
+    free(decided.bytes);
+    return is_fit;
 }
 
 /* ---- What comes ---- */

@@ -587,6 +587,48 @@ SCM_USE_CODE uint32_t scm_line(const scm_session *session, const scm_key *key, c
  * `written`. Returns SCM_NO_ITEM for a commit without a message too. */
 SCM_USE_CODE uint32_t scm_message(const scm_session *session, size_t commit, char *out, size_t length, size_t *written);
 
+/* ---- From tree to tree ----
+ *
+ * These calls need no session, and have no state: any thread may call them at any time. */
+
+/* What is wrong with a path. */
+enum {
+    SCM_PATH_FINE = 0,      /* nothing */
+    SCM_PATH_EMPTY = 1,     /* a name is empty: the path is empty, absolute, or has `//` or a `/` at its end */
+    SCM_PATH_DOT = 2,       /* a name is `.` */
+    SCM_PATH_DOT_DOT = 3,   /* a name is `..` */
+    SCM_PATH_OF_GIT = 4,    /* a file system may take a name for `.git` */
+    SCM_PATH_OF_JJ = 5,     /* a file system may take a name for `.jj` */
+    SCM_PATH_WITH_NUL = 6,  /* a name has a NUL byte */
+};
+
+/* Decides which files of a choice are left out, so that no file lies in another one, and what becomes of each path. `rows` has
+ * `length` bytes: a record for each path of two trees, an old one and a new one, in any order. A record is four bytes, the path
+ * and a NUL. The four bytes are:
+ *
+ *   o or -           whether the old tree has the path: what is there now
+ *   n or -           whether the new tree has it: what is there once everything is marked
+ *   o, n, c, - or =  what the marks ask for: the old version, the new one, a chosen one, no file; or `=` for a path that is not
+ *                    shown, so that what is there now stays
+ *   + or a blank     `+` if the path is the other one of the renamed file to which the last shown path belongs
+ *
+ * Writes records to `out`, clipped to `room` bytes, and their whole length to `written`. Each is a letter, a blank, a path and a
+ * NUL. For each shown path, in the order of paths (`/` before all other bytes), its letter is what it gets: o, n or c for a
+ * version, - for no file. After these there are two for each file that is left out, which keeps what is there now: x with the
+ * path that would come, and y with a path that stays, of which one would lie in the other. The files that are left out are the
+ * least that have to be.
+ *
+ * If nothing is decided, there is one record, with the first of these that applies: # and a record that is none; 2 and a path
+ * that is there twice; ! and a path that would come and is refused by scm_path_fault; / if a file of one tree lies in another
+ * one; + and a path of a renamed file that is not at exactly one of its paths, now and by the marks.
+ *
+ * Returns SCM_DONE or SCM_NO_MEMORY. */
+SCM_USE_CODE uint32_t scm_decide_rows(const char *rows, size_t length, char *out, size_t room, size_t *written);
+
+/* Returns what is wrong with the first name of a path, which has `length` bytes, with which something is, or SCM_PATH_FINE if it
+ * names a file below the top folder on each file system. */
+uint32_t scm_path_fault(const char *path, size_t length);
+
 /* ---- Codes ---- */
 
 /* Writes the sentence of a return code to `out`, clipped to `length` bytes. It is ASCII.

@@ -23,6 +23,7 @@ pub mod layer_calls;
 pub mod question_calls;
 mod raw_box;
 pub mod state_calls;
+pub mod tree_calls;
 
 use crate::c_session::{CSession, give_back, take};
 use scm_c_values::owners::Key;

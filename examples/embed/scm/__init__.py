@@ -17,7 +17,7 @@ Or it has the user choose, by one call:
 
 The library is the one that LIBSCM names, or where `tools/install`, `tools/build-shared` or a wheel puts it, or where the system
 looks. `scm.library` is the open library itself."""
-from ._library import ABSENT, CODES, NO_INDEX, Error, library, open_library, version, words
+from ._library import ABSENT, CODES, NO_INDEX, PATH_FAULTS, Error, decide, library, open_library, path_fault, version, words
 from ._session import Session
 from ._values import ENDS, FOLDS, OWNERS, THEMES, Contents, Folds, Key, Mark, Path, Side, Stage, Text, Theme
 
@@ -30,6 +30,6 @@ UNCHECKED, PARTLY, CHECKED = Mark.UNCHECKED, Mark.PARTLY, Mark.CHECKED
 
 __all__ = [
     "ABSENT", "ACCEPTED", "BINARY", "BUILDING", "CHECKED", "CODES", "Contents", "EDITING", "ENDED", "ENDS", "Error", "FOLDS", "Folds",
-    "Key", "Mark", "NONE", "NO_INDEX", "OWNERS", "PARTLY", "Path", "Session", "Side", "Stage", "TEXT", "THEMES", "Text", "Theme",
-    "UNCHANGED", "UNCHECKED", "WAITING", "__version__", "library", "open_library", "words",
+    "Key", "Mark", "NONE", "NO_INDEX", "OWNERS", "PARTLY", "PATH_FAULTS", "Path", "Session", "Side", "Stage", "TEXT", "THEMES", "Text",
+    "Theme", "UNCHANGED", "UNCHECKED", "WAITING", "__version__", "decide", "library", "open_library", "path_fault", "words",
 ]

@@ -6,6 +6,8 @@ import os
 NAME = "libscm.so.1"
 # the names of the codes that calls return
 CODES = "done closed not_now no_word not_text bad_state not_accepted too_long no_memory no_item no_number no_key".split()
+# the names of what can be wrong with a path
+PATH_FAULTS = ["", *"empty dot dot_dot of_git of_jj with_nul".split()]
 # the mode of a file that does not exist, and an index that names nothing
 ABSENT = NO_INDEX = int(ctypes.c_size_t(-1).value)
 
@@ -73,6 +75,9 @@ def declare() -> None:
     library.scm_words.argtypes = [ctypes.c_uint32, ctypes.c_char_p, ctypes.c_size_t]
     library.scm_words.restype = ctypes.c_size_t
     library.scm_version.argtypes, library.scm_version.restype = [], ctypes.c_uint32
+    library.scm_decide_rows.argtypes = [ctypes.c_char_p, ctypes.c_size_t, ctypes.c_char_p, ctypes.c_size_t, ctypes.POINTER(ctypes.c_size_t)]
+    library.scm_decide_rows.restype = ctypes.c_uint32
+    library.scm_path_fault.argtypes, library.scm_path_fault.restype = [ctypes.c_char_p, ctypes.c_size_t], ctypes.c_uint32
 
 
 declare()
@@ -104,6 +109,24 @@ def version() -> str:
     """Returns the version of the library."""
     number = int(library.scm_version())
     return "%d.%d.%d" % (number // 10000, number // 100 % 100, number % 100)
+
+
+def decide(rows: bytes) -> bytes:
+    """Returns what becomes of the paths of rows. scm.h has the form of both, at scm_decide_rows."""
+    written = ctypes.c_size_t(4096)
+    room = 0
+    while written.value > room:
+        room = written.value
+        out = ctypes.create_string_buffer(room)
+        code = library.scm_decide_rows(rows, len(rows), out, room, ctypes.byref(written))
+        if code:
+            raise Error(code)
+    return out.raw[: written.value]
+
+
+def path_fault(path: bytes) -> str:
+    """Returns the name of what is wrong with a path, one of `PATH_FAULTS`, or nothing if it names a file below the top folder."""
+    return PATH_FAULTS[library.scm_path_fault(path, len(path))]
 
 
 class Error(Exception):

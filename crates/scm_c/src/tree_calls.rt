@@ -1,0 +1,36 @@
+//! Calls without a session: what becomes of paths, and which paths are refused.
+ghost use Rattle.std.specs.Prelude.{◌≡◌};
+ghost use Rattle.scm_paths.specs.Names.{fault_of};
+ghost use Rattle.scm_tree_records.specs.Faults.{fault_number};
+
+use scm_c_values::buffers::write_text;
+use scm_c_values::codes::{DONE, NO_MEMORY};
+use scm_tree_records::{decide_records, path_fault_number};
+use std::alloc::Global;
+
+/// Writes to `out` the records of what becomes of the paths that the records `rows` have, clipped to the length of `out`,
+/// and their whole length to `written`. Returns the code of the call.
+#[unsafe(no_mangle)]
+pub extern "C" fn scm_decide_rows(
+    alloc: Global,
+    rows: &[u8],
+    out: &mut [u8],
+    written: &mut usize,
+) -> u32 {
+    match decide_records(alloc, rows) {
+        Ok(answer) => {
+            *written = write_text(answer.as_slice(), out);
+            DONE
+        }
+        Err(_) => NO_MEMORY,
+    }
+}
+
+/// Returns the number of what is wrong with the first name of `path` with which something is, or 0 if the path names a file
+/// below the top folder.
+#[unsafe(no_mangle)]
+pub extern "C" fn scm_path_fault(path: &[u8]) -> u32
+    ensures { result ≡ fault_number (fault_of path.now) }
+{
+    path_fault_number(path)
+}

@@ -1,0 +1,35 @@
+-- What becomes of paths, as records of bytes.
+use Rattle.std.proofs.Common.{◌≡◌, ℕ, ◌+◌, ◌<◌, List, [], ◌∷◌, ◌++◌, length, take, get_or, Option, refl, sym, ◌∙◌, ap}
+use Rattle.std.proofs.lemmas.List.{append-nil, append_assoc, take_more}
+use Rattle.scm_tree.specs.declared.row.Row.{Row}
+use Rattle.scm_tree.specs.declared.scan.Refusal.{Refusal}
+use Rattle.scm_tree_records.specs.Answers.{refusal_answer, refusals_answer, row_answer, rows_answer}
+
+rows_push : (count : ℕ) (refused : List (Option Refusal)) (rows : List Row) (r : Row) → rows_answer count refused (rows ++ r ∷ []) ≡ rows_answer count refused rows ++ row_answer count refused r
+unfolding rows_answer
+rows_push count refused [] r = append-nil (row_answer count refused r)
+rows_push count refused (x ∷ rows) r =
+    ap (λ (ys : List ℕ). row_answer count refused x ++ ys) (rows_push count refused rows r)
+    ∙ sym (append_assoc (row_answer count refused x) (rows_answer count refused rows) (row_answer count refused r))
+
+pub no_rows : (count : ℕ) (refused : List (Option Refusal)) → rows_answer count refused [] ≡ []
+unfolding rows_answer
+no_rows count refused = refl
+
+pub rows_more : (count : ℕ) (refused : List (Option Refusal)) (rows : List Row) (i : ℕ) (d : Row) → i < length rows → rows_answer count refused (take (i + 1) rows) ≡ rows_answer count refused (take i rows) ++ row_answer count refused (get_or rows i d)
+rows_more count refused rows i d h = ap (λ (rs : List Row). rows_answer count refused rs) (take_more rows i d h) ∙ rows_push count refused (take i rows) (get_or rows i d)
+
+refusals_push : (rows : List Row) (refused : List (Option Refusal)) (o : Option Refusal) → refusals_answer rows (refused ++ o ∷ []) ≡ refusals_answer rows refused ++ refusal_answer rows o
+unfolding refusals_answer
+refusals_push rows [] o = append-nil (refusal_answer rows o)
+refusals_push rows (x ∷ refused) o =
+    ap (λ (ys : List ℕ). refusal_answer rows x ++ ys) (refusals_push rows refused o)
+    ∙ sym (append_assoc (refusal_answer rows x) (refusals_answer rows refused) (refusal_answer rows o))
+
+pub no_refusals : (rows : List Row) → refusals_answer rows [] ≡ []
+unfolding refusals_answer
+no_refusals rows = refl
+
+pub refusals_more : (rows : List Row) (refused : List (Option Refusal)) (i : ℕ) (d : Option Refusal) → i < length refused → refusals_answer rows (take (i + 1) refused) ≡ refusals_answer rows (take i refused) ++ refusal_answer rows (get_or refused i d)
+refusals_more rows refused i d h =
+    ap (λ (os : List (Option Refusal)). refusals_answer rows os) (take_more refused i d h) ∙ refusals_push rows (take i refused) (get_or refused i d)

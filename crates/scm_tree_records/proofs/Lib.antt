@@ -1,0 +1,2 @@
+-- the records of what is decided
+pub mod AnswerLemmas
