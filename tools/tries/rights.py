@@ -95,6 +95,19 @@ def no_more_for_another_group(place):
     return status == 0 and found == [(mode, NOBODY, None) for mode in (0o600, 0o600, 0o700, 0o600, 0o644, 0o600)]
 
 
+def lists_that_cannot_be_read(place):
+    """Where a system says nothing of access lists, what is written is its owner's alone."""
+    if not shutil.which("strace"):
+        return "there is no strace"
+    old, new = two(place)
+    left, right = place.folder("left", {"a": OLD, "b": OLD}), place.folder("right", {"a": NEW})
+    refused = ["-e", "inject=fgetxattr:error=EPERM", "-e", "inject=fremovexattr:error=EPERM"]
+    traced = ["strace", "-o", os.devnull, "-e", "trace=fgetxattr,fremovexattr", *refused, "scm-select"]
+    ends = [place.type([*traced, "-d", left, right], ["c"])[0], place.type([*traced, "-o", new, old, new], ["c"])[0]]
+    found = [access_of(path)[0] for path in (right + "/a", right + "/b", new)]
+    return ends == [0, 0] and found == [0o600] * 3 and data_of(new) == OLD
+
+
 def shared(place):
     """Returns a folder in which all may put files, and take away their own alone."""
     folder = place.folder("shared")
@@ -342,7 +355,7 @@ def folders_in_one_another(place):
 
 
 ALL = (
-    group_and_list_stay, no_more_for_another_group, what_another_user_put_there, signals_while_it_writes, a_signal_before_the_first_step,
-    what_happens_between, names_of_one_file, a_folder_that_is_moved, a_deeper_tree, many_small_files, characters_of_both_lists,
+    group_and_list_stay, no_more_for_another_group, lists_that_cannot_be_read, what_another_user_put_there, signals_while_it_writes,
+    a_signal_before_the_first_step, what_happens_between, names_of_one_file, a_folder_that_is_moved, a_deeper_tree, many_small_files, characters_of_both_lists,
     what_another_program_hands_in, json_for_a_terminal, folders_in_one_another,
 )
