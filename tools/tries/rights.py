@@ -7,6 +7,7 @@ import signal
 import stat
 import struct
 import subprocess
+import sys
 import threading
 import time
 import unicodedata
@@ -354,8 +355,50 @@ def folders_in_one_another(place):
     return all(ends) and place.has_only("top", "link", "old", "new", "printed") and data_of(old) == OLD
 
 
+# a thread gets a signal while a run goes on, and its handler has not written yet when the run has ended
+LATE = """
+import os, pty, signal, sys, threading, time
+import scm
+user, terminal = pty.openpty()
+sleeper = threading.Thread(target=time.sleep, args=(15,), daemon=True)
+sleeper.start()
+
+def use():
+    with open(os.devnull, "wb", buffering=0) as nothing:
+        nothing.write(b"the first write of each thread takes long")
+    time.sleep(1.5)
+    signal.pthread_kill(sleeper.ident, signal.SIGWINCH)
+    time.sleep(0.5)
+    os.write(user, b"q")
+
+def read():
+    while True:
+        os.read(user, 65536)
+
+for each in use, read:
+    threading.Thread(target=each, daemon=True).start()
+with scm.Session() as session:
+    session.add_file("a", 0o100644)
+    session.begin(80, 24)
+    session.run(terminal)
+files = [open(os.path.join(sys.argv[1], str(number)), "wb") for number in range(9)]
+time.sleep(4)
+os._exit(any(os.fstat(file.fileno()).st_size for file in files))
+"""
+
+
+def a_handler_that_comes_late(place):
+    """What a handler of a run has to write, when the run has ended meanwhile, goes to no file that the program opened since."""
+    libraries = os.path.join(place.prefix, "lib")
+    if not shutil.which("strace") or not os.path.exists(os.path.join(libraries, "libscm.so")):
+        return "there is no strace or no shared library"
+    slow = ["strace", "-f", "-o", os.devnull, "-e", "trace=write", "-e", "inject=write:delay_enter=3000000:when=1"]
+    python = ["env", "PYTHONPATH=" + os.path.join(libraries, "gabrosty"), sys.executable, "-c", LATE, place.folder("files")]
+    return place.call(*slow, *python) == (0, "")
+
+
 ALL = (
     group_and_list_stay, no_more_for_another_group, lists_that_cannot_be_read, what_another_user_put_there, signals_while_it_writes,
     a_signal_before_the_first_step, what_happens_between, names_of_one_file, a_folder_that_is_moved, a_deeper_tree, many_small_files, characters_of_both_lists,
-    what_another_program_hands_in, json_for_a_terminal, folders_in_one_another,
+    what_another_program_hands_in, json_for_a_terminal, folders_in_one_another, a_handler_that_comes_late,
 )
