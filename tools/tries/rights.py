@@ -259,15 +259,15 @@ def make_deep(top, depth, data):
 
 
 def a_deeper_tree(place):
-    """4,000 folders are made, and taken away, in a time that grows as their number does; more than 4,096 are refused by name, in a line of
+    """2,500 folders are made, and taken away, in a time that grows as their number does; more than 4,096 are refused by name, in a line of
     some hundred characters."""
     deep, flat, right = place.folder("deep"), place.folder("flat", {"b": OLD}), place.folder("right", {"b": NEW})
     ends = []
     try:
-        make_deep(deep, 4000, OLD)
+        make_deep(deep, 2500, OLD)
         # the limit is of the processor's time: other tries run beside this one
         for left, wanted in ((deep, ["d"]), (flat, ["b"])):
-            status, _ = place.type(["sh", "-c", 'ulimit -t 15; exec scm-select -d "$@"', "sh", left, right], ["c"])
+            status, _ = place.type(["sh", "-c", 'ulimit -t 6; exec scm-select -d "$@"', "sh", left, right], ["c"])
             ends.append(status == 0 and os.listdir(right) == wanted)
         make_deep(flat, 4100, OLD)
         status, said = place.call("scm-select", "-d", flat, right)
@@ -399,6 +399,6 @@ def a_handler_that_comes_late(place):
 
 ALL = (
     group_and_list_stay, no_more_for_another_group, lists_that_cannot_be_read, what_another_user_put_there, signals_while_it_writes,
-    a_signal_before_the_first_step, what_happens_between, names_of_one_file, a_folder_that_is_moved, a_deeper_tree, many_small_files, characters_of_both_lists,
-    what_another_program_hands_in, json_for_a_terminal, folders_in_one_another, a_handler_that_comes_late,
+    a_signal_before_the_first_step, what_happens_between, names_of_one_file, a_folder_that_is_moved, a_deeper_tree, many_small_files,
+    characters_of_both_lists, what_another_program_hands_in, json_for_a_terminal, folders_in_one_another, a_handler_that_comes_late,
 )
