@@ -47,17 +47,21 @@ void set_new_access(access_rules *access, mode_t permissions) {
     access->length = 0;
 }
 
+/* Returns whether an errno says that a file has no access list. */
+static bool has_no_list(int error) { return error == ENODATA || error == ENOTSUP; }
+
 bool read_access(int file, access_rules *access) {
     struct stat now;
     if (fstat(file, &now) != 0) {
         return false;
     }
     ssize_t length = fgetxattr(file, ACCESS_LIST, access->list, sizeof access->list);
+    bool is_known = length >= 0 || has_no_list(errno);
     access->is_kept = true;
-    access->permissions = now.st_mode & ALL;
+    access->permissions = now.st_mode & (is_known ? ALL : OWN_FOLDER);
     access->group = now.st_gid;
     access->length = length > 0 ? (size_t)length : 0;
-    return length >= 0 || errno == ENODATA || errno == ENOTSUP;
+    return true;
 }
 
 bool limit_permissions(int file, mode_t *permissions) {
@@ -69,7 +73,7 @@ bool limit_permissions(int file, mode_t *permissions) {
 }
 
 /* Takes away the access list that a folder gives to new files. */
-static bool remove_list(int file) { return fremovexattr(file, ACCESS_LIST) == 0 || errno == ENODATA || errno == ENOTSUP; }
+static bool remove_list(int file) { return fremovexattr(file, ACCESS_LIST) == 0 || has_no_list(errno); }
 
 bool give_access(int file, const access_rules *access) {
     struct stat now;
@@ -78,6 +82,10 @@ bool give_access(int file, const access_rules *access) {
     }
     bool has_group = now.st_gid == access->group || (access->is_kept && fchown(file, (uid_t)-1, access->group) == 0);
     bool has_list = has_group && access->length > 0;
-    bool is_set = has_list ? fsetxattr(file, ACCESS_LIST, access->list, access->length, 0) == 0 : remove_list(file);
-    return is_set && fchmod(file, has_group ? access->permissions : narrowed(access)) == 0;
+    if (has_list && fsetxattr(file, ACCESS_LIST, access->list, access->length, 0) != 0) {
+        return false;
+    }
+    mode_t permissions = has_group ? access->permissions : narrowed(access);
+    /* a list that stays gives nobody anything, if the permissions do not */
+    return fchmod(file, has_list || remove_list(file) ? permissions : permissions & OWN_FOLDER) == 0;
 }

@@ -24,7 +24,8 @@ typedef struct access {
 /* Returns the access of a new file with these permissions. */
 void set_new_access(access_rules *access, mode_t permissions);
 
-/* Sets `access` to that of an open file. Returns false with errno set if that fails. */
+/* Sets `access` to that of an open file. If its list cannot be read, all but the owner have nothing. Returns false with errno set if that
+ * fails. */
 bool read_access(int file, access_rules *access);
 
 /* Leaves of `permissions` those that a new file has that is made of an open one: to nobody more than that gives. */

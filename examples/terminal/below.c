@@ -140,7 +140,15 @@ int folder_below(below *below, const char *path, size_t length) {
 }
 
 bool make_folder_below(below *below, const char *path, size_t length, const maker *make) {
-    return folder_below(below, path, length) >= 0 || (errno == ENOENT && reach(below, path, length, make) >= 0);
+    size_t there = length;
+    int folder = folder_below(below, path, there);
+    /* up to the deepest one that is there, and on from it */
+    while (folder < 0 && errno == ENOENT && there > 0) {
+        const char *slash = memrchr(path, '/', there);
+        there = slash ? (size_t)(slash - path) : 0;
+        folder = folder_below(below, path, there);
+    }
+    return folder >= 0 && (there == length || reach(below, path, length, make) >= 0);
 }
 
 bool find_place(below *below, const char *path, place *place) {

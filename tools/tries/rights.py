@@ -7,6 +7,7 @@ import signal
 import stat
 import struct
 import subprocess
+import sys
 import threading
 import time
 import unicodedata
@@ -93,6 +94,19 @@ def no_more_for_another_group(place):
     status, _ = place.type([*as_nobody, "scm-select", "-d", left, right], ["c"])
     found = [access_of(os.path.join(right, path)) for path in ("a", "b", "c", "c/d", "e", "f")]
     return status == 0 and found == [(mode, NOBODY, None) for mode in (0o600, 0o600, 0o700, 0o600, 0o644, 0o600)]
+
+
+def lists_that_cannot_be_read(place):
+    """Where a system says nothing of access lists, what is written is its owner's alone."""
+    if not shutil.which("strace"):
+        return "there is no strace"
+    old, new = two(place)
+    left, right = place.folder("left", {"a": OLD, "b": OLD}), place.folder("right", {"a": NEW})
+    refused = ["-e", "inject=fgetxattr:error=EPERM", "-e", "inject=fremovexattr:error=EPERM"]
+    traced = ["strace", "-o", os.devnull, "-e", "trace=fgetxattr,fremovexattr", *refused, "scm-select"]
+    ends = [place.type([*traced, "-d", left, right], ["c"])[0], place.type([*traced, "-o", new, old, new], ["c"])[0]]
+    found = [access_of(path)[0] for path in (right + "/a", right + "/b", new)]
+    return ends == [0, 0] and found == [0o600] * 3 and data_of(new) == OLD
 
 
 def shared(place):
@@ -245,15 +259,15 @@ def make_deep(top, depth, data):
 
 
 def a_deeper_tree(place):
-    """4,000 folders are made, and taken away, in a time that grows as their number does; more than 4,096 are refused by name, in a line of
+    """2,500 folders are made, and taken away, in a time that grows as their number does; more than 4,096 are refused by name, in a line of
     some hundred characters."""
     deep, flat, right = place.folder("deep"), place.folder("flat", {"b": OLD}), place.folder("right", {"b": NEW})
     ends = []
     try:
-        make_deep(deep, 4000, OLD)
+        make_deep(deep, 2500, OLD)
         # the limit is of the processor's time: other tries run beside this one
         for left, wanted in ((deep, ["d"]), (flat, ["b"])):
-            status, _ = place.type(["sh", "-c", 'ulimit -t 15; exec scm-select -d "$@"', "sh", left, right], ["c"])
+            status, _ = place.type(["sh", "-c", 'ulimit -t 6; exec scm-select -d "$@"', "sh", left, right], ["c"])
             ends.append(status == 0 and os.listdir(right) == wanted)
         make_deep(flat, 4100, OLD)
         status, said = place.call("scm-select", "-d", flat, right)
@@ -341,8 +355,50 @@ def folders_in_one_another(place):
     return all(ends) and place.has_only("top", "link", "old", "new", "printed") and data_of(old) == OLD
 
 
+# a thread gets a signal while a run goes on, and its handler has not written yet when the run has ended
+LATE = """
+import os, pty, signal, sys, threading, time
+import scm
+user, terminal = pty.openpty()
+sleeper = threading.Thread(target=time.sleep, args=(15,), daemon=True)
+sleeper.start()
+
+def use():
+    with open(os.devnull, "wb", buffering=0) as nothing:
+        nothing.write(b"the first write of each thread takes long")
+    time.sleep(1.5)
+    signal.pthread_kill(sleeper.ident, signal.SIGWINCH)
+    time.sleep(0.5)
+    os.write(user, b"q")
+
+def read():
+    while True:
+        os.read(user, 65536)
+
+for each in use, read:
+    threading.Thread(target=each, daemon=True).start()
+with scm.Session() as session:
+    session.add_file("a", 0o100644)
+    session.begin(80, 24)
+    session.run(terminal)
+files = [open(os.path.join(sys.argv[1], str(number)), "wb") for number in range(9)]
+time.sleep(4)
+os._exit(any(os.fstat(file.fileno()).st_size for file in files))
+"""
+
+
+def a_handler_that_comes_late(place):
+    """What a handler of a run has to write, when the run has ended meanwhile, goes to no file that the program opened since."""
+    libraries = os.path.join(place.prefix, "lib")
+    if not shutil.which("strace") or not os.path.exists(os.path.join(libraries, "libscm.so")):
+        return "there is no strace or no shared library"
+    slow = ["strace", "-f", "-o", os.devnull, "-e", "trace=write", "-e", "inject=write:delay_enter=3000000:when=1"]
+    python = ["env", "PYTHONPATH=" + os.path.join(libraries, "gabrosty"), sys.executable, "-c", LATE, place.folder("files")]
+    return place.call(*slow, *python) == (0, "")
+
+
 ALL = (
-    group_and_list_stay, no_more_for_another_group, what_another_user_put_there, signals_while_it_writes, a_signal_before_the_first_step,
-    what_happens_between, names_of_one_file, a_folder_that_is_moved, a_deeper_tree, many_small_files, characters_of_both_lists,
-    what_another_program_hands_in, json_for_a_terminal, folders_in_one_another,
+    group_and_list_stay, no_more_for_another_group, lists_that_cannot_be_read, what_another_user_put_there, signals_while_it_writes,
+    a_signal_before_the_first_step, what_happens_between, names_of_one_file, a_folder_that_is_moved, a_deeper_tree, many_small_files,
+    characters_of_both_lists, what_another_program_hands_in, json_for_a_terminal, folders_in_one_another, a_handler_that_comes_late,
 )
