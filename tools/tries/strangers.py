@@ -707,6 +707,17 @@ def no_home(place):
     return ends == [(1, said), (1, EDITOR + ": there is no writing that was cut off\n")] and changed.read(right) == {"a": b"2\n"}
 
 
+def a_home_of_another_user(place):
+    """Root, with another user's HOME, makes nothing in it. Skipped without the rights of two users."""
+    if os.geteuid():
+        return "that needs another user"
+    left, right, home = place.folder("left", {"a": b"1\n"}), place.folder("right", {"a": b"2\n"}), place.folder("home")
+    os.chown(home, NOBODY, NOBODY)
+    end = editor(place, "--output", right, right, left, HOME=home, XDG_STATE_HOME="")
+    words = "%s: no plan can be kept in %s/.local/state/gabrosty: it lies in a folder of another user; XDG_STATE_HOME names another folder\n"
+    return end == (1, words % (EDITOR, home)) and os.listdir(home) == [] and changed.read(right) == {"a": b"2\n"}
+
+
 def a_race_for_a_new_folder(place):
     """Another user, who owns RIGHT, puts a link in the place of a folder just when it is made, which is to have the permissions that it
     had: those of the folder that the link leads to stay. Skipped without the rights of two users."""
@@ -742,5 +753,6 @@ ALL = (
     a_lock_that_is_killed, folders_that_undo_leaves, a_new_file_for_hg, a_folder_on_a_disk_of_its_own,
     a_race_by_another_user, names_like_ours_beside_the_index, marks_that_are_no_text, marks_in_what_is_no_file,
     paths_that_git_refuses, what_git_says_beside_its_editor, files_that_have_too_much_together, a_lock_that_was_copied,
-    links_where_plans_are_kept, a_file_that_changes_unseen, no_home, a_race_for_a_new_folder,
+    links_where_plans_are_kept, a_file_that_changes_unseen, no_home, a_home_of_another_user,
+    a_race_for_a_new_folder,
 )
