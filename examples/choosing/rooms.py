@@ -102,3 +102,11 @@ class UserRoom(Room):
         except FileExistsError as error:
             raise NotADirectoryError(errno.ENOTDIR, "%s is no folder" % shown(error.filename)) from None
         super().make()
+
+    def open(self):
+        folder = super().open()
+        # a folder that git has checked out can be read by others, as most users have set their mask
+        if os.fstat(folder).st_mode & 0o077:
+            os.close(folder)
+            raise PermissionError(errno.EPERM, "it is not yours alone, with mode 0700", self.path)
+        return folder

@@ -11,6 +11,7 @@ import sys
 import time
 
 import changed
+from choosing.change import digest_of
 from choosing.folders import remove_folder
 from choosing.plans import key_of
 from disks import disk
@@ -707,6 +708,25 @@ def no_home(place):
     return ends == [(1, said), (1, EDITOR + ": there is no writing that was cut off\n")] and changed.read(right) == {"a": b"2\n"}
 
 
+def a_state_folder_of_a_clone(place):
+    """Where XDG_STATE_HOME is a folder that a repository tracks, no plan in it is followed, though it fits in each part."""
+    left, right = place.folder("left", {"a": b"1\n"}), place.folder("right", {"a": b"2\n"})
+    repository = Repository(place, {"gabrosty/x": b"x\n"}, {"gabrosty/x": b"x\n"}, "clone")
+    token, folder = "0" * 32, os.path.join(repository.folder, "gabrosty")
+    spare = place.folder(".gabrosty-" + token, {"secret": token.encode(), "new-0": b"3\n"})
+    sides = [digest_of(side) for side in (("100644", b"2\n"), ("100644", b"3\n"))]
+    first = [right, os.stat(right).st_ino, "beside", os.path.basename(spare), token]
+    written(os.path.join(folder, "%s-%s.plan" % (key_of(right), token)), [first, [os.stat(spare).st_ino, [["a", *sides]], []]])
+    os.chmod(spare, 0o700)
+    ends = [editor(place, left, right, *words, XDG_STATE_HOME=repository.folder) for words in (["--finish"], [])]
+    named = "%s: no plan can be kept in %s: it is not yours alone, with mode 0700; XDG_STATE_HOME names another folder\n" % (EDITOR, folder)
+    is_refused = ends == [(1, EDITOR + ": there is no writing that was cut off\n"), (1, named)] and changed.read(right) == {"a": b"2\n"}
+    os.chmod(folder, 0o700)
+    # so that all of it fitted
+    is_followed = editor(place, left, right, "--finish", XDG_STATE_HOME=repository.folder)[0] == 0 and changed.read(right) == {"a": b"3\n"}
+    return is_refused and is_followed
+
+
 def a_home_of_another_user(place):
     """Root, with another user's HOME, makes nothing in it. Skipped without the rights of two users."""
     if os.geteuid():
@@ -754,5 +774,5 @@ ALL = (
     a_race_by_another_user, names_like_ours_beside_the_index, marks_that_are_no_text, marks_in_what_is_no_file,
     paths_that_git_refuses, what_git_says_beside_its_editor, files_that_have_too_much_together, a_lock_that_was_copied,
     links_where_plans_are_kept, a_file_that_changes_unseen, no_home, a_home_of_another_user,
-    a_race_for_a_new_folder,
+    a_state_folder_of_a_clone, a_race_for_a_new_folder,
 )
