@@ -456,6 +456,19 @@ def a_new_file_for_hg(place):
     return [words % EDITOR in text for text in said] == [False, False, True]
 
 
+def links_that_hg_hands_in(place):
+    """hg hands in two links where one alone has changed in a repository: they are links, and what they lead to is neither shown nor
+    changed, be it a file or a folder."""
+    outside, ends = place.folder("outside", {"a": b"1\n", "b": b"2\n", "c/x": b"1\n", "d/x": b"2\n"}), []
+    before = changed.read(outside)
+    for old, new in (("a", "b"), ("c", "d"), ("a", "none"), ("c", None)):
+        left = place.folder("left", {"s": ("link", os.path.join(outside, old))})
+        right = place.folder("right", {"s": b"3\n" if new is None else ("link", os.path.join(outside, new))})
+        status, said = place.type([EDITOR, left + "/s", right + "/s"], ["c"], HG="/usr/bin/hg")
+        ends.append((status, said) == (0, "") and changed.read(right) == changed.read(left) and changed.read(outside) == before)
+    return all(ends)
+
+
 def a_folder_on_a_disk_of_its_own(place):
     """What is kept lies in RIGHT there, and is left out by name, while another folder of such a name is not. Skipped where no disk
     can be made."""
@@ -770,7 +783,8 @@ ALL = (
     a_clone_with_a_plan, a_folder_with_a_plan, plans_that_are_malformed, what_is_kept_and_changed, a_plan_that_fits_to_nothing,
     what_another_user_left, where_no_plan_can_be_kept, bits_that_set_a_user, permissions_of_new_files, what_becomes_a_fifo,
     a_deep_folder, names_of_git_on_other_disks, a_spare_folder_that_stays, a_folder_that_others_write_into, two_files_that_are_cut_off,
-    a_lock_that_is_killed, folders_that_undo_leaves, a_new_file_for_hg, a_folder_on_a_disk_of_its_own,
+    a_lock_that_is_killed, folders_that_undo_leaves, a_new_file_for_hg, links_that_hg_hands_in,
+    a_folder_on_a_disk_of_its_own,
     a_race_by_another_user, names_like_ours_beside_the_index, marks_that_are_no_text, marks_in_what_is_no_file,
     paths_that_git_refuses, what_git_says_beside_its_editor, files_that_have_too_much_together, a_lock_that_was_copied,
     links_where_plans_are_kept, a_file_that_changes_unseen, no_home, a_home_of_another_user,
