@@ -59,12 +59,16 @@ def bytes_in(sides):
 def is_folder(options):
     """Whether folders are compared, and not two files."""
     paths = [path for path in (options.left, options.right, options.output) if path is not None]
-    return options.dir_diff or any(os.path.isdir(path) and not is_link(path) for path in paths)
+    return options.dir_diff or any(map(is_folder_at, paths))
 
 
 def is_link(path):
     """Whether a path that is named counts as a link, and not as what it leads to."""
     return IS_HG and os.path.islink(path)
+
+
+def is_folder_at(path):
+    return os.path.isdir(path) and not is_link(path)
 
 
 def place_of(path):
@@ -87,7 +91,7 @@ def compared(options, target):
     if not is_folder(options):
         return TwoFiles(options, target)
     for path in (options.left, options.right, options.output):
-        if path is not None and not os.path.isdir(path):
+        if path is not None and not is_folder_at(path):
             raise Stop("%s is no folder" % shown(path))
     return Folders(options, target)
 

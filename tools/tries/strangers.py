@@ -466,7 +466,8 @@ def links_that_hg_hands_in(place):
         right = place.folder("right", {"s": b"3\n" if new is None else ("link", os.path.join(outside, new))})
         status, said = place.type([EDITOR, left + "/s", right + "/s"], ["c"], HG="/usr/bin/hg")
         ends.append((status, said) == (0, "") and changed.read(right) == changed.read(left) and changed.read(outside) == before)
-    return all(ends)
+    end = editor(place, "-d", left + "/s", right + "/s", HG="/usr/bin/hg")
+    return all(ends) and end == (1, "%s: %s/s is no folder\n" % (EDITOR, left))
 
 
 def a_folder_on_a_disk_of_its_own(place):
