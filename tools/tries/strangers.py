@@ -748,8 +748,8 @@ def a_home_of_another_user(place):
     left, right, home = place.folder("left", {"a": b"1\n"}), place.folder("right", {"a": b"2\n"}), place.folder("home")
     os.chown(home, NOBODY, NOBODY)
     end = editor(place, "--output", right, right, left, HOME=home, XDG_STATE_HOME="")
-    words = "%s: no plan can be kept in %s/.local/state/gabrosty: it lies in a folder of another user; XDG_STATE_HOME names another folder\n"
-    return end == (1, words % (EDITOR, home)) and os.listdir(home) == [] and changed.read(right) == {"a": b"2\n"}
+    words = "%s: no plan can be kept in %s/.local/state/gabrosty: it lies in a folder of another user; XDG_STATE_HOME names another folder"
+    return end == (1, words % (EDITOR, home) + "\n") and os.listdir(home) == [] and changed.read(right) == {"a": b"2\n"}
 
 
 def a_race_for_a_new_folder(place):
