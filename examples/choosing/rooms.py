@@ -12,10 +12,13 @@ ANOTHER_STATE = "; XDG_STATE_HOME names another folder"
 
 
 def make_folders(path):
-    """Makes the folder `path`, and those above it, for this user alone, if they are not there."""
+    """Makes the folder `path`, and those above it, for this user alone, if they are not there. Raises PermissionError if `path` belongs
+    to another user: nothing is made in it then."""
     if not os.path.isdir(path):
         make_folders(os.path.dirname(path))
         os.mkdir(path, 0o700)
+    if os.stat(path).st_uid not in (0, os.geteuid()):
+        raise PermissionError(errno.EPERM, "it lies in a folder of another user")
 
 
 class Room:
@@ -98,6 +101,12 @@ class UserRoom(Room):
             make_folders(above)
         except FileExistsError as error:
             raise NotADirectoryError(errno.ENOTDIR, "%s is no folder" % shown(error.filename)) from None
-        if os.stat(above).st_uid not in (0, os.geteuid()):
-            raise PermissionError(errno.EPERM, "it lies in a folder of another user")
         super().make()
+
+    def open(self):
+        folder = super().open()
+        # a folder that git has checked out can be read by others, as most users have set their mask
+        if os.fstat(folder).st_mode & 0o077:
+            os.close(folder)
+            raise PermissionError(errno.EPERM, "it is not yours alone, with mode 0700", self.path)
+        return folder

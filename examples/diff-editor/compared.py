@@ -4,7 +4,7 @@ import heapq
 import os
 import stat
 
-from choosing.change import ABSENT, digest_of
+from choosing.change import ABSENT, LINK, digest_of
 from choosing.cut_off import names_within
 from choosing.decided import ABSENT as NOTHING, CHOSEN, KEPT, Row, decide
 from choosing.files import ABSENT_SIDE, Files
@@ -25,7 +25,7 @@ OWN = ".git", ".jj"
 INSTRUCTIONS = "JJ-INSTRUCTIONS"
 # git difftool --dir-diff sets it. Its folder RIGHT has links to the files of the working tree.
 IS_DIFFTOOL = os.environ.get("GIT_DIFFTOOL_DIRDIFF") == "true"
-# hg sets it for the programs that it calls
+# hg sets it for the programs that it calls. It hands in files of a repository, in which a link is not the file or folder that it leads to.
 IS_HG = "HG" in os.environ
 # git sets it for what shows a single file. A file of the working tree has a relative path then, and a temporary one an absolute path.
 IS_FOR_ONE_FILE = "GIT_DIFF_PATH_COUNTER" in os.environ
@@ -60,7 +60,22 @@ def bytes_in(sides):
 def is_folder(options):
     """Whether folders are compared, and not two files."""
     paths = [path for path in (options.left, options.right, options.output) if path is not None]
-    return options.dir_diff or any(map(os.path.isdir, paths))
+    return options.dir_diff or any(map(is_folder_at, paths))
+
+
+def is_link(path):
+    """Whether a path that is named counts as a link, and not as what it leads to."""
+    return IS_HG and os.path.islink(path)
+
+
+def is_folder_at(path):
+    return os.path.isdir(path) and not is_link(path)
+
+
+def place_of(path):
+    """Returns the folder that a file which is named lies in, without links on its path, and its name there."""
+    folder, name = os.path.split(os.path.abspath(path))
+    return (os.path.realpath(folder), name) if is_link(path) else os.path.split(os.path.realpath(path))
 
 
 def target_of(options):
@@ -68,7 +83,7 @@ def target_of(options):
     path = options.output or options.right
     if is_folder(options):
         return Files(path, follows=IS_DIFFTOOL and not options.output, room=UserRoom(BESIDE))
-    return Files(os.path.dirname(os.path.realpath(path)), room=UserRoom(WITHIN))
+    return Files(place_of(path)[0], room=UserRoom(WITHIN))
 
 
 def compared(options, target):
@@ -77,7 +92,7 @@ def compared(options, target):
     if not is_folder(options):
         return TwoFiles(options, target)
     for path in (options.left, options.right, options.output):
-        if path is not None and not os.path.isdir(path):
+        if path is not None and not is_folder_at(path):
             raise Stop("%s is no folder" % shown(path))
     return Folders(options, target)
 
@@ -201,9 +216,9 @@ class Folders:
 
 def file_at(path):
     """Returns the mode and the bytes of a file, and its permissions. What is no file has to be the device for none."""
-    if os.path.isfile(path):
+    if os.path.isfile(path) or is_link(path):
         folder, name = os.path.split(os.path.abspath(path))
-        return Files(folder, follows=True).read(name)
+        return Files(folder, follows=not is_link(path)).read(name)
     if os.path.exists(path) and os.path.samefile(path, os.devnull):
         return ABSENT_SIDE, None
     raise Stop("%s is no file" % shown(path))
@@ -216,14 +231,14 @@ class TwoFiles:
     def __init__(self, options, target):
         self.is_of_working_tree = IS_FOR_ONE_FILE and not options.output and not os.path.isabs(options.right)
         ((old_mode, old), for_old), ((new_mode, new), for_new) = file_at(options.left), file_at(options.right)
-        if ABSENT not in (old_mode, new_mode):
+        if {ABSENT, LINK}.isdisjoint((old_mode, new_mode)):
             old_mode = new_mode
         self.pair = (old_mode, old), (new_mode, new)
         self.name = os.path.basename(options.left if new_mode == ABSENT else options.right)
         changed = options.output or options.right
         if not options.output and new_mode == ABSENT and not options.read_only:
             raise Stop("%s is no file to write to: name one by --output, or show the changes by --read-only" % shown(changed))
-        self.target, self.target_name = target, os.path.basename(os.path.realpath(changed))
+        self.target, self.target_name = target, place_of(changed)[1]
         self.sources = {self.target_name: permissions_of_both(for_old, for_new)}
         self.now = target.read(self.target_name)[0]
         # its path may have led elsewhere when the folder was opened

@@ -108,9 +108,6 @@ def a_file_with_a_list_of_users(place):
         if not with_list(right + "/a", LIST, wanted) or not with_list(place.top, LIST_OF_NEW, list_for(OTHER_USER, 7, 7)):
             return "the disk keeps no lists of users"
         os.chmod(right + "/b", 0o640)
-        for path in right + "/b", left + "/a", left + "/b":
-            with_list(path, LIST, list_for(OTHER_USER, 0, 0)) and os.removexattr(path, LIST)
-        os.chmod(right + "/b", 0o640)
         with_list(left + "/c", LIST, list_for(OTHER_USER, 6, 6))
         words = EDITOR, "--output", right, right, left
         end = failing(place, place.top, failure, *words) if failure else editor(place, *words[1:])

@@ -11,6 +11,7 @@ import sys
 import time
 
 import changed
+from choosing.change import digest_of
 from choosing.folders import remove_folder
 from choosing.plans import key_of
 from disks import disk
@@ -455,6 +456,20 @@ def a_new_file_for_hg(place):
     return [words % EDITOR in text for text in said] == [False, False, True]
 
 
+def links_that_hg_hands_in(place):
+    """hg hands in two links where one alone has changed in a repository: they are links, and what they lead to is neither shown nor
+    changed, be it a file or a folder."""
+    outside, ends = place.folder("outside", {"a": b"1\n", "b": b"2\n", "c/x": b"1\n", "d/x": b"2\n"}), []
+    before = changed.read(outside)
+    for old, new in (("a", "b"), ("c", "d"), ("a", "none"), ("c", None)):
+        left = place.folder("left", {"s": ("link", os.path.join(outside, old))})
+        right = place.folder("right", {"s": b"3\n" if new is None else ("link", os.path.join(outside, new))})
+        status, said = place.type([EDITOR, left + "/s", right + "/s"], ["c"], HG="/usr/bin/hg")
+        ends.append((status, said) == (0, "") and changed.read(right) == changed.read(left) and changed.read(outside) == before)
+    end = editor(place, "-d", left + "/s", right + "/s", HG="/usr/bin/hg")
+    return all(ends) and end == (1, "%s: %s/s is no folder\n" % (EDITOR, left))
+
+
 def a_folder_on_a_disk_of_its_own(place):
     """What is kept lies in RIGHT there, and is left out by name, while another folder of such a name is not. Skipped where no disk
     can be made."""
@@ -707,6 +722,36 @@ def no_home(place):
     return ends == [(1, said), (1, EDITOR + ": there is no writing that was cut off\n")] and changed.read(right) == {"a": b"2\n"}
 
 
+def a_state_folder_of_a_clone(place):
+    """Where XDG_STATE_HOME is a folder that a repository tracks, no plan in it is followed, though it fits in each part."""
+    left, right = place.folder("left", {"a": b"1\n"}), place.folder("right", {"a": b"2\n"})
+    repository = Repository(place, {"gabrosty/x": b"x\n"}, {"gabrosty/x": b"x\n"}, "clone")
+    token, folder = "0" * 32, os.path.join(repository.folder, "gabrosty")
+    spare = place.folder(".gabrosty-" + token, {"secret": token.encode(), "new-0": b"3\n"})
+    sides = [digest_of(side) for side in (("100644", b"2\n"), ("100644", b"3\n"))]
+    first = [right, os.stat(right).st_ino, "beside", os.path.basename(spare), token]
+    written(os.path.join(folder, "%s-%s.plan" % (key_of(right), token)), [first, [os.stat(spare).st_ino, [["a", *sides]], []]])
+    os.chmod(spare, 0o700)
+    ends = [editor(place, left, right, *words, XDG_STATE_HOME=repository.folder) for words in (["--finish"], [])]
+    named = "%s: no plan can be kept in %s: it is not yours alone, with mode 0700; XDG_STATE_HOME names another folder\n" % (EDITOR, folder)
+    is_refused = ends == [(1, EDITOR + ": there is no writing that was cut off\n"), (1, named)] and changed.read(right) == {"a": b"2\n"}
+    os.chmod(folder, 0o700)
+    # so that all of it fitted
+    is_followed = editor(place, left, right, "--finish", XDG_STATE_HOME=repository.folder)[0] == 0 and changed.read(right) == {"a": b"3\n"}
+    return is_refused and is_followed
+
+
+def a_home_of_another_user(place):
+    """Root, with another user's HOME, makes nothing in it. Skipped without the rights of two users."""
+    if os.geteuid():
+        return "that needs another user"
+    left, right, home = place.folder("left", {"a": b"1\n"}), place.folder("right", {"a": b"2\n"}), place.folder("home")
+    os.chown(home, NOBODY, NOBODY)
+    end = editor(place, "--output", right, right, left, HOME=home, XDG_STATE_HOME="")
+    words = "%s: no plan can be kept in %s/.local/state/gabrosty: it lies in a folder of another user; XDG_STATE_HOME names another folder"
+    return end == (1, words % (EDITOR, home) + "\n") and os.listdir(home) == [] and changed.read(right) == {"a": b"2\n"}
+
+
 def a_race_for_a_new_folder(place):
     """Another user, who owns RIGHT, puts a link in the place of a folder just when it is made, which is to have the permissions that it
     had: those of the folder that the link leads to stay. Skipped without the rights of two users."""
@@ -739,8 +784,10 @@ ALL = (
     a_clone_with_a_plan, a_folder_with_a_plan, plans_that_are_malformed, what_is_kept_and_changed, a_plan_that_fits_to_nothing,
     what_another_user_left, where_no_plan_can_be_kept, bits_that_set_a_user, permissions_of_new_files, what_becomes_a_fifo,
     a_deep_folder, names_of_git_on_other_disks, a_spare_folder_that_stays, a_folder_that_others_write_into, two_files_that_are_cut_off,
-    a_lock_that_is_killed, folders_that_undo_leaves, a_new_file_for_hg, a_folder_on_a_disk_of_its_own,
+    a_lock_that_is_killed, folders_that_undo_leaves, a_new_file_for_hg, links_that_hg_hands_in,
+    a_folder_on_a_disk_of_its_own,
     a_race_by_another_user, names_like_ours_beside_the_index, marks_that_are_no_text, marks_in_what_is_no_file,
     paths_that_git_refuses, what_git_says_beside_its_editor, files_that_have_too_much_together, a_lock_that_was_copied,
-    links_where_plans_are_kept, a_file_that_changes_unseen, no_home, a_race_for_a_new_folder,
+    links_where_plans_are_kept, a_file_that_changes_unseen, no_home, a_home_of_another_user,
+    a_state_folder_of_a_clone, a_race_for_a_new_folder,
 )

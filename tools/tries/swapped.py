@@ -146,6 +146,25 @@ def a_repository_of_another_user(place):
     return is_refused and is_stopped and repository.index() == before and repository.is_sound()
 
 
+# a file becomes too large between the look at it and the reading
+GROWS = """import look
+kept = look.Look.converted
+def grows(self, paths):
+    os.truncate("a", 1 << 40)
+    return kept(self, paths)
+look.Look.converted = grows
+"""
+
+
+def a_file_that_becomes_large(place):
+    """A file that has a terabyte when it is read, and had a few bytes when it was looked at, is left out by name."""
+    repository = Repository(place, {"a": b"1\n", "b": b"1\n"}, {"a": b"2\n", "b": b"2\n"})
+    status, said = select_patched(repository, GROWS)
+    changed.write(repository.folder, {"a": b"1\n", "b": b"2\n"})
+    out = "git-select: a is left out: it has more than 1,000,000,000 bytes\n"
+    return status == 0 and out in said and "staged: b\n" in said and repository.index() == repository.index_of("add", "b")
+
+
 # the link that is named as RIGHT leads to another file for a moment, while its folder is looked for
 ANOTHER = """import compared
 kept = compared.target_of
@@ -173,5 +192,5 @@ def a_link_that_leads_elsewhere(place):
 
 ALL = (
     another_repository_meanwhile, a_folder_behind_the_last_look, a_folder_that_becomes_a_link, a_repository_of_another_user,
-    a_link_that_leads_elsewhere,
+    a_link_that_leads_elsewhere, a_file_that_becomes_large,
 )
