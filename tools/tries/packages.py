@@ -60,8 +60,7 @@ def each_has_completion(out, *_):
 
 
 def by_the_line_of_the_readme(out, _, folder):
-    """The line of the project's README installs the archive in a folder that has all packages, where the path has git and Python alone beside
-    the commands of each system."""
+    """The line of the project's README installs the archive in a folder that has all packages, without the toolchain."""
     with open(trying.ROOT / "README.md") as page:
         line = re.search(r"^(tar -xzf .*?)(?:\s+#.*)?$", page.read(), re.M)[1]
     home = os.path.join(folder, "home of the readme")
@@ -158,5 +157,6 @@ def the_crate_by_itself(out, _, folder):
 
 
 ALL = (
-    each_has_completion, by_the_line_of_the_readme, no_package_is_made_without_a_proof, by_dpkg, lintian_finds_no_error, the_crate_by_itself,
+    each_has_completion, by_the_line_of_the_readme, no_package_is_made_without_a_proof, by_dpkg, lintian_finds_no_error,
+    the_crate_by_itself,
 )
