@@ -19,7 +19,8 @@ bool add_plain_json(text *into, piece json);
 const char *named(const char *path);
 
 /* Prints words, in the form of printf, on standard error, and `end` behind them. What the words have that is no UTF-8, or is not
- * seen, is written out: a path, a value or a line of a file can do nothing to the terminal. Every message is printed by this call. */
+ * seen, is written out: a path, a value or a line of a file can do nothing to the terminal. Every message is printed by this call, but
+ * that of a check that fails (failed.h). */
 void print_shown(const char *end, const char *form, ...) __attribute__((format(printf, 2, 3)));
 
 /* Prints a message on a line of its own, behind the program's name. */

@@ -1,5 +1,5 @@
-"""The packages of tools/release, all of one image: the same again, completed by each shell, installed, upgraded and removed by dpkg, and the
-crate for Rust by itself, for tools/try-tools."""
+"""The packages of tools/release, all of one image, for tools/try-tools: the same again, with what shells complete, installed, upgraded and
+removed by dpkg, and the crate for Rust by itself."""
 import filecmp
 import os
 import re
@@ -14,7 +14,7 @@ from archives import READER, Root, builds_a_tool, has_staged, page_of
 from pages import keys_of
 
 KINDS = {
-    "archive": r"gabrosty-\d.*\.tar\.gz", "wheel": r"gabrosty-.*\.whl", "deb": r"gabrosty_.*\.deb", "crate": r"gabrosty-rust-.*\.tar\.gz",
+    "archive": r"gabrosty-.*\.tar\.gz", "wheel": r"gabrosty-.*\.whl", "deb": r"gabrosty_.*\.deb", "crate": r"rust-gabrosty-.*\.tar\.gz",
 }
 # what shells read, by the ends of their paths
 COMPLETIONS = "/bash-completion/completions/git-select", "/_git-select", "/fish/vendor_completions.d/git-select.fish"
@@ -59,6 +59,22 @@ def each_has_completion(out, *_):
                for end in COMPLETIONS)
 
 
+def by_the_line_of_the_readme(out, _, folder):
+    """The line of the project's README installs the archive in a folder that has all packages, without the toolchain."""
+    with open(trying.ROOT / "README.md") as page:
+        line = re.search(r"^(tar -xzf .*?)(?:\s+#.*)?$", page.read(), re.M)[1]
+    home = os.path.join(folder, "home of the readme")
+    shutil.copytree(out, home)
+    path = os.pathsep.join(it for it in os.environ["PATH"].split(os.pathsep) if not os.path.exists(os.path.join(it, "rt")))
+    words = line + " && PATH=~/.local/bin:$PATH git select --version"
+    how = {"stdout": subprocess.PIPE, "stderr": subprocess.STDOUT, "text": True, "env": {**READER, "HOME": home, "PATH": path}}
+    done = subprocess.run(["sh", "-c", words], cwd=home, **how)
+    is_said = re.fullmatch(r"(?:.*\n)*git-select [\d.]+\n", done.stdout)
+    if done.returncode or not is_said:
+        print(done.stdout)
+    return done.returncode == 0 and bool(is_said)
+
+
 def no_package_is_made_without_a_proof(_, unpacked, folder):
     """An image that says that nothing was proved for it makes neither a wheel nor a package for Debian."""
     image, empty = os.path.join(folder, "image without a proof"), os.path.join(folder, "empty")
@@ -97,8 +113,8 @@ def files_below(root):
 
 
 def by_dpkg(out, unpacked, folder):
-    """dpkg installs an older package, upgrades it and removes it, in a root folder of its own. Meanwhile a line is staged from there, by the
-    keys of the archive's page. Skipped where there is no dpkg."""
+    """dpkg installs an older package, upgrades it and removes it, in a root folder of its own. Meanwhile a line is staged from there, by
+    the keys of the archive's page. Skipped where there is no dpkg."""
     if not shutil.which("dpkg") or os.geteuid():
         return "there is no dpkg" if not shutil.which("dpkg") else "only root gives files to root"
     root = os.path.join(folder, "debian")
@@ -140,4 +156,7 @@ def the_crate_by_itself(out, _, folder):
     return is_whole and names_no_clone and builds_a_tool(os.path.join(unpacked, "plain"), folder)
 
 
-ALL = each_has_completion, no_package_is_made_without_a_proof, by_dpkg, lintian_finds_no_error, the_crate_by_itself
+ALL = (
+    each_has_completion, by_the_line_of_the_readme, no_package_is_made_without_a_proof, by_dpkg, lintian_finds_no_error,
+    the_crate_by_itself,
+)
