@@ -6,7 +6,7 @@ import re
 LEFT_OUT = "try-documents", "try-fresh"
 PAGE, LINE = "docs/GATE.md", re.compile(r"^apt-get install (.*)$", re.M)
 TRIES = (
-    "tools/try-*", "tools/tries/*.py", "tools/build-*", "tools/image", "tools/refuse-memory", "tools/soak-layer", "tools/sweep-faults",
+    "tools/try-*", "tools/tries/*.py", "tools/build-*", "tools/image", "tools/measure", "tools/refuse-memory", "tools/soak-layer", "tools/sweep-faults",
     "examples/embed/try_*.py", "examples/terminal/try*", "examples/terminal/screens/*.py", "examples/git-select/try",
     "examples/git-select/tries/*.py",
 )
@@ -18,7 +18,7 @@ PACKAGES = {
     "tmux": "tmux", "urxvt": "rxvt-unicode", "valgrind": "valgrind", "venv": "python3-venv", "xterm": "xterm", "Xvfb": "xvfb", "zsh": "zsh",
 }
 # what each Debian has, and the toolchain
-THERE = {"bash", "dpkg", "dpkg-deb", "rt", "setsid", "sh"}
+THERE = {"bash", "dpkg", "dpkg-deb", "rt", "setpriv", "setsid", "sh"}
 # how a try names a program, or a part of it as it calls that
 CALLS = re.compile(
     r'shutil\.which\("([\w.+-]+)"|command -v "?([\w.+-]+)|\bneed\("([\w.+-]+)"|\$\{(?:CC|CXX|AR):-([\w.+-]+)\}|"-m", "(venv|pip)"'
