@@ -17,7 +17,7 @@ use Rattle.scm_front.specs.declared.layer.Front.{Front}
 use Rattle.scm_front.specs.declared.layer.FrontEditing.{FrontEditing}
 use Rattle.scm_front.specs.declared.layer.FrontTurn.{FrontTurn}
 use Rattle.scm_front.specs.declared.layer.FrontTurn.TheVariants as fronts
-use Rattle.scm_front.specs.Fronts.{Hears, beneath_of}
+use Rattle.scm_front.specs.Fronts.{Hears, beneath_of, front_of}
 use Rattle.scm_front_paint.specs.declared.pane.Pane.{Pane}
 use Rattle.scm_front_paint.specs.declared.pane.Heard.{Heard}
 use Rattle.scm_front_paint.specs.declared.pane.Heard.TheVariants.{Show, Hand}
@@ -89,10 +89,11 @@ pub record ViewSilence (v : Seen) (old new : Decoder) (turn : ViewTurn) : Type 0
   pub means : SilenceMeans old new event
   pub hears : ViewHears v (option_to_list event) turn
 
--- the message `text` leads from an edit to a turn
+-- the message `text` leads from an edit to a turn, and what the layer keeps is as it was
 pub record ViewSays (v : SeenEditing) (text : List ℕ) (turn : ViewTurn) : Type 0 where
   pub middle : FrontTurn
   pub leads : MessageLeads v.beneath.beneath text (beneath_of middle)
+  pub kept : middle ≡ front_of (beneath_of middle) v.beneath.query v.beneath.kept
   pub shown : IsShown v.pane middle turn
 
 -- ---- errors
