@@ -1,6 +1,7 @@
 /* The layer of a session, as the environment asks for it. No proof covers this file. */
 #define _GNU_SOURCE
 #include "layer.h"
+#include "characters.h"
 
 #include <ctype.h>
 #include <limits.h>
@@ -25,6 +26,15 @@ static bool read_choice(const char *name, const char *const *words, uint32_t *nu
     return false;
 }
 
+/* Returns whether `text` is UTF-8. */
+static bool is_utf8(const char *text) {
+    size_t left = strlen(text), count = 1;
+    for (uint32_t code; left > 0 && count > 0; text += count, left -= count) {
+        count = character_at(text, left, &code);
+    }
+    return count > 0;
+}
+
 const char *read_layer(layer *layer, const char **values) {
     static const char *const switches[] = {"on", "off", NULL}, *const themes[] = {"dark", "light", "sixteen", "none", NULL},
                       *const starts[] = {"as-is", "folded", "open", "fit", NULL};
@@ -45,7 +55,8 @@ const char *read_layer(layer *layer, const char **values) {
         }
     }
     layer->is_on = !is_off;
-    return NULL;
+    *values = "text in UTF-8";
+    return is_utf8(layer->accept) ? NULL : "SELECT_ACCEPT";
 }
 
 uint32_t begin_layer(scm_session *session, const layer *layer, uint16_t width, uint16_t height) {

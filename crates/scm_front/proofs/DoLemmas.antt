@@ -136,20 +136,20 @@ module _ (f : Front) where
       )
 
   pub lacked : (way : Way) (q : Query) (mid kept : Kept) → q ≡ with_word f.query false → kept ≡ saying mid (nothing_left way)
-      → KeepsAs (anchored f.kept keys.None) keys.None f.kept.word mid → steps_of way f.kept.history ≡ []
+      → KeepsAs f.kept f.kept.anchor f.kept.word mid → steps_of way f.kept.history ≡ []
       → (calls : List Call) × Does f (restoring way) calls (Waiting (front f.beneath q kept))
   lacked way q mid kept word says keeps none =
-      let after : KeepsAs f.kept keys.None (nothing_left way) (saying mid (nothing_left way)) = record { anchor = keeps.anchor; word = refl; keys = keeps.keys } in
-      let kept_as = subst (KeepsAs f.kept keys.None (nothing_left way)) (sym says) after in
+      let after : KeepsAs f.kept f.kept.anchor (nothing_left way) (saying mid (nothing_left way)) = record { anchor = keeps.anchor; word = refl; keys = keeps.keys } in
+      let kept_as = subst (KeepsAs f.kept f.kept.anchor (nothing_left way)) (sym says) after in
       ([], subst (λ (x : Query). Does f (restoring way) [] (Waiting (front f.beneath x kept))) (sym word) (lacks way kept none kept_as))
 
   pub restored : (way : Way) (q : Query) (mid : Kept) (step : Step) (result : FrontTurn)
-      → q ≡ with_word f.query false → steps_of way f.kept.history ≡ steps_of way mid.history ++ step ∷ [] → mid.anchor ≡ keys.None → mid.keys ≡ f.kept.keys
+      → q ≡ with_word f.query false → steps_of way f.kept.history ≡ steps_of way mid.history ++ step ∷ [] → mid.anchor ≡ f.kept.anchor → mid.keys ≡ f.kept.keys
       → steps_of (other_way way) mid.history ≡ steps_of (other_way way) f.kept.history
       → RestoresTo f.beneath q mid way (marks_with step marks_now) (back_of (files_of f.beneath) step) result
       → (calls : List Call) × Does f (restoring way) calls result
-  restored way q mid step result word steps none own others r =
-      let keeps : KeepsAs f.kept keys.None r.new.word r.new = record { anchor = r.keeps.anchor ∙ none; word = refl; keys = r.keeps.keys ∙ own } in
+  restored way q mid step result word steps begun own others r =
+      let keeps : KeepsAs f.kept f.kept.anchor r.new.word r.new = record { anchor = r.keeps.anchor ∙ begun; word = refl; keys = r.keeps.keys ∙ own } in
       let back = back_of (files_of f.beneath) step in
       let returns : r.new.word ≡ done_word way → Returns way (steps_of way mid.history) back f.kept.history r.new.history = λ said.
       let led = r.returns said in

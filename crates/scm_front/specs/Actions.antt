@@ -1,6 +1,7 @@
 -- The key table of the layer: what it does with each event of a terminal.
 use Rattle.std.specs.Prelude.{Bool, true, false, List, [], ◌∷◌, ◌&&◌, if◌then◌else◌}
 use Rattle.std.specs.Char.{to_ascii_uppercase}
+use Rattle.std.specs.List.{list_any}
 use Rattle.scm_input.specs.KeyTable.{none, shift, control, char, same_modifiers, same_key, event_of}
 use Rattle.scm_input.specs.declared.terminal.KeyModifiers.{KeyModifiers}
 use Rattle.scm_input.specs.declared.terminal.KeyCode.{KeyCode}
@@ -91,6 +92,16 @@ own_action modifiers code pass = first_action own_keys modifiers code pass
 -- the same while a range is begun
 abbrev pub ranging_action : KeyModifiers → KeyCode → Action → Action
 ranging_action modifiers code pass = first_action ranging_keys modifiers code (own_action modifiers code pass)
+
+-- whether one of the user's own keys is `code` with exactly `modifiers`
+abbrev pub is_pressed : KeyModifiers → KeyCode → OwnKey → Bool
+is_pressed modifiers code k = same_modifiers k.modifiers modifiers && same_key k.code code
+
+-- whether an event is one of the user's own keys
+abbrev pub has_key : List OwnKey → TerminalEvent → Bool
+has_key keys (terminal.Key e) = list_any (is_pressed e.modifiers e.code) keys
+has_key keys (terminal.Mouse e) = false
+has_key keys terminal.Other = false
 
 -- the action of one of the user's own keys, or else `otherwise`
 abbrev pub action_by : OwnKey → KeyModifiers → KeyCode → Action → Action

@@ -1,5 +1,5 @@
 -- A layer over a live session: what it does with what it hears, and the calls of the session beneath.
-use Rattle.std.specs.Prelude.{◌≡◌, ℕ, Bool, true, false, not, ◌||◌, List, [], ◌∷◌, ◌++◌, Option, Some, None, is_some, option_to_list, if◌then◌else◌}
+use Rattle.std.specs.Prelude.{◌≡◌, ℕ, Bool, true, false, not, ◌&&◌, ◌||◌, List, [], ◌∷◌, ◌++◌, Option, Some, None, is_some, option_to_list, if◌then◌else◌}
 use Rattle.scm_errors.specs.declared.error.RecordError.{RecordError}
 use Rattle.scm_types.specs.declared.file.File.{File}
 use Rattle.scm_types.specs.declared.keys.SelectionKey.{SelectionKey}
@@ -75,9 +75,22 @@ mode_beneath l anchor = if has_dialog l then modes.Dialog else if is_none anchor
 abbrev pub mode_of : Front → Mode
 mode_of f = if f.query.is_asking then modes.Asking else mode_beneath f.beneath f.kept.anchor
 
--- what the layer says, unless it says something of a search
+-- whether a word says nothing
+abbrev pub is_silent : Notice → Bool
+is_silent notices.Nothing = true
+is_silent notices.Asking = false
+is_silent notices.NotFound = false
+is_silent notices.Range = false
+is_silent notices.NoLine = false
+is_silent notices.Undone = false
+is_silent notices.Redone = false
+is_silent notices.NothingToUndo = false
+is_silent notices.NothingToRedo = false
+is_silent notices.NotRestored = false
+
+-- what the layer says, unless it says something of a search: the word of the last key, or that a range is begun
 abbrev pub said_word : Kept → Notice
-said_word kept = if is_none kept.anchor then kept.word else notices.Range
+said_word kept = if is_silent kept.word && not (is_none kept.anchor) then notices.Range else kept.word
 
 -- what the layer says until the next key
 abbrev pub notice_of : Front → Notice
@@ -187,15 +200,15 @@ pub data Does : Front → Action → List Call → FrontTurn → Type 0 where
       → KeepsAs f.kept keys.None notices.Nothing kept
       → RemembersAt (marks_of_files (files_of f.beneath)) f.kept.history turn kept.history
       → Does f Mark calls (front_of turn (with_word f.query false) kept)
-  -- there is nothing to undo, or to do again
-  lacks : {f : Front} (way : Way) (kept : Kept) → steps_of way f.kept.history ≡ [] → KeepsAs f.kept keys.None (nothing_left way) kept
+  -- there is nothing to undo, or to do again; a range stays begun
+  lacks : {f : Front} (way : Way) (kept : Kept) → steps_of way f.kept.history ≡ [] → KeepsAs f.kept f.kept.anchor (nothing_left way) kept
       → Does f (restoring way) [] (Waiting (front f.beneath (with_word f.query false) kept))
   -- Marks are restored, by toggles and jumps, and what was selected is selected again. If the word says so, all marks are those that the
-  -- newest step keeps, and the other ones as before; and a step to go back is kept.
+  -- newest step keeps, and the other ones as before; and a step to go back is kept. A range stays begun.
   restores : {f : Front} {calls : List Call} {deeds : List Deed} (way : Way) (rest : List Step) (step : Step) (turn : Turn) (kept : Kept)
       → steps_of way f.kept.history ≡ rest ++ step ∷ []
       → RoundLeads f.beneath deeds (selection_of f.beneath) calls turn
-      → KeepsAs f.kept keys.None kept.word kept
+      → KeepsAs f.kept f.kept.anchor kept.word kept
       → (kept.word ≡ done_word way → HasMarks turn (marks_with step (marks_of_files (files_of f.beneath))))
       → (kept.word ≡ done_word way → Returns way rest (back_of (files_of f.beneath) step) f.kept.history kept.history)
       → Does f (restoring way) calls (front_of turn (with_word f.query false) kept)

@@ -1,7 +1,8 @@
 //! The key table of the layer: what it does with each event of a terminal.
 ghost use Rattle.std.specs.Prelude.{◌≡◌};
+ghost use Rattle.std.specs.List.{list_any};
 ghost use Rattle.scm_input.specs.KeyTable.{same_key, same_modifiers};
-ghost use Rattle.scm_front.specs.Actions.{action_by, action_of, adding, asking_action, asking_key, dialog_key, free_key, last_action, own_action, ranging_action, session_action};
+ghost use Rattle.scm_front.specs.Actions.{action_by, action_of, adding, asking_action, asking_key, dialog_key, free_key, has_key, is_pressed, last_action, own_action, ranging_action, session_action};
 
 use crate::asking::Typing;
 use scm_front_items::Way;
@@ -110,6 +111,32 @@ fn is_same_key(key: KeyCode, code: KeyCode) -> bool
     ensures { result ≡ same_key key code }
 {
     code == key
+}
+
+/// Returns whether `key` is `code` with exactly `modifiers`.
+fn is_pressed(key: OwnKey, modifiers: KeyModifiers, code: KeyCode) -> bool
+    ensures { result ≡ is_pressed modifiers code key }
+{
+    let is_held = is_same(key.modifiers, modifiers);
+    let is_code = is_same_key(key.code, code);
+    is_held & is_code
+}
+
+/// Returns whether one of `keys` is `code` with exactly `modifiers`.
+fn is_any_pressed(keys: &[OwnKey], modifiers: KeyModifiers, code: KeyCode) -> bool
+    ensures { result ≡ list_any (is_pressed modifiers code) keys.now }
+{
+    keys.iter().any(|key| is_pressed(*key, modifiers, code))
+}
+
+/// Returns whether `event` is one of `keys`.
+pub(crate) fn has_key(keys: &[OwnKey], event: TerminalEvent) -> bool
+    ensures { result ≡ has_key keys.now event }
+{
+    match event {
+        TerminalEvent::Key(key) => is_any_pressed(keys, key.modifiers, key.code),
+        TerminalEvent::Mouse(_) | TerminalEvent::Other => false,
+    }
 }
 
 /// Returns the action of `key` if it is `code` with exactly `modifiers`, and else `otherwise`.

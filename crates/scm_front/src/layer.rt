@@ -12,6 +12,7 @@ ghost use Rattle.scm_front_items.specs.declared.items.Way.{Way as Direction};
 ghost use Rattle.scm_front_items.specs.declared.runs.Step.{Step as Past};
 ghost use Rattle.scm_front.specs.declared.kept.Notice.TheVariants.{NotRestored};
 ghost use Rattle.scm_front.specs.declared.actions.Action.TheVariants.{Again, Edit, Mark, Pass, Range, Seek};
+ghost use Rattle.scm_front.specs.Actions.{has_key};
 ghost use Rattle.scm_front.specs.Asking.{new_query};
 ghost use Rattle.scm_front.specs.Sideways.{sideways_click};
 ghost use Rattle.scm_front.specs.Driving.{turn_of};
@@ -24,10 +25,10 @@ ghost use Rattle.scm_front.specs.Restoring.{RestoresTo};
 ghost use Rattle.scm_front.specs.Recording.{RecordsAt, Returns, back_of};
 ghost use Rattle.scm_front_items.specs.Runs.{marks_of_files, marks_with};
 ghost use Rattle.scm_front_items.specs.Histories.{no_history};
-ghost use Rattle.scm_front.specs.Fronts.{Does, FrontFails, IsGiven, RemembersIn, beneath_of, files_of, front, front_of, found, heard, is_elsewhere, mode_of, notice_of, restoring};
+ghost use Rattle.scm_front.specs.Fronts.{Does, FrontFails, IsGiven, RemembersIn, beneath_of, files_of, front, front_of, found, heard, is_elsewhere, is_silent, mode_of, notice_of, restoring, said_word};
 
 use crate::accepted::AcceptedState;
-use crate::actions::{Action, Mode, OwnKey, action_of};
+use crate::actions::{Action, Mode, OwnKey, action_of, has_key};
 use crate::asking::{Query, Typing, after_typing, new_query, with_word};
 use crate::begun::{Begun, BegunEdit, BegunTurn};
 use crate::deeds::do_round;
@@ -192,6 +193,38 @@ fn is_none(key: SelectionKey) -> bool
     match key {
         SelectionKey::None => true,
         SelectionKey::File(_) | SelectionKey::Section(_) | SelectionKey::Line(_) => false,
+    }
+}
+
+/// Returns whether `word` says nothing.
+fn is_silent(word: Notice) -> bool
+    ensures { result ≡ is_silent word }
+{
+    match word {
+        Notice::Nothing => true,
+        Notice::Asking
+        | Notice::NotFound
+        | Notice::Range
+        | Notice::NoLine
+        | Notice::Undone
+        | Notice::Redone
+        | Notice::NothingToUndo
+        | Notice::NothingToRedo
+        | Notice::NotRestored => false,
+    }
+}
+
+/// Returns what the layer says, unless it says something of a search: the word of the last key, or that a
+/// range is begun.
+fn said_word(kept: &Kept) -> Notice
+    ensures { result ≡ said_word kept.now }
+{
+    let is_silent = is_silent(kept.word);
+    let is_ranging = !is_none(kept.anchor);
+    if is_silent & is_ranging {
+        Notice::Range
+    } else {
+        kept.word
     }
 }
 
@@ -687,7 +720,7 @@ impl<'state> Front<'state> {
     }
 
     /// Undoes the last change of marks (`Way::Up`), or does again what was undone last (`Way::Down`). Folds
-    /// stay.
+    /// stay, and so does a range that is begun.
     ///
     /// # Errors
     ///
@@ -702,7 +735,7 @@ impl<'state> Front<'state> {
             query,
             kept,
         } = self;
-        let mut kept = anchored(kept, SelectionKey::None);
+        let mut kept = kept;
         let query = with_word(query, false);
         match take_step(&mut kept, way) {
             None => {
@@ -715,6 +748,13 @@ impl<'state> Front<'state> {
             }
             Some(step) => restore_step(beneath, query, kept, way, step),
         }
+    }
+
+    /// Returns whether `event` is one of the user's own keys.
+    pub fn has_key(&self, event: TerminalEvent) -> bool
+        ensures { result ≡ has_key self.now.kept.keys event }
+    {
+        has_key(self.kept.keys.as_slice(), event)
     }
 
     /// Returns who hears a key.
@@ -813,10 +853,8 @@ impl<'state> Front<'state> {
             Notice::Asking
         } else if self.query.is_missing {
             Notice::NotFound
-        } else if is_none(self.kept.anchor) {
-            self.kept.word
         } else {
-            Notice::Range
+            said_word(&self.kept)
         }
     }
 

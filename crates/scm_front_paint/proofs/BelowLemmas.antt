@@ -16,7 +16,7 @@ use Rattle.scm_front_paint.specs.declared.themes.Theme.{Theme}
 use Rattle.scm_front_paint.specs.declared.columns.Columns.{Columns}
 use Rattle.scm_front_paint.specs.Pane.{offset}
 use Rattle.scm_front_paint.specs.Seen.{Seen}
-use Rattle.scm_front_paint.specs.Status.{left_text, right_of}
+use Rattle.scm_front_paint.specs.Status.{left_of, right_of}
 use Rattle.scm_front_paint.specs.Blank.{Begins, PaintsLast, blank_cells, blank_picture, blanking, from_blanks, from_known}
 use Rattle.scm_front_paint.specs.Below.{Pictures, PaintsBoth, AreWhole, ShowsBoth, Before, anything, painted, LeadsToBoth, StayApart, rows_shown, shown_style, width_of, view_pictures}
 use Rattle.scm_front_paint.proofs.SidewaysLemmas.{sideways-size}
@@ -376,6 +376,6 @@ both-written p =
 pub view-whole : (theme : Theme) (words : List (List Columns)) (v : Seen) (accept : List ℕ) → AreWhole (width_of v) (rows_shown v.front.beneath) (view_pictures theme words v accept)
 view-whole theme words v accept = record {
   session = sideways-size (offset v.pane v.front.beneath) (shown_style theme words v.front.beneath) (screen_of v.front.beneath);
-  status = status-size (width_of v) (rows_shown v.front.beneath) (left_text v.front) (right_of v.front accept);
-  blank = status-above (width_of v) (rows_shown v.front.beneath) (left_text v.front) (right_of v.front accept);
+  status = status-size (width_of v) (rows_shown v.front.beneath) (left_of v.front) (right_of v.front (width_of v) (left_of v.front) (offset v.pane v.front.beneath) accept);
+  blank = status-above (width_of v) (rows_shown v.front.beneath) (left_of v.front) (right_of v.front (width_of v) (left_of v.front) (offset v.pane v.front.beneath) accept);
 }

@@ -28,6 +28,7 @@ use Rattle.scm_terminal.specs.Terminal.{AreApart, AreReadable, Byte, IsNear, IsO
 use Rattle.scm_terminal.proofs.RowLemmas.{Ends, Ends-append}
 use Rattle.scm_terminal.proofs.RunLemmas.{Runs, Runs-append, Runs-none, move-runs, put-runs, set-runs, terminal, wrap-runs}
 use Rattle.scm_front_paint.specs.Blank.{Begins, HasPlaces, IsBeginning, IsBlankAbove, IsBlankGrid, PaintsLast, begin_row, blank_cells, blank_picture, blanking, from_blanks, from_known, plain_at, put_blank}
+use Rattle.scm_front_paint.specs.declared.status.LeftText.{LeftText}
 use Rattle.scm_front_paint.specs.Status.{status_picture, status_screen, status_style}
 
 -- ---- rows of pictures
@@ -106,7 +107,7 @@ module _ (style : ℕ → ℕ → Style) (grid : Screen) (h : ℕ) (high : lengt
 -- ---- grids
 
 -- the screen of the status row
-module _ (w h : ℕ) (left right : List ℕ) where
+module _ (w h : ℕ) (left : LeftText) (right : List ℕ) where
   pub status-long : length (status_screen w h left right).rows ≡ h + 1
   status-long = length-set _ h _ ∙ length-set _ h _ ∙ length-replicate (h + 1) (replicate w blank)
 
@@ -537,7 +538,7 @@ begins-blank w h known from bytes few is written = record {
   written = written;
 }
 
-pub paints-last : (w h : ℕ) (known from : List (List StyledCell)) (left right bytes first second : List ℕ) → IsBeginning w h known from first
+pub paints-last : (w h : ℕ) (known from : List (List StyledCell)) (left : LeftText) (right bytes first second : List ℕ) → IsBeginning w h known from first
     → Paints w from (status_picture w h left right) second → bytes ≡ first ++ second → PaintsLast w known (status_picture w h left right) bytes
 paints-last w h known from left right bytes first second begins paints written =
     let last : length (status_picture w h left right) - 1 ≡ h = (let size = status-size w h left right in let high = size.high in omega arith) in

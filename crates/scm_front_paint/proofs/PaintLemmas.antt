@@ -24,7 +24,8 @@ use Rattle.scm_front_paint.specs.declared.themes.Theme.{Theme}
 use Rattle.scm_front_paint.specs.Blank.{PaintsLast}
 use Rattle.scm_front_paint.specs.Below.{Pictures, PaintsView, known_to, pictures_of, rows_shown, session_picture, shown_style, width_of}
 use Rattle.scm_front_paint.specs.LineValue.{LineValue}
-use Rattle.scm_front_paint.specs.Status.{left_text, right_of, status_picture}
+use Rattle.scm_front_paint.specs.declared.status.LeftText.{LeftText}
+use Rattle.scm_front_paint.specs.Status.{left_of, right_of, status_picture}
 use Rattle.scm_front_paint.specs.Words.{AreWords}
 use Rattle.scm_front_paint.specs.WordsView.{columns_in}
 use Rattle.scm_front_paint.specs.Pane.{is_free, offset}
@@ -141,13 +142,13 @@ abbrev pictures : List (List StyledCell) → List (List StyledCell) → Pictures
 pictures s t = record { session = s; status = t }
 
 module _ (old kept new : FrontPainter) (v : Seen) (accept bytes first second : List ℕ) (l : Live) (w h x : ℕ) (theme : Theme)
-    (slice items : List (Option LineValue)) (left right : List ℕ) where
+    (slice items : List (Option LineValue)) (left : LeftText) (right : List ℕ) where
   abbrev painted_rows : List (List StyledCell)
   painted_rows = sideways_picture x (shown_style theme (map columns_in slice) l) (screen_of l)
 
   -- what the code painted is the picture of the view
   pub paints-view : l ≡ v.front.beneath → w ≡ width_of v → h ≡ rows_shown v.front.beneath → x ≡ offset v.pane v.front.beneath
-      → theme ≡ old.theme → slice ≡ items → AreWords l (map columns_in items) → left ≡ left_text v.front → right ≡ right_of v.front accept
+      → theme ≡ old.theme → slice ≡ items → AreWords l (map columns_in items) → left ≡ left_of v.front → right ≡ right_of v.front w left x accept
       → pictures_of kept ≡ known_to old w h → PaintsLast w kept.status (status_picture w h left right) first
       → Paints (columns_of l.kind - x) kept.session.painter painted_rows second → bytes ≡ first ++ second
       → new.status ≡ status_picture w h left right → new.session.painter ≡ painted_rows → new.size ≡ Some (w, h) → new.theme ≡ theme
@@ -158,10 +159,15 @@ module _ (old kept new : FrontPainter) (v : Seen) (accept bytes first second : L
       ∙ ap (λ (t : Theme). sideways_picture (offset v.pane v.front.beneath) (shown_style t (map columns_in slice) l) (screen_of l)) te
       ∙ ap (λ (s : List (Option LineValue)). sideways_picture (offset v.pane v.front.beneath) (shown_style old.theme (map columns_in s) l) (screen_of l)) se
       ∙ ap (λ (m : Live). sideways_picture (offset v.pane v.front.beneath) (shown_style old.theme (map columns_in items) m) (screen_of m)) le in
-      let row : status_picture w h left right ≡ status_picture (width_of v) (rows_shown v.front.beneath) (left_text v.front) (right_of v.front accept) =
-      ap₂ (λ (a b : List ℕ). status_picture w h a b) left_is right_is
-      ∙ ap (λ (n : ℕ). status_picture n h (left_text v.front) (right_of v.front accept)) we
-      ∙ ap (λ (n : ℕ). status_picture (width_of v) n (left_text v.front) (right_of v.front accept)) he in
+      let row :
+      status_picture w h left right
+      ≡ status_picture (width_of v) (rows_shown v.front.beneath) (left_of v.front)
+      (right_of v.front (width_of v) (left_of v.front) (offset v.pane v.front.beneath) accept) =
+      ap (λ (b : List ℕ). status_picture w h left b) right_is
+      ∙ ap (λ (a : LeftText). status_picture w h a (right_of v.front w a x accept)) left_is
+      ∙ ap (λ (n : ℕ). status_picture w h (left_of v.front) (right_of v.front w (left_of v.front) n accept)) xe
+      ∙ ap (λ (n : ℕ). status_picture n h (left_of v.front) (right_of v.front n (left_of v.front) (offset v.pane v.front.beneath) accept)) we
+      ∙ ap (λ (n : ℕ). status_picture (width_of v) n (left_of v.front) (right_of v.front (width_of v) (left_of v.front) (offset v.pane v.front.beneath) accept)) he in
       let known : pictures_of kept ≡ known_to old (width_of v) (rows_shown v.front.beneath) =
       known_is ∙ ap₂ (λ (a b : ℕ). known_to old a b) we he in
       let wide : columns_of l.kind - x ≡ width_of v = ap₂ (λ (m : Live) (n : ℕ). columns_of m.kind - n) le xe in

@@ -17,7 +17,7 @@ use Rattle.scm_front.specs.declared.layer.Front.{Front}
 use Rattle.scm_front.specs.declared.layer.FrontEditing.{FrontEditing}
 use Rattle.scm_front.specs.declared.layer.FrontTurn.{FrontTurn}
 use Rattle.scm_front.specs.declared.layer.FrontTurn.TheVariants as fronts
-use Rattle.scm_front.specs.Fronts.{FrontFails, beneath_of}
+use Rattle.scm_front.specs.Fronts.{FrontFails, beneath_of, front_of}
 use Rattle.scm_front.specs.Failing.{refused as front_refused, failed as front_failed}
 use Rattle.scm_front.proofs.FrontLemmas.{hears-path}
 use Rattle.scm_front_paint.specs.declared.pane.Pane.{Pane}
@@ -175,18 +175,20 @@ pub fails-at : (inside v : Seen) (error : RecordError) → inside ≡ v → Fron
 fails-at inside v error e g = subst (λ (w : Seen). ViewFails w error) e (front-fails inside error g)
 
 pub says-at : (inside v : SeenEditing) (text : List ℕ) (middle : FrontTurn) (turn : ViewTurn) → inside ≡ v
-    → MessageLeads inside.beneath.beneath text (beneath_of middle) → IsShown inside.pane middle turn → ViewSays v text turn
-says-at inside v text middle turn e leads g =
-    subst (λ (w : SeenEditing). ViewSays w text turn) e (record { middle = middle; leads = leads; shown = g })
+    → MessageLeads inside.beneath.beneath text (beneath_of middle) → middle ≡ front_of (beneath_of middle) inside.beneath.query inside.beneath.kept
+    → IsShown inside.pane middle turn → ViewSays v text turn
+says-at inside v text middle turn e leads kept g =
+    subst (λ (w : SeenEditing). ViewSays w text turn) e (record { middle = middle; leads = leads; kept = kept; shown = g })
 
 -- the message as it is
 abbrev pub own_text : SeenEditing → List ℕ
 own_text v = message_text v.beneath.beneath.session v.beneath.beneath.commit
 
 pub keeps-at : (inside v : SeenEditing) (middle : FrontTurn) (turn : ViewTurn) → inside ≡ v
-    → MessageLeads inside.beneath.beneath (own_text inside) (beneath_of middle) → IsShown inside.pane middle turn → ViewSays v (own_text v) turn
-keeps-at inside v middle turn e leads g =
-    subst (λ (w : SeenEditing). ViewSays w (own_text w) turn) e (record { middle = middle; leads = leads; shown = g })
+    → MessageLeads inside.beneath.beneath (own_text inside) (beneath_of middle) → middle ≡ front_of (beneath_of middle) inside.beneath.query inside.beneath.kept
+    → IsShown inside.pane middle turn → ViewSays v (own_text v) turn
+keeps-at inside v middle turn e leads kept g =
+    subst (λ (w : SeenEditing). ViewSays w (own_text w) turn) e (record { middle = middle; leads = leads; kept = kept; shown = g })
 
 pub say-fails-at : (inside v : SeenEditing) (text : List ℕ) (error : RecordError) → inside ≡ v → MessageFails inside.beneath.beneath text error
     → ViewSayFails v text error

@@ -16,7 +16,7 @@ use Rattle.scm_front_paint.specs.Blank.{PaintsLast, blank_cells}
 use Rattle.scm_front_paint.specs.Pane.{offset}
 use Rattle.scm_front_paint.specs.Seen.{Seen}
 use Rattle.scm_front_paint.specs.Sideways.{sideways_picture}
-use Rattle.scm_front_paint.specs.Status.{left_text, right_of, status_picture}
+use Rattle.scm_front_paint.specs.Status.{left_of, right_of, status_picture}
 use Rattle.scm_front_paint.specs.Themes.{themed}
 use Rattle.scm_front_paint.specs.Words.{AreWords, with_words}
 
@@ -56,7 +56,7 @@ abbrev pub view_pictures : Theme → List (List Columns) → Seen → List ℕ �
 view_pictures theme words v accept = record {
   session = session_picture theme words v;
   status =
-      status_picture (width_of v) (rows_shown v.front.beneath) (left_text v.front) (right_of v.front accept);
+      status_picture (width_of v) (rows_shown v.front.beneath) (left_of v.front) (right_of v.front (width_of v) (left_of v.front) (offset v.pane v.front.beneath) accept);
 }
 
 -- The bytes paint the pictures `new`, where `known` are those painted last: first the status row, and then the session.

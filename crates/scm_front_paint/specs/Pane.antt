@@ -77,6 +77,6 @@ abbrev pub show_or : Option ℕ → TerminalEvent → Heard
 show_or (Some x) event = Show x
 show_or None event = Hand event
 
--- What an event of the terminal is. `is_own` says that `>` and `<` are keys of the view: no text is asked for, and no dialog is open.
+-- What an event of the terminal is. `is_own` says that `>` and `<` are keys of the view.
 abbrev pub heard_as : Pane → Bool → ℕ → TerminalEvent → Heard
 heard_as p is_own x event = show_or (if is_own then sideways_event p event else None) (moved x event)

@@ -1,5 +1,5 @@
 -- The status row below a session: what it says, and what it shows.
-use Rattle.std.specs.Prelude.{ℕ, ◌+◌, ◌-◌, min, ◌==◌, ℤ, true, List, [], ◌∷◌, ◌++◌, decimal, codes, slice_get, pos, ◌-ℤ◌, if◌then◌else◌, Option, Some, None}
+use Rattle.std.specs.Prelude.{ℕ, ◌+◌, ◌-◌, min, nat_le, ◌==◌, ℤ, Bool, true, false, List, [], ◌∷◌, ◌++◌, decimal, codes, slice_get, pos, ◌-ℤ◌, if◌then◌else◌, Option, Some, None}
 use Rattle.std.specs.List.{concat}
 use Rattle.scm_types.specs.declared.file.File.{File}
 use Rattle.scm_types.specs.declared.line.SectionChangedLine.{SectionChangedLine}
@@ -19,6 +19,9 @@ use Rattle.scm_front.specs.declared.kept.Notice.{Notice}
 use Rattle.scm_front.specs.declared.kept.Notice.TheVariants.{Nothing, Asking, NotFound, Range, NoLine, Undone, Redone, NothingToUndo, NothingToRedo, NotRestored}
 use Rattle.scm_front.specs.declared.layer.Front.{Front}
 use Rattle.scm_front.specs.Fronts.{notice_of}
+use Rattle.scm_front_paint.specs.declared.status.LeftKind.{LeftKind}
+use Rattle.scm_front_paint.specs.declared.status.LeftKind.TheVariants.{Typed, Said, Item}
+use Rattle.scm_front_paint.specs.declared.status.LeftText.{LeftText}
 use Rattle.scm_front_paint.specs.Capped.{capped}
 
 -- ---- what it says
@@ -78,44 +81,88 @@ text_of_notice NotRestored = codes "not restored; nothing is left to undo"
 abbrev pub item_text : Front → List ℕ
 item_text f = concat (line_pieces (text_of_key f.beneath.session.shown.state.files f.beneath.session.shown.selection))
 
+-- a text on the left
+abbrev pub on_left : LeftKind → List ℕ → LeftText
+on_left kind text = record { kind = kind; text = text }
+
 -- what is said, or the item if nothing is
-abbrev pub said_or : List ℕ → List ℕ → List ℕ
-said_or [] item = item
-said_or (c ∷ cs) item = c ∷ cs
+abbrev pub said_or : List ℕ → List ℕ → LeftText
+said_or [] item = on_left Item item
+said_or (c ∷ cs) item = on_left Said (c ∷ cs)
 
 -- what stands on the left: the text that is typed, that nothing was found, the keys of the layer while the help is open, what the layer
 -- says of the last key, or the selected item
-abbrev pub left_text : Front → List ℕ
-left_text f =
-    if f.query.is_asking then codes "/" ++ f.query.typed
-    else if f.query.is_missing then codes "not found: " ++ f.query.sought
-    else if f.beneath.session.shown.is_help_open then codes "/ n N: search  v: range  u ctrl-r: undo, redo  < >: sideways"
+abbrev pub left_of : Front → LeftText
+left_of f =
+    if f.query.is_asking then on_left Typed (codes "/" ++ f.query.typed)
+    else if f.query.is_missing then on_left Said (codes "not found: " ++ f.query.sought)
+    else if f.beneath.session.shown.is_help_open then
+    on_left Said (codes "/ n N: search  v: range  u ctrl-r: undo, redo  < >: sideways")
     else said_or (text_of_notice (notice_of f)) (item_text f)
 
--- what stands on the right: how many lines and files are marked, keys, and what accepting does
-abbrev pub right_text : ℕ → ℕ → List ℕ → List ℕ
-right_text lines files accept =
-    codes "  lines: " ++ (decimal lines ++ (codes ", files: " ++ (decimal files ++ (codes "  /: search  ?: help  " ++ accept))))
+-- whether it is the selected item
+abbrev pub is_item : LeftKind → Bool
+is_item Typed = false
+is_item Said = false
+is_item Item = true
 
--- that of a front; while the help is open, only what accepting does
-abbrev pub right_of : Front → List ℕ → List ℕ
-right_of f accept =
-    if f.beneath.session.shown.is_help_open then codes "  " ++ accept
-    else right_text (capped (checked_lines f.beneath.session.shown.state.files)) (changed_count f.beneath.session.shown.state) accept
+-- the columns that a text on the left has before all else: what is typed or said as many as it is wide, the selected item none
+abbrev pub columns_before : LeftText → ℕ
+columns_before l = if is_item l.kind then 0 else text_width l.text
+
+-- a text if it fits into `room` columns, or else another one
+abbrev pub fit_or : ℕ → List ℕ → List ℕ → List ℕ
+fit_or room text other = if nat_le (text_width text) room then text else other
+
+-- how many columns of the window stand to the left of the terminal: nothing, if none does
+abbrev pub sideways_text : ℕ → List ℕ
+sideways_text x = if x == 0 then [] else codes "  >" ++ decimal x
+
+-- the same, and how many lines and files are marked
+abbrev pub counts_text : ℕ → ℕ → ℕ → List ℕ
+counts_text x lines files = sideways_text x ++ (codes "  lines: " ++ (decimal lines ++ (codes ", files: " ++ decimal files)))
+
+-- the counts if they fit into `room` columns, or else the columns to the left
+abbrev pub short_text : ℕ → ℕ → List ℕ → List ℕ
+short_text room x counts = fit_or room counts (fit_or room (sideways_text x) [])
+
+-- the counts, keys and what accepting does; if they do not fit, the keys are left out first
+abbrev pub long_text : ℕ → ℕ → List ℕ → List ℕ → List ℕ
+long_text room x counts accept =
+    fit_or room (counts ++ (codes "  /: search  ?: help  " ++ accept)) (fit_or room (counts ++ (codes "  " ++ accept)) (short_text room x counts))
+
+-- What stands on the right within `room` columns: the columns to the left, how many lines and files are marked, keys, and what accepting
+-- does. If it does not fit, the keys are left out first, then what accepting does, then the counts.
+abbrev pub right_text : ℕ → ℕ → ℕ → ℕ → List ℕ → List ℕ
+right_text room x lines files accept = long_text room x (counts_text x lines files) accept
+
+-- that of a front, on a row of `width` columns with `l` on the left, while `x` columns stand to the left of the terminal; while the help
+-- is open, only what accepting does
+abbrev pub right_of : Front → ℕ → LeftText → ℕ → List ℕ → List ℕ
+right_of f width l x accept =
+    let room = width - columns_before l in
+    if f.beneath.session.shown.is_help_open then fit_or room (codes "  " ++ accept) []
+    else right_text room x (capped (checked_lines f.beneath.session.shown.state.files)) (changed_count f.beneath.session.shown.state) accept
 
 -- ---- what it shows
 
 -- the column of a text of which the first `over` columns have no room; no text is as wide as the limit
-abbrev pub left_column : ℕ → ℤ
-left_column over = pos 0 -ℤ pos (min over 1000000000)
+abbrev pub tail_column : ℕ → ℤ
+tail_column over = pos 0 -ℤ pos (min over 1000000000)
+
+-- the column of the text on the left, of which `over` columns have no room: what is said loses its end, all else its beginning
+abbrev pub left_column : LeftKind → ℕ → ℤ
+left_column Typed over = tail_column over
+left_column Said over = pos 0
+left_column Item over = tail_column over
 
 -- A screen of `width` columns and `height` rows below which the status row stands: the right text ends at the last column, and before it
--- stands the left one, or its tail if it is too long.
-abbrev pub status_screen : ℕ → ℕ → List ℕ → List ℕ → Screen
-status_screen width height left right =
+-- stands the left one, or the part of it that has room.
+abbrev pub status_screen : ℕ → ℕ → LeftText → List ℕ → Screen
+status_screen width height l right =
     let room = width - text_width right in
     put_on
-    (put_on (blank_screen width (height + 1)) height (left_column (text_width left - room)) left 0 room)
+    (put_on (blank_screen width (height + 1)) height (left_column l.kind (text_width l.text - room)) l.text 0 room)
     height (pos room) right 0 width
 
 -- the status row is reversed
@@ -123,5 +170,5 @@ abbrev pub status_style : ℕ → ℕ → ℕ → Style
 status_style height row column = if row == height then record plain_style { reversed = true } else plain_style
 
 -- the picture of the status row, and blanks above it
-abbrev pub status_picture : ℕ → ℕ → List ℕ → List ℕ → List (List StyledCell)
-status_picture width height left right = picture (status_style height) (status_screen width height left right)
+abbrev pub status_picture : ℕ → ℕ → LeftText → List ℕ → List (List StyledCell)
+status_picture width height l right = picture (status_style height) (status_screen width height l right)

@@ -17,7 +17,8 @@ use Rattle.scm_front.specs.declared.layer.Front.{Front}
 use Rattle.scm_front.specs.declared.layer.FrontEditing.{FrontEditing}
 use Rattle.scm_front.specs.declared.layer.FrontTurn.{FrontTurn}
 use Rattle.scm_front.specs.declared.layer.FrontTurn.TheVariants as fronts
-use Rattle.scm_front.specs.Fronts.{Hears, beneath_of}
+use Rattle.scm_front.specs.Actions.{has_key}
+use Rattle.scm_front.specs.Fronts.{Hears, beneath_of, front_of}
 use Rattle.scm_front_paint.specs.declared.pane.Pane.{Pane}
 use Rattle.scm_front_paint.specs.declared.pane.Heard.{Heard}
 use Rattle.scm_front_paint.specs.declared.pane.Heard.TheVariants.{Show, Hand}
@@ -44,10 +45,13 @@ pub data IsShown (p : Pane) : FrontTurn → ViewTurn → Type 0 where
   edits : {e : FrontEditing} → IsShown p (fronts.Editing e) (Editing (record { beneath = e; pane = p }))
   accepts : {state : RecordState} → IsShown p (fronts.Accepted state) (Accepted state)
 
+-- whether `>` and `<` are keys of the view: no text is asked for, no dialog is open, and the event is none of the user's own keys
+abbrev pub is_own : Seen → TerminalEvent → Bool
+is_own v event = (not v.front.query.is_asking && is_free v.front.beneath) && not (has_key v.front.kept.keys event)
+
 -- what an event of the terminal is to a view
 abbrev pub heard_by : Seen → TerminalEvent → Heard
-heard_by v event =
-    heard_as v.pane (not v.front.query.is_asking && is_free v.front.beneath) (offset v.pane v.front.beneath) event
+heard_by v event = heard_as v.pane (is_own v event) (offset v.pane v.front.beneath) event
 
 -- an event of the front leads from it to a turn, shown on the terminal
 pub record IsHanded (f : Front) (p : Pane) (event : TerminalEvent) (turn : ViewTurn) : Type 0 where
@@ -89,10 +93,11 @@ pub record ViewSilence (v : Seen) (old new : Decoder) (turn : ViewTurn) : Type 0
   pub means : SilenceMeans old new event
   pub hears : ViewHears v (option_to_list event) turn
 
--- the message `text` leads from an edit to a turn
+-- the message `text` leads from an edit to a turn, and what the layer keeps is as it was
 pub record ViewSays (v : SeenEditing) (text : List ℕ) (turn : ViewTurn) : Type 0 where
   pub middle : FrontTurn
   pub leads : MessageLeads v.beneath.beneath text (beneath_of middle)
+  pub kept : middle ≡ front_of (beneath_of middle) v.beneath.query v.beneath.kept
   pub shown : IsShown v.pane middle turn
 
 -- ---- errors

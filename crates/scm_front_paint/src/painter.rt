@@ -12,7 +12,7 @@ ghost use Rattle.scm_front_paint.specs.Sideways.{sideways_picture};
 use crate::cut::cut_of;
 use crate::line_words::LineWords;
 use crate::shown::{Moved, Shown};
-use crate::status::{left_text, right_of};
+use crate::status::{left_of, right_of};
 use crate::status_painter::StatusPainter;
 use crate::themes::Theme;
 use crate::view::View;
@@ -222,20 +222,20 @@ impl FrontPainter {
         let session = view.front().beneath();
         let width = width_of(view);
         let height = rows_of(view);
-        let left = left_text(self.alloc, view.front())?;
-        let right = right_of(self.alloc, view.front(), accept)?;
+        let left = left_of(self.alloc, view.front())?;
+        let x = view.offset() as usize;
+        let right = right_of(self.alloc, view.front(), width, &left, x, accept)?;
         let kept = replace(&mut self.words, Vec::new(self.alloc));
         let words = words_of(self.alloc, session, kept)?;
         self.keep_size(width as usize, height as usize);
         let mut text = self
             .status
-            .paint(self.alloc, width, height, left.as_str(), right.as_str())?;
+            .paint(self.alloc, width, height, &left, right.as_str())?;
         let shown = Shown {
             session,
             words: words.as_slice(),
             theme: self.theme,
         };
-        let x = view.offset() as usize;
         let rows = paint_session(self.alloc, &mut self.session, &shown, x)?;
         text.push_str(rows.as_str())?;
         self.words = words;

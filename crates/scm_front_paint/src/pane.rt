@@ -148,7 +148,8 @@ fn sideways_event(pane: Pane, event: TerminalEvent) -> Option<u16>
 
 /// Returns what `event` of the terminal is, while `x` columns of the window stand to its left.
 ///
-/// `is_own` says that `>` and `<` are keys of the view: no text is asked for, and no dialog is open.
+/// `is_own` says that `>` and `<` are keys of the view: no text is asked for, no dialog is open, and they
+/// are none of the user's own keys.
 pub fn heard_as(pane: Pane, is_own: bool, x: u16, event: TerminalEvent) -> Heard
     ensures { result ≡ heard_as pane is_own x event }
 {

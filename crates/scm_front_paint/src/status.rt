@@ -5,14 +5,24 @@ ghost use Rattle.scm_errors.specs.declared.error.RecordError.TheVariants.{OutOfM
 ghost use Rattle.scm_cells.specs.Replaced.{line_pieces};
 ghost use Rattle.scm_front_paint.specs.Blank.{IsBlankGrid};
 ghost use Rattle.scm_front_paint.specs.Status.{
+  columns_before,
+  counts_text,
+  fit_or,
+  is_item,
   item_text,
   left_column,
-  left_text,
+  left_of,
   line_text,
+  long_text,
+  on_left,
   path_text,
   right_of,
   right_text,
+  said_or,
+  short_text,
+  sideways_text,
   status_screen,
+  tail_column,
   text_of_key,
   text_of_notice,
 };
@@ -22,7 +32,28 @@ use scm_front::{Front, Notice};
 use scm_record::{
     File, Grid, RecordError, Section, SelectionKey, push_spans_from_line, text_width,
 };
+use scm_types::OwnedText;
 use std::alloc::Global;
+
+/// What a text on the left of the status row is.
+#[derive(Clone, Copy)]
+pub(crate) enum LeftKind {
+    /// A text that is being typed. It comes before all else, and its beginning is cut off last of all.
+    Typed,
+    /// What the layer says. It comes before all else, and its end is cut off last of all.
+    Said,
+    /// The selected item. It has the columns that are left, and its beginning is cut off.
+    Item,
+}
+
+/// What stands on the left of the status row.
+#[derive(Drop)]
+pub(crate) struct LeftText {
+    /// What the text is.
+    pub(crate) kind: LeftKind,
+    /// The text.
+    pub(crate) text: OwnedText,
+}
 
 /// Returns the text of changed line `line` of section `section` of file `file`, or an empty text if
 /// there is no such line. Indexes are counted from 0.
@@ -107,65 +138,187 @@ fn item_text(alloc: Global, front: &Front<'_>) -> Result<String, RecordError>
     with_replacements(alloc, text)
 }
 
+/// Returns what stands on the left of the status row if no text is asked for or was not found: `said`, or
+/// the selected item if nothing is said.
+fn said_or(alloc: Global, said: &'static str, front: &Front<'_>) -> Result<LeftText, RecordError>
+    ensures ok { IfOk result (λ l. l ≡ said_or said.now (item_text front.now)) }
+    ensures err { IfErr result (λ e. e ≡ OutOfMemory) }
+{
+    if said.is_empty() {
+        let text = item_text(alloc, front)?;
+        Ok(on_left(LeftKind::Item, text))
+    } else {
+        let text = String::from_str(alloc, said)?;
+        Ok(on_left(LeftKind::Said, text))
+    }
+}
+
+/// Returns `text` as one on the left.
+fn on_left(kind: LeftKind, text: String) -> LeftText
+    ensures { result ≡ on_left kind (string_bytes text) }
+{
+    LeftText {
+        kind,
+        text: OwnedText::from(text),
+    }
+}
+
 /// Returns what stands on the left of the status row: the text that is typed, the text that was not
 /// found, the keys of the layer while the help is open, what the layer says of the last key, or the
 /// selected item.
-pub(crate) fn left_text(alloc: Global, front: &Front<'_>) -> Result<String, RecordError>
-    ensures ok { IfOk result (λ text. string_bytes text ≡ left_text front.now) }
+pub(crate) fn left_of(alloc: Global, front: &Front<'_>) -> Result<LeftText, RecordError>
+    ensures ok { IfOk result (λ l. l ≡ left_of front.now) }
     ensures err { IfErr result (λ e. e ≡ OutOfMemory) }
 {
     let query = front.query();
     if query.is_asking {
         let typed = query.typed.as_str();
-        Ok(format!(in alloc; "/{typed}")?)
+        let text = format!(in alloc; "/{typed}")?;
+        Ok(on_left(LeftKind::Typed, text))
     } else if query.is_missing {
         let sought = query.sought.as_str();
-        Ok(format!(in alloc; "not found: {sought}")?)
+        let text = format!(in alloc; "not found: {sought}")?;
+        Ok(on_left(LeftKind::Said, text))
     } else if front.beneath().view_state().is_help_open {
-        Ok(String::from_str(
-            alloc,
-            "/ n N: search  v: range  u ctrl-r: undo, redo  < >: sideways",
-        )?)
+        let keys = "/ n N: search  v: range  u ctrl-r: undo, redo  < >: sideways";
+        let text = String::from_str(alloc, keys)?;
+        Ok(on_left(LeftKind::Said, text))
     } else {
-        let said = text_of_notice(front.notice());
-        if said.is_empty() {
-            item_text(alloc, front)
-        } else {
-            Ok(String::from_str(alloc, said)?)
-        }
+        said_or(alloc, text_of_notice(front.notice()), front)
     }
 }
 
-/// Returns what stands on the right of the status row: how many `lines` and `files` are marked, keys, and
-/// `accept`, which says what accepting does.
+/// Returns whether a text of `kind` is the selected item.
+fn is_item(kind: LeftKind) -> bool
+    ensures { result ≡ is_item kind }
+{
+    match kind {
+        LeftKind::Typed | LeftKind::Said => false,
+        LeftKind::Item => true,
+    }
+}
+
+/// Returns how many columns `left` has before all else: what is typed or said as many as it is wide, and
+/// the selected item none.
+fn columns_before(left: &LeftText) -> usize
+    ensures { result ≡ columns_before left.now }
+{
+    if is_item(left.kind) {
+        0
+    } else {
+        text_width(left.text.as_str())
+    }
+}
+
+/// Returns `text` if it fits into `room` columns, or else `other`.
+fn fit_or(room: usize, text: String, other: String) -> String
+    ensures { string_bytes result ≡ fit_or room (string_bytes text) (string_bytes other) }
+{
+    if text_width(text.as_str()) <= room {
+        text
+    } else {
+        other
+    }
+}
+
+/// Returns what says that `x` columns of the window stand to the left of the terminal, or an empty text if
+/// none does.
+fn sideways_text(alloc: Global, x: usize) -> Result<String, RecordError>
+    ensures ok { IfOk result (λ text. string_bytes text ≡ sideways_text x) }
+    ensures err { IfErr result (λ e. e ≡ OutOfMemory) }
+{
+    if x == 0 {
+        return Ok(String::new(alloc));
+    }
+    let text = format!(in alloc; "  >{x}")?;
+    Ok(text)
+}
+
+/// Returns what says how many columns stand to the left, if any does, and how many `lines` and `files` are
+/// marked.
+fn counts_text(alloc: Global, x: usize, lines: usize, files: usize) -> Result<String, RecordError>
+    ensures ok { IfOk result (λ text. string_bytes text ≡ counts_text x lines files) }
+    ensures err { IfErr result (λ e. e ≡ OutOfMemory) }
+{
+    let sideways = sideways_text(alloc, x)?;
+    let text = format!(in alloc; "{sideways}  lines: {lines}, files: {files}")?;
+    Ok(text)
+}
+
+/// Returns `counts` if they fit into `room` columns, or else the `x` columns to the left.
+fn short_text(alloc: Global, room: usize, x: usize, counts: String) -> Result<String, RecordError>
+    ensures ok { IfOk result (λ text.
+        string_bytes text ≡ short_text room x (string_bytes counts)) }
+    ensures err { IfErr result (λ e. e ≡ OutOfMemory) }
+{
+    let sideways = sideways_text(alloc, x)?;
+    let least = fit_or(room, sideways, String::new(alloc));
+    Ok(fit_or(room, counts, least))
+}
+
+/// Returns `counts`, keys and `accept`, which says what accepting does. If they do not fit into `room`
+/// columns, the keys are left out first.
+fn long_text(
+    alloc: Global,
+    room: usize,
+    x: usize,
+    counts: String,
+    accept: &str,
+) -> Result<String, RecordError>
+    ensures ok { IfOk result (λ text.
+        string_bytes text ≡ long_text room x (string_bytes counts) accept.now) }
+    ensures err { IfErr result (λ e. e ≡ OutOfMemory) }
+{
+    let few = format!(in alloc; "{counts}  {accept}")?;
+    let all = format!(in alloc; "{counts}  /: search  ?: help  {accept}")?;
+    let short = short_text(alloc, room, x, counts)?;
+    let less = fit_or(room, few, short);
+    Ok(fit_or(room, all, less))
+}
+
+/// Returns what stands on the right of the status row within `room` columns: the `x` columns to the left,
+/// how many `lines` and `files` are marked, keys, and `accept`, which says what accepting does. If it does
+/// not fit, the keys are left out first, then `accept`, then the counts.
 fn right_text(
     alloc: Global,
+    room: usize,
+    x: usize,
     lines: usize,
     files: usize,
     accept: &str,
 ) -> Result<String, RecordError>
-    ensures ok { IfOk result (λ text. string_bytes text ≡ right_text lines files accept.now) }
+    ensures ok { IfOk result (λ text.
+        string_bytes text ≡ right_text room x lines files accept.now) }
     ensures err { IfErr result (λ e. e ≡ OutOfMemory) }
 {
-    let text = format!(in alloc; "  lines: {lines}, files: {files}  /: search  ?: help  {accept}")?;
-    Ok(text)
+    let counts = counts_text(alloc, x, lines, files)?;
+    long_text(alloc, room, x, counts, accept)
 }
 
-/// Returns what stands on the right of the status row of `front`: while the help is open, only `accept`.
+/// Returns what stands on the right of the status row of `front`, which has `width` columns and `left` on
+/// its left, while `x` columns stand to the left of the terminal: while the help is open, only `accept`.
 pub(crate) fn right_of(
     alloc: Global,
     front: &Front<'_>,
+    width: u16,
+    left: &LeftText,
+    x: usize,
     accept: &str,
 ) -> Result<String, RecordError>
-    ensures ok { IfOk result (λ text. string_bytes text ≡ right_of front.now accept.now) }
+    ensures ok { IfOk result (λ text.
+        string_bytes text ≡ right_of front.now width left.now x accept.now) }
     ensures err { IfErr result (λ e. e ≡ OutOfMemory) }
 {
+    let room = (width as usize).saturating_sub(columns_before(left));
     let session = front.beneath();
     if session.view_state().is_help_open {
-        Ok(format!(in alloc; "  {accept}")?)
+        let text = format!(in alloc; "  {accept}")?;
+        Ok(fit_or(room, text, String::new(alloc)))
     } else {
         right_text(
             alloc,
+            room,
+            x,
             session.checked_lines(),
             session.changed_files(),
             accept,
@@ -174,20 +327,31 @@ pub(crate) fn right_of(
 }
 
 /// Returns the column of a text of which the first `over` columns have no room: to the left of column 0.
-fn left_column(over: usize) -> isize
-    ensures { result ≡ left_column over }
+fn tail_column(over: usize) -> isize
+    ensures { result ≡ tail_column over }
 {
     0_isize.strict_sub_unsigned(over.min(1_000_000_000))
 }
 
+/// Returns the column of a text on the left, of which `over` columns have no room: what is said loses its
+/// end, all else its beginning.
+fn left_column(kind: LeftKind, over: usize) -> isize
+    ensures { result ≡ left_column kind over }
+{
+    match kind {
+        LeftKind::Said => 0,
+        LeftKind::Typed | LeftKind::Item => tail_column(over),
+    }
+}
+
 /// Returns a grid of `width` columns and `height` rows of blanks, and below them the status row: `right`
-/// at its end, and before it `left`, or its tail if it is too long. It takes the memory of `kept`.
+/// at its end, and before it `left`, or the part of it that has room. It takes the memory of `kept`.
 pub(crate) fn status_grid(
     alloc: Global,
     kept: Option<Grid>,
     width: u16,
     height: u16,
-    left: &str,
+    left: &LeftText,
     right: &str,
 ) -> Result<Grid, RecordError>
     requires height { height < 65535 }
@@ -198,9 +362,11 @@ pub(crate) fn status_grid(
     let columns = width as usize;
     let row = height as usize;
     let room = columns.saturating_sub(text_width(right));
-    let over = text_width(left).saturating_sub(room);
+    let text = left.text.as_str();
+    let over = text_width(text).saturating_sub(room);
+    let column = left_column(left.kind, over);
     let mut grid = blank_grid(alloc, kept, width, height)?;
-    grid.put(row, left_column(over), left, 0, room)?;
+    grid.put(row, column, text, 0, room)?;
     grid.put(row, 0_isize.strict_add_unsigned(room), right, 0, columns)?;
     Ok(grid)
 }

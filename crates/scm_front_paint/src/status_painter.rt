@@ -8,7 +8,7 @@ ghost use Rattle.scm_front_paint.specs.Blank.{IsBeginning, PaintsLast, blank_pic
 ghost use Rattle.scm_front_paint.specs.Status.{status_picture, status_style};
 
 use crate::blanks::{blank_grid, blanking};
-use crate::status::status_grid;
+use crate::status::{LeftText, status_grid};
 use scm_cells::{Grid, Style};
 use scm_errors::RecordError;
 use scm_terminal::{NumberedStyle, Painter, Styles};
@@ -130,7 +130,7 @@ impl RowPainter {
         alloc: Global,
         width: u16,
         height: u16,
-        left: &str,
+        left: &LeftText,
         right: &str,
     ) -> Result<String, RecordError>
         requires { height < 65535 }
@@ -221,7 +221,7 @@ impl StatusPainter {
         alloc: Global,
         width: u16,
         height: u16,
-        left: &str,
+        left: &LeftText,
         right: &str,
     ) -> Result<String, RecordError>
         requires { height < 65535 }

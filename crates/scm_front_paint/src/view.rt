@@ -6,7 +6,7 @@ ghost use Rattle.scm_front.specs.declared.layer.FrontTurn.TheVariants as fronts;
 ghost use Rattle.scm_front.specs.Fronts.{FrontFails};
 ghost use Rattle.scm_front_paint.specs.Pane.{offset, with_size, with_x};
 ghost use Rattle.scm_front_paint.specs.Seen.{IsSeen};
-ghost use Rattle.scm_front_paint.specs.Views.{IsFitted, IsHanded, IsShown, ViewBytes, ViewDoes, ViewFails, ViewHears, ViewSayFails, ViewSays, ViewSilence, heard_by, is_kind};
+ghost use Rattle.scm_front_paint.specs.Views.{IsFitted, IsHanded, IsShown, ViewBytes, ViewDoes, ViewFails, ViewHears, ViewSayFails, ViewSays, ViewSilence, heard_by, is_kind, is_own};
 
 use crate::pane::{Heard, Pane, heard_as, is_free, kind_for, offset, with_size, with_x};
 use scm_front::{AcceptedState, Front, FrontEditing, FrontTurn, OwnKey};
@@ -168,12 +168,23 @@ impl<'state> View<'state> {
         view_of(front, pane)
     }
 
+    /// Returns whether `>` and `<` are keys of the view: no text is asked for, no dialog is open, and
+    /// `event` is none of the user's own keys.
+    fn is_own(&self, event: TerminalEvent) -> bool
+        ensures { result ≡ is_own self.now event }
+    {
+        let is_unasked = !self.front.query().is_asking;
+        let is_free = is_free(self.front.beneath());
+        let has_none = !self.front.has_key(event);
+        is_unasked & is_free & has_none
+    }
+
     /// Returns what `event` of the terminal is.
     fn meaning(&self, event: TerminalEvent) -> Heard
         ensures { result ≡ heard_by self.now event }
     {
+        let is_own = self.is_own(event);
         let session = self.front.beneath();
-        let is_own = !self.front.query().is_asking && is_free(session);
         heard_as(self.pane, is_own, offset(self.pane, session), event)
     }
 
@@ -189,8 +200,8 @@ impl<'state> View<'state> {
         }
     }
 
-    /// Hears `event` of the terminal: `>` and `<` show the window from another column on, and all else goes
-    /// to the front, with the mouse where it stands in the window.
+    /// Hears `event` of the terminal: `>` and `<` show the window from another column on, unless they are
+    /// the user's own keys. All else goes to the front, with the mouse where it stands in the window.
     ///
     /// # Errors
     ///

@@ -9,4 +9,4 @@ returns-in_err-turn-clause-err c =
 
 pub returns-clause-ok : goal.returns-clause-ok
 returns-clause-ok c =
-    IfOk-weaker c.shown.result _ _ (λ turn shown. says-at _ c.args.self _ c.in_ok-turn.turn turn c.self.view_is c.in_ok-turn.ensures.ok shown) c.shown.ensures.ok
+    IfOk-weaker c.shown.result _ _ (λ turn shown. says-at _ c.args.self _ c.in_ok-turn.turn turn c.self.view_is c.in_ok-turn.ensures.ok c.in_ok-turn.ensures.kept shown) c.shown.ensures.ok
