@@ -1,7 +1,9 @@
 """The options of git-select, in one table. The help is made of it, and tools/make-options makes of it the list of the man page and what
 shells complete."""
 import collections
+import types
 
+from choosing.words import version_of
 from commits import Amend, Commit, Fixup, Split
 from restore import Restore
 from stash import Stash
@@ -92,6 +94,22 @@ OPTIONS = (
     ),
     Option(["--version"], None, "print the version", "Prints the version."),
 )
+
+
+def options_of(words, about, epilogue):
+    """Returns the options and paths among `words`, and prints the help if it is asked for there. `about` and `epilogue` are parts of it."""
+    from choosing.arguments import Arguments
+
+    reader = Arguments("git-select", about, epilogue)
+    add_options(reader, version_of("git-select"))
+    return read_options(reader, words)
+
+
+def without_words():
+    """Returns the same without words."""
+    read = (option for option in OPTIONS if not option.way or option.value)
+    names = (option.taken.get("dest") or option.names[-1].strip("-").replace("-", "_") for option in read)
+    return types.SimpleNamespace(**{**dict.fromkeys(names), "way": Stage, "paths": []})
 
 
 def add_options(reader, version):
