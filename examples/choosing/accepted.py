@@ -1,5 +1,6 @@
 """What a front end wrote of an accepted choice: the sides of each file, the marks, and the messages. And marks that are kept."""
 from .change import ABSENT, digest_of
+from .folders import read_named
 from .records import records_in
 from .words import Stop, shown
 
@@ -65,8 +66,7 @@ def kept_in(path):
     import json
 
     try:
-        with open(path, encoding="utf-8") as file:
-            kept = json.load(file)
+        kept = json.loads(read_named(path).decode())
         is_well = is_kept(kept)
     except (ValueError, LookupError, RecursionError):
         is_well = False

@@ -4,17 +4,18 @@ import os
 
 from .change import digest_of
 from .files import named
-from .plans import NOTHING, WITHIN, in_order, plans_of
+from .plans import NOTHING, NOT_PLANNED, WITHIN, in_order, plans_of
 from .spare import Spare, parent_for
 from .words import Stop, shown
 
 
 class CutOff:
-    """What was left by a change of `files` that was cut off: its spare folder `spare`, with the plan, and the `entries` of that if
-    some of them may be done. Else the folder is not needed."""
+    """What was left by a change of files that was cut off: its spare folder `spare`, and what is `planned`. If that has no entries,
+    the folder is not needed."""
 
-    def __init__(self, spare, entries):
-        self.files, self.spare, self.entries = spare.files, spare, in_order(entries)
+    def __init__(self, spare, planned):
+        self.files, self.spare, self.entries = spare.files, spare, in_order(planned.entries)
+        self.files.folders = planned.folders
 
     @property
     def path(self):
@@ -92,10 +93,10 @@ def cut_off(files):
     fits to no spare folder counts for nothing."""
     with contextlib.ExitStack() as stack:
         found = None
-        for spare, (inode, entries) in spares_left(files, stack, is_at_work=False):
-            if not found and spare.fits(inode):
-                found = CutOff(spare, [] if spare.plan.is_done() else entries)
-            elif not found and (spare.plan.is_done() or not entries):
+        for spare, planned in spares_left(files, stack, is_at_work=False):
+            if not found and spare.fits(planned.inode):
+                found = CutOff(spare, NOT_PLANNED if spare.plan.is_done() else planned)
+            elif not found and (spare.plan.is_done() or not planned.entries):
                 # it was cut off before its folder was made, or behind the removal of that
                 with contextlib.suppress(OSError):
                     spare.plan.remove()
@@ -106,4 +107,4 @@ def names_within(files):
     """Returns the names of the spare folders that lie in the folder of `files`, also while a program is at work."""
     with contextlib.ExitStack() as stack:
         found = spares_left(files, stack, is_at_work=True)
-        return {spare.first.name for spare, (inode, _) in found if spare.first.place == WITHIN and spare.fits(inode)}
+        return {spare.first.name for spare, planned in found if spare.first.place == WITHIN and spare.fits(planned.inode)}

@@ -8,6 +8,7 @@ import stat
 from .change import ABSENT, LINK, digest_of
 from .folders import AT_ONCE, IS_FOLDER, IS_PLAIN, closing, read_whole
 from .paths import check_path
+from .permissions import give, permissions_of_file, permissions_of_folder, permissions_of_new
 from .plans import Entry, in_order
 from .signals import signals_wait
 from .spare import spare_for
@@ -44,29 +45,41 @@ def flush(folder, names):
 
 def set_permissions(folder, permissions):
     """Gives files their permissions, by name, if they are not None."""
-    for name, bits in permissions.items():
-        if bits is not None:
+    for name, wanted in permissions.items():
+        if wanted is not None:
             with closing(os.open(name, os.O_RDONLY | IS_PLAIN, dir_fd=folder)) as file:
-                os.fchmod(file, bits)
+                give(file, wanted)
 
 
 def permissions_for(mode, before):
     """Returns the permissions of a file of git's mode `mode`: those that it had `before`, but for those to run it."""
-    return before | (before & 0o444) >> 2 if mode == "100755" else before & ~0o111
+    bits = before.bits | (before.bits & 0o444) >> 2 if mode == "100755" else before.bits & ~0o111
+    return before._replace(bits=bits)
 
 
-def permissions_of_new(mode, source):
-    """Returns the permissions of a new file, of which the user's mask takes some away: not more than those of its `source`, if that
-    is one, but for the owner's, who may read and write it."""
-    return permissions_for(mode, 0o666 if source is None else source | 0o600)
+def permissions_wanted(mode, before, source):
+    """Returns the permissions of a file of git's mode `mode`, or None if they are those of any new file: those that it had `before`.
+    A new one has no more than its `source`, if that is known, but its owner may read and write it."""
+    if before is not None:
+        return permissions_for(mode, before)
+    return None if source is None else permissions_of_new(permissions_for(mode, source._replace(bits=source.bits | 0o600)), 0o600)
+
+
+def give_to_new_folder(at, name, permissions):
+    """Gives the folder `name` in the open folder `at` its permissions, which this user has just made. Stops if another one has its
+    place."""
+    with closing(os.open(name, IS_FOLDER, dir_fd=at)) as folder:
+        if os.fstat(folder).st_uid != os.geteuid() or os.listdir(folder):
+            raise OSError(errno.EBUSY, "another folder is in its place")
+        give(folder, permissions)
 
 
 class Files:
     """The files below the folder `top`. With `follows`, a link to a file counts as that file. `room` is where the plan of a change
-    is kept, if they are changed (see rooms.py)."""
+    is kept, if they are changed (see rooms.py). `folders` has by path the permissions of folders that are made."""
 
     def __init__(self, top, follows=False, room=None):
-        self.top, self.follows, self.room = top, follows, room
+        self.top, self.follows, self.room, self.folders = top, follows, room, {}
 
     @functools.cached_property
     def at(self):
@@ -85,9 +98,15 @@ class Files:
         return at
 
     def make_missing(self, at, parts, undo):
-        with contextlib.suppress(FileExistsError):
-            os.mkdir(parts[-1], dir_fd=at)
-            undo.callback(self.remove_folder, parts)
+        """Makes the folder that `parts` lead to in the open folder `at`, if it is not there. `undo` removes it."""
+        permissions = self.folders.get("/".join(parts))
+        try:
+            os.mkdir(parts[-1], 0o777 if permissions is None else 0o700, dir_fd=at)
+        except FileExistsError:
+            return
+        undo.callback(self.remove_folder, parts)
+        if permissions is not None:
+            give_to_new_folder(at, parts[-1], permissions)
 
     def beside(self, path, undo=None):
         """Opens the folder that `path` lies in. Returns it, to be closed, and the name in it."""
@@ -130,16 +149,45 @@ class Files:
         except FileNotFoundError:
             return None
 
-    def change(self, entries, sources=None):
+    def folders_above(self, paths):
+        """Returns the permissions of the folders above `paths` that are there, by path."""
+        found = {}
+        for parent in sorted({path.rpartition("/")[0] for path in paths} - {""}):
+            try:
+                self.find_folders(parent.split("/"), found)
+            except OSError as error:
+                if error.errno not in NO_FOLDER:
+                    raise
+        return found
+
+    def find_folders(self, names, found):
+        """Adds to `found` the permissions of each folder on the way that `names` lead. Raises OSError where one is not there."""
+        at = os.open(".", IS_FOLDER, dir_fd=self.at)
+        for number, name in enumerate(names, 1):
+            with closing(at):
+                below = os.open(name, IS_FOLDER, dir_fd=at)
+            at = below
+            path = "/".join(names[:number])
+            if path not in found:
+                found[path] = permissions_of_folder(at)
+        os.close(at)
+
+    def keep_folders(self, entries, sources):
+        """Keeps the permissions of the folders that `entries` may remove or make. A new folder has no more than `sources` says."""
+        self.folders = {path: permissions_of_new(source, 0o700) for path, source in sources.items()}
+        self.folders.update(self.folders_above(path for path, old, new in entries if ABSENT in (old[0], new[0])))
+
+    def change(self, entries, sources=None, of_folders=None):
         """Puts all of `entries` in place, or none of them: paths, each with the mode and bytes that are there and those
         that are to be there. Files come by a rename. Stops if something else is there. A new file has no more permissions than
-        `sources` says by path. If this is cut off, a plan says how to finish it, or to undo it (see cut_off.py). Returns what is
-        said of what cannot be removed once all is in place."""
+        `sources` says by path, and a new folder no more than `of_folders`. If this is cut off, a plan says how to finish it, or to
+        undo it (see cut_off.py). Returns what is said of what cannot be removed once all is in place."""
         if not entries:
             return []
         for path, _, _ in entries:
             check_path(path)
         with signals_wait(), named(self.top, "written"), spare_for(self) as spare:
+            self.keep_folders(entries, of_folders or {})
             self.make_all(spare, entries, sources or {})
             steps = [Entry(number, path, digest_of(old), digest_of(new)) for number, (path, old, new) in enumerate(entries)]
             spare.begin(steps)
@@ -161,8 +209,8 @@ class Files:
                 if mode == LINK:
                     spare.make_link(name, data)
                 elif mode != ABSENT:
-                    permissions[name] = None if before is None else permissions_for(mode, before)
-                    spare.make_file(name, data, permissions_of_new(mode, sources.get(path)) if before is None else 0o600)
+                    permissions[name] = wanted = permissions_wanted(mode, before, sources.get(path))
+                    spare.make_file(name, data, 0o600 if wanted else 0o777 if mode == "100755" else 0o666)
         flush(spare.at, permissions)
         # they may keep the user from opening a file
         set_permissions(spare.at, permissions)
@@ -172,9 +220,9 @@ class Files:
         parts = path.split("/")[:-1]
         while parts:
             try:
-                mode = self.mode_of_folder(parts)
+                self.keep_folder(parts)
                 self.remove_folder(parts)
-                undo.callback(self.make_folder, parts, mode)
+                undo.callback(self.make_folder, parts)
             except FileNotFoundError:
                 # where it was not made yet, one above it may be
                 pass
@@ -182,13 +230,14 @@ class Files:
                 return
             parts = parts[:-1]
 
-    def mode_of_folder(self, parts):
+    def keep_folder(self, parts):
         with closing(self.folder(parts)) as folder:
-            return os.fstat(folder).st_mode & 0o777
+            self.folders.setdefault("/".join(parts), permissions_of_folder(folder))
 
-    def make_folder(self, parts, mode):
-        with closing(self.folder(parts[:-1])) as folder:
-            os.mkdir(parts[-1], mode, dir_fd=folder)
+    def make_folder(self, parts):
+        with closing(self.folder(parts[:-1])) as folder, contextlib.ExitStack() as undo:
+            self.make_missing(folder, parts, undo)
+            undo.pop_all()
 
     def remove_folder(self, parts):
         with closing(self.folder(parts[:-1])) as folder:
@@ -200,5 +249,4 @@ def read_open(file):
     found = os.fstat(file)
     if not stat.S_ISREG(found.st_mode):
         return ABSENT_SIDE, None
-    # another user's bits that set a user or a group are never taken over
-    return ("100755" if found.st_mode & 0o100 else "100644", read_whole(file)), found.st_mode & 0o777
+    return ("100755" if found.st_mode & 0o100 else "100644", read_whole(file)), permissions_of_file(file)

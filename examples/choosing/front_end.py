@@ -85,7 +85,7 @@ def status_in_terminal(command, environment):
     said."""
     terminal = Kept()
     try:
-        status = run_in_terminal(command, environment)
+        status = run_in_terminal(command, environment)[0]
     except OSError as error:
         raise Stop("the front end cannot be run: " + words_of(error)) from None
     if status not in STATUSES:

@@ -12,6 +12,10 @@ from .words import Stop, printable
 
 # how many objects are taken as one file, as git does with what it fetches
 MANY, PACKING = 100, ("index-pack", "--stdin")
+# has what a command says go where standard error does, and keeps standard output for the editor that it opens
+APART = 'exec 9>&1 >&2 "$@"'
+# the editor, with standard output as it was; git adds the file's name
+EDITOR = 'gabrosty_editor() {\n%s "$@"\n}\ngabrosty_editor >&9 2>&9'
 
 
 def run_to_end(command, given=None, **settings):
@@ -39,10 +43,10 @@ def split_by_zeros(output):
 
 
 def run_in_terminal(command, environment, **settings):
-    """Runs a command that has the terminal meanwhile, so what Ctrl-C does then is its matter. Returns its status."""
+    """Runs a command that has the terminal meanwhile, so what Ctrl-C does then is its matter. Returns what run_to_end does."""
     before = signal.signal(signal.SIGINT, lambda *_: None)
     try:
-        return run_to_end(command, env=environment, **settings)[0]
+        return run_to_end(command, env=environment, **settings)
     finally:
         signal.signal(signal.SIGINT, before)
 
@@ -75,9 +79,21 @@ class Git:
         except FileNotFoundError:
             raise Stop("it needs git, and there is no such program") from None
 
-    def in_terminal(self, *words, **more):
-        """Runs git where the user sees it, and may answer. Returns its status."""
-        return run_in_terminal(["git", *self.options, *words], {**self.environment, **more}, **self.inside(self.top))
+    def editor(self):
+        """Returns the editor that git opens, or None."""
+        status, editor, _ = self.run("var", "GIT_EDITOR")
+        return None if status else os.fsdecode(editor).strip()
+
+    def with_editor(self, *words, **more):
+        """Runs git where it opens its editor, which has the terminal. Returns git's status, and what git and its hooks said."""
+        editor = self.editor()
+        # by `:` git opens none
+        apart = {} if editor in (None, ":") else {"GIT_EDITOR": EDITOR % editor}
+        command = ["sh", "-c", APART, "sh", "git", *self.options, *words]
+        settings = {"stderr": subprocess.PIPE, **self.inside(self.top)}
+        status, _, said = run_in_terminal(command, {**self.environment, **more, **apart}, **settings)
+        # an editor that fails is named as the user has set it
+        return status, said.replace(os.fsencode(apart.get("GIT_EDITOR", "")), os.fsencode(editor)) if apart else said
 
     def git(self, *words, **settings):
         """Returns git's output. Stops with git's reason if it fails."""

@@ -2,8 +2,8 @@
 repository and no other user can put one (see rooms.py), and is still checked in each of its parts.
 
 A plan is a file of two lines of JSON. The first one names the folder that is changed and the spare folder (see spare.py), which is
-made behind it. The second one has what is to be done, and is written before the first file is moved. Once all is done, the plan
-has another name."""
+made behind it. The second one has what is to be done, with the permissions of folders that may be removed or made, and is written
+before the first file is moved. Once all is done, the plan has another name."""
 import collections
 import contextlib
 import errno
@@ -16,18 +16,25 @@ from .change import ABSENT, LINK, digest_of
 from .folders import IS_PLAIN, closing, identity_of, is_ours, read_whole
 from .locks import lock_open
 from .paths import fault_in
+from .permissions import LISTS, OF_FOLDER, Permissions
 from .words import Stop, shown
 
 BEGUN, DONE = ".plan", ".done"
 NAME = re.compile(r"[0-9a-f]{16}-[0-9a-f]{32}\.(?:plan|done)")
 DIGEST, TOKEN, SPARE_NAME = map(re.compile, ("[0-9a-f]{64}", "[0-9a-f]{32}", r"\.gabrosty-[0-9a-f]{32}"))
+HEXADECIMAL = re.compile("(?:[0-9a-f]{2})*")
 MODES = ABSENT, "100644", "100755", LINK
+# what is said of a plan that is gone meanwhile, as it is at its end, and of what is no plan: another user's, a link or a folder
+NO_PLAN = errno.ENOENT, errno.EACCES, errno.EPERM, errno.ELOOP, errno.EISDIR, errno.ENXIO
 # where a spare folder may lie: in the folder of the plan, beside the folder that is changed, or in it
 PLACES = KEPT, BESIDE, WITHIN = "kept", "beside", "within"
 
 # The first line of a plan: the folder's real path and inode, and the place, the name and the secret of the spare folder. The
 # number of a disk may be another one after a start of the system, so the secret, which lies in the spare folder, is looked at.
 First = collections.namedtuple("First", "top inode place name secret")
+# What the second line says: the inode of the spare folder, the entries, and the permissions of folders by path.
+Planned = collections.namedtuple("Planned", "inode entries folders")
+NOT_PLANNED = Planned(None, [], {})
 
 
 class Entry(collections.namedtuple("Entry", "number path old new")):
@@ -84,9 +91,11 @@ def plans_of(folder, where, top):
     names = sorted(name for name in os.listdir(folder) if NAME.fullmatch(name) and name.startswith(key_of(top)))
     found = []
     for name in names:
-        # one that is gone meanwhile is at its end, and another user's is no plan
-        with contextlib.suppress(FileNotFoundError, PermissionError):
+        try:
             found.append(Plan(folder, where, name, opened(folder, name)))
+        except OSError as error:
+            if error.errno not in NO_PLAN:
+                raise
     return found
 
 
@@ -173,25 +182,36 @@ class Plan:
         return Stop("%s is no plan that can be followed, and nothing was done: %s" % (shown(self.path), fault))
 
     def read(self):
-        """Returns what the first line says, or None, and what the second one says: the inode of the spare folder, or None, and the
-        entries. Stops if anything in it does not fit."""
+        """Returns what the first line says, or None, and what the second one says, or NOT_PLANNED. Stops if anything in it does not
+        fit."""
         lines = self.lines()
         if not lines:
-            return None, (None, [])
+            return None, NOT_PLANNED
         if not is_first(lines[0]) or len(lines) > 2:
             raise self.stop("it has another form")
-        return First(*lines[0]), self.planned(lines[1]) if lines[1:] else (None, [])
+        return First(*lines[0]), self.planned(lines[1]) if lines[1:] else NOT_PLANNED
 
     def planned(self, line):
-        if not (isinstance(line, list) and len(line) == 2 and is_number(line[0]) and isinstance(line[1], list)):
+        if not (isinstance(line, list) and len(line) == 3 and is_number(line[0]) and all(isinstance(part, list) for part in line[1:])):
             raise self.stop("it has another form")
-        for entry in line[1]:
-            fault = fault_of_entry(entry)
+        inode, entries, folders = line
+        for fault in (*map(fault_of_entry, entries), *map(fault_of_folder, folders)):
             if fault:
                 raise self.stop(fault)
-        if len({path for path, _, _ in line[1]}) < len(line[1]):
+        if len({path for path, _, _ in entries}) < len(entries):
             raise self.stop("a path is in it twice")
-        return line[0], [Entry(number, *entry) for number, entry in enumerate(line[1])]
+        return Planned(inode, [Entry(number, *entry) for number, entry in enumerate(entries)], folders_in(folders))
+
+
+def lines_of(folders):
+    """Returns the permissions of folders, by path, as a plan has them."""
+    return [[path, *it[:2], it.lists and [[name, data.hex()] for name, data in it.lists]] for path, it in folders.items()]
+
+
+def folders_in(lines):
+    """Returns the permissions of folders, by path, that a plan has as `lines`."""
+    lists_by_path = {path: lists and tuple((name, bytes.fromhex(data)) for name, data in lists) for path, _, _, lists in lines}
+    return {path: Permissions(bits, group, lists_by_path[path]) for path, bits, group, _ in lines}
 
 
 def is_number(value):
@@ -216,13 +236,33 @@ def is_side(value):
     return bool(is_digest) and (value[0] != ABSENT or value == NOTHING)
 
 
+def fault_of_path(path):
+    """Returns what does not fit in a path, or None."""
+    try:
+        os.fsencode(path)
+    except UnicodeEncodeError:
+        return "a path is no name of a file"
+    fault = fault_in(path)
+    return "%s: %s" % (shown(path), fault) if fault else None
+
+
 def fault_of_entry(entry):
     """Returns what does not fit in an entry, or None."""
     if not isinstance(entry, list) or len(entry) != 3 or not isinstance(entry[0], str) or not all(map(is_side, entry[1:])):
         return "an entry has another form"
-    try:
-        os.fsencode(entry[0])
-    except UnicodeEncodeError:
-        return "a path is no name of a file"
-    fault = fault_in(entry[0])
-    return "%s: %s" % (shown(entry[0]), fault) if fault else None
+    return fault_of_path(entry[0])
+
+
+def is_list_of_users(value):
+    """Whether this is a list of single users and groups, with its name."""
+    is_pair = isinstance(value, list) and len(value) == 2 and value[0] in LISTS
+    return is_pair and isinstance(value[1], str) and bool(HEXADECIMAL.fullmatch(value[1]))
+
+
+def fault_of_folder(line):
+    """Returns what does not fit in the permissions of a folder, or None."""
+    if not isinstance(line, list) or len(line) != 4 or not isinstance(line[0], str) or not isinstance(line[3], (list, type(None))):
+        return "a folder has another form"
+    path, bits, group, lists = line
+    is_well = is_number(bits) and not bits & ~OF_FOLDER and (group is None or is_number(group)) and all(map(is_list_of_users, lists or []))
+    return fault_of_path(path) if is_well else "a folder has other permissions"

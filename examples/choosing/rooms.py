@@ -11,6 +11,16 @@ NAME = "gabrosty"
 ANOTHER_STATE = "; XDG_STATE_HOME names another folder"
 
 
+def make_folders(path):
+    """Makes the folder `path`, and those above it, for this user alone, if they are not there. Raises PermissionError if `path` belongs
+    to another user: nothing is made in it then."""
+    if not os.path.isdir(path):
+        make_folders(os.path.dirname(path))
+        os.mkdir(path, 0o700)
+    if os.stat(path).st_uid not in (0, os.geteuid()):
+        raise PermissionError(errno.EPERM, "it lies in a folder of another user")
+
+
 class Room:
     """The folder `path` for plans. `place` says where spare folders lie if that is of use (see plans.py), and `hint` is said
     where the folder cannot be used. With `is_removed` it goes once it is empty."""
@@ -18,12 +28,20 @@ class Room:
     def __init__(self, path, place, hint="", is_removed=False):
         self.path, self.place, self.hint, self.is_removed = path, place, hint, is_removed
 
+    def check_absolute(self):
+        """Raises OSError if the path depends on the current folder, which may be a stranger's."""
+        if not os.path.isabs(self.path):
+            raise OSError(errno.ENOENT, "HOME names no folder")
+
     def make(self):
         with contextlib.suppress(FileExistsError):
             os.mkdir(self.path, 0o700)
 
     def open(self):
         """Opens the folder. Raises OSError if it cannot be used."""
+        self.check_absolute()
+        if os.path.islink(self.path):
+            raise OSError(errno.ELOOP, "it is a link, and no link is followed here", self.path)
         folder = os.open(self.path, IS_FOLDER)
         if not is_ours(folder, stat.S_ISDIR) or not os.access(".", os.W_OK | os.X_OK, dir_fd=folder):
             os.close(folder)
@@ -77,8 +95,18 @@ class UserRoom(Room):
         super().__init__(os.path.join(folder, NAME), place, ANOTHER_STATE)
 
     def make(self):
+        self.check_absolute()
         above = os.path.dirname(self.path)
-        os.makedirs(above, 0o700, exist_ok=True)
-        if os.stat(above).st_uid not in (0, os.geteuid()):
-            raise PermissionError(errno.EPERM, "it lies in a folder of another user")
+        try:
+            make_folders(above)
+        except FileExistsError as error:
+            raise NotADirectoryError(errno.ENOTDIR, "%s is no folder" % shown(error.filename)) from None
         super().make()
+
+    def open(self):
+        folder = super().open()
+        # a folder that git has checked out can be read by others, as most users have set their mask
+        if os.fstat(folder).st_mode & 0o077:
+            os.close(folder)
+            raise PermissionError(errno.EPERM, "it is not yours alone, with mode 0700", self.path)
+        return folder

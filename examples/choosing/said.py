@@ -38,7 +38,7 @@ def say(text):
     """Says a line on standard error. If it cannot be written it is lost, and nothing else stops for that."""
     erase()
     encoding = sys.stderr.encoding if sys.stderr else "utf-8"
-    write(("%s: %s\n" % (program(), printable(text))).encode(encoding, "backslashreplace"))
+    write((printable("%s: %s" % (program(), text)) + "\n").encode(encoding, "backslashreplace"))
 
 
 def tell(lines, done):

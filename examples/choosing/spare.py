@@ -7,7 +7,7 @@ import stat
 
 from .change import digest_of
 from .folders import IS_FOLDER, IS_PLAIN, closing, identity_of, is_ours, read_whole
-from .plans import BESIDE, KEPT, WITHIN, First, Plan, new_token
+from .plans import BESIDE, KEPT, WITHIN, First, Plan, lines_of, new_token
 from .words import HalfDone, Stop, shown, words_of
 
 SECRET = "secret"
@@ -149,7 +149,8 @@ class Spare:
     def begin(self, entries):
         """Waits until all that was made is on the disk, and writes into the plan what is to be done."""
         os.fsync(self.at)
-        self.plan.add([os.fstat(self.at).st_ino, [[entry.path, entry.old, entry.new] for entry in entries]])
+        steps = [[entry.path, entry.old, entry.new] for entry in entries]
+        self.plan.add([os.fstat(self.at).st_ino, steps, lines_of(self.files.folders)])
         self.entries = entries
 
     def is_aside(self, entry):

@@ -1,25 +1,30 @@
 """The two sides that are compared, and where what is chosen goes: folders, or files."""
 import functools
+import heapq
 import os
 import stat
 
-from choosing.change import ABSENT, in_the_way
+from choosing.change import ABSENT, LINK, digest_of, in_the_way
 from choosing.cut_off import names_within
 from choosing.files import ABSENT_SIDE, Files
 from choosing.folders import MOST_BYTES, TOO_LARGE, below
 from choosing.git import Git
 from choosing.paths import is_own
+from choosing.permissions import permissions_of_both
 from choosing.plans import BESIDE, WITHIN
 from choosing.rooms import UserRoom
 from choosing.words import Stop, shown
 
+# what all files have together that differ, or that OUTPUT is given
+MOST_IN_ALL = MOST_BYTES
+TOO_MUCH = "it is one of the largest files, and all that differ have more than %s bytes"
 # what git and jj keep for themselves in a working tree
 OWN = ".git", ".jj"
 # jj puts this file beside those of the commit, for whoever reads the folder
 INSTRUCTIONS = "JJ-INSTRUCTIONS"
 # git difftool --dir-diff sets it. Its folder RIGHT has links to the files of the working tree.
 IS_DIFFTOOL = os.environ.get("GIT_DIFFTOOL_DIRDIFF") == "true"
-# hg sets it for the programs that it calls
+# hg sets it for the programs that it calls. It hands in files of a repository, in which a link is not the file or folder that it leads to.
 IS_HG = "HG" in os.environ
 # git sets it for what shows a single file. A file of the working tree has a relative path then, and a temporary one an absolute path.
 IS_FOR_ONE_FILE = "GIT_DIFF_PATH_COUNTER" in os.environ
@@ -46,15 +51,30 @@ def paths_below(files):
     return {path: reason for path, reason in reasons.items() if reason or not stat.S_ISDIR(found[path].st_mode)}
 
 
-def permissions_of_both(first, second):
-    """Returns the permissions that each of two files gives. One of them may be None."""
-    return second if first is None else first if second is None else first & second
+def bytes_in(sides):
+    """Returns how many bytes the sides of a file have."""
+    return sum(len(data) for _, data in sides)
 
 
 def is_folder(options):
     """Whether folders are compared, and not two files."""
     paths = [path for path in (options.left, options.right, options.output) if path is not None]
-    return options.dir_diff or any(map(os.path.isdir, paths))
+    return options.dir_diff or any(map(is_folder_at, paths))
+
+
+def is_link(path):
+    """Whether a path that is named counts as a link, and not as what it leads to."""
+    return IS_HG and os.path.islink(path)
+
+
+def is_folder_at(path):
+    return os.path.isdir(path) and not is_link(path)
+
+
+def place_of(path):
+    """Returns the folder that a file which is named lies in, without links on its path, and its name there."""
+    folder, name = os.path.split(os.path.abspath(path))
+    return (os.path.realpath(folder), name) if is_link(path) else os.path.split(os.path.realpath(path))
 
 
 def target_of(options):
@@ -62,7 +82,7 @@ def target_of(options):
     path = options.output or options.right
     if is_folder(options):
         return Files(path, follows=IS_DIFFTOOL and not options.output, room=UserRoom(BESIDE))
-    return Files(os.path.dirname(os.path.realpath(path)), room=UserRoom(WITHIN))
+    return Files(place_of(path)[0], room=UserRoom(WITHIN))
 
 
 def compared(options, target):
@@ -71,7 +91,7 @@ def compared(options, target):
     if not is_folder(options):
         return TwoFiles(options, target)
     for path in (options.left, options.right, options.output):
-        if path is not None and not os.path.isdir(path):
+        if path is not None and not is_folder_at(path):
             raise Stop("%s is no folder" % shown(path))
     return Folders(options, target)
 
@@ -88,7 +108,9 @@ class Folders:
         self.left, self.target = Files(options.left, room=target.room), target
         self.right = Files(options.right, follows=IS_DIFFTOOL, room=target.room) if options.output else target
         self.pairs = {}  # the two sides of each file that differs, by path
+        self.total, self.sizes = 0, []  # how many bytes they have, and each by a number below 0, with its path: a heap
         self.sources = {}  # the permissions that a new file may have, by path
+        self.digests = {} if options.output else None  # by what the other files are known, by path, where OUTPUT gets them too
 
     @functools.cached_property
     def there(self):
@@ -107,13 +129,29 @@ class Folders:
         """Returns the two sides of each file that differs, by path, and why others are left out."""
         found = [*self.there.items(), *self.in_right.items(), *paths_below(self.left).items()]
         left_out = {path: reason for path, reason in found if reason}
-        self.pairs = {}
         for path in sorted({path for path, _ in found} - left_out.keys()):
             (old, for_old), (new, for_new) = (files.read(path) for files in (self.left, self.right))
-            if old != new and not self.is_told(path):
+            if self.is_told(path):
+                continue
+            if old != new:
                 self.pairs[path] = old, new
                 self.sources[path] = permissions_of_both(for_old, for_new)
+                left_out.update(self.without_largest(path))
+            elif self.digests is not None:
+                self.digests[path] = digest_of(new)
         return self.pairs, left_out
+
+    def without_largest(self, path):
+        """Counts the bytes of the file at `path`. Leaves out the largest files where all have too many, and returns why, by path."""
+        size, left_out = bytes_in(self.pairs[path]), {}
+        heapq.heappush(self.sizes, (-size, path))
+        self.total += size
+        while self.total > MOST_IN_ALL:
+            size, largest = heapq.heappop(self.sizes)
+            self.total += size
+            del self.pairs[largest]
+            left_out[largest] = TOO_MUCH % format(MOST_IN_ALL, ",")
+        return left_out
 
     def instructions(self):
         """Returns what jj says of the files, or an empty text."""
@@ -127,18 +165,29 @@ class Folders:
             return [(change.path, (change.new.mode, change.new_data), (mode, data)) for change, mode, data in choices]
         wanted = {path: new for path, (_, new) in self.pairs.items()}
         wanted.update((change.path, (mode, data)) for change, mode, data in choices)
-        entries = []
-        for path in sorted({*self.in_right, *self.there, *wanted}):
-            is_left_out = self.in_right.get(path) or self.there.get(path)
-            if not is_left_out and not self.is_told(path):
-                entries += self.entry(path, wanted.get(path))
+        entries, total = [], 0
+        # what was left out, also by LEFT alone, is neither
+        for path in sorted({*self.digests, *wanted}):
+            added = self.entry(path, wanted.get(path))
+            entries += added
+            total += sum(bytes_in(sides) for _, *sides in added)
+            if total > MOST_IN_ALL:
+                raise Stop("%s cannot be written: OUTPUT would be given more than %s bytes" % (shown(path), format(MOST_IN_ALL, ",")))
         return entries
+
+    def folders_for(self, entries):
+        """Returns the permissions that a folder may have which is made for `entries`, by path."""
+        paths = [path for path, old, _ in entries if old[0] == ABSENT]
+        old, new = (files.folders_above(paths) for files in (self.left, self.right))
+        return {path: permissions_of_both(old.get(path), new.get(path)) for path in {**old, **new}}
 
     def entry(self, path, wanted):
         """Returns the entry of a path of OUTPUT, if it is to be changed: to what is `wanted`, or else to what RIGHT has."""
         now = self.target.read(path)[0]
-        if not wanted:
+        if wanted is None:
             wanted, self.sources[path] = self.right.read(path)
+            if digest_of(wanted) != self.digests[path]:
+                raise Stop("%s changed meanwhile" % shown(path))
         return [(path, now, wanted)] if now != wanted else []
 
     def check_fits(self, entries):
@@ -161,9 +210,9 @@ class Folders:
 
 def file_at(path):
     """Returns the mode and the bytes of a file, and its permissions. What is no file has to be the device for none."""
-    if os.path.isfile(path):
+    if os.path.isfile(path) or is_link(path):
         folder, name = os.path.split(os.path.abspath(path))
-        return Files(folder, follows=True).read(name)
+        return Files(folder, follows=not is_link(path)).read(name)
     if os.path.exists(path) and os.path.samefile(path, os.devnull):
         return ABSENT_SIDE, None
     raise Stop("%s is no file" % shown(path))
@@ -176,16 +225,19 @@ class TwoFiles:
     def __init__(self, options, target):
         self.is_of_working_tree = IS_FOR_ONE_FILE and not options.output and not os.path.isabs(options.right)
         ((old_mode, old), for_old), ((new_mode, new), for_new) = file_at(options.left), file_at(options.right)
-        if ABSENT not in (old_mode, new_mode):
+        if {ABSENT, LINK}.isdisjoint((old_mode, new_mode)):
             old_mode = new_mode
         self.pair = (old_mode, old), (new_mode, new)
         self.name = os.path.basename(options.left if new_mode == ABSENT else options.right)
         changed = options.output or options.right
         if not options.output and new_mode == ABSENT and not options.read_only:
             raise Stop("%s is no file to write to: name one by --output, or show the changes by --read-only" % shown(changed))
-        self.target, self.target_name = target, os.path.basename(os.path.realpath(changed))
+        self.target, self.target_name = target, place_of(changed)[1]
         self.sources = {self.target_name: permissions_of_both(for_old, for_new)}
         self.now = target.read(self.target_name)[0]
+        # its path may have led elsewhere when the folder was opened
+        if not options.output and self.now[1] != new:
+            raise Stop("%s changed meanwhile" % shown(changed))
 
     def differing(self):
         return ({} if self.pair[0] == self.pair[1] else {self.name: self.pair}), {}
@@ -196,6 +248,9 @@ class TwoFiles:
     def entries(self, choices):
         wanted = next(((mode, data) for _, mode, data in choices), self.pair[1])
         return [(self.target_name, self.now, wanted)] if self.now != wanted else []
+
+    def folders_for(self, entries):
+        return {}
 
     def check_fits(self, entries):
         pass

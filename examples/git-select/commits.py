@@ -3,6 +3,7 @@ import functools
 import os
 
 from choosing.faults import half_done, step
+from choosing.folders import read_named
 from choosing.git import reason_in
 from choosing.said import say
 from choosing.signals import status_of
@@ -63,14 +64,14 @@ class Commit(Stage):
             return ""
         path = os.path.join(self.repository.top, os.fsdecode(path).removesuffix("\n"))
         try:
-            with open(path, encoding="utf-8", errors="replace") as file:
-                return file.read()
+            text = read_named(path).decode(errors="replace")
+            return text.replace("\r\n", "\n").replace("\r", "\n")
         except OSError as error:
             raise Stop("the file that commit.template names cannot be read: " + words_of(error)) from None
 
     def environment(self):
-        status, editor, _ = self.repository.run("var", "GIT_EDITOR")
-        return {} if status else {"VISUAL": os.fsdecode(editor).strip()}
+        editor = self.repository.editor()
+        return {} if editor is None else {"VISUAL": editor}
 
     def write(self, choices, scratch, accepted, lock):
         """Commits the index with `choices`, which the index then has. What git and the hooks say is noted."""
@@ -135,15 +136,24 @@ class Commit(Stage):
         """Commits what `index` has, and returns git's status. What git and the hooks say is noted. Without a message of the user
         git opens its editor."""
         if not message.strip() or message == self.begun:
-            return self.repository.in_terminal("commit", GIT_INDEX_FILE=index)
+            return self.commit_in_editor(index)
         # as in git's editor, the comments of a template are no part of the message
         return self.commit_with(index, message, "--file=-", *(["--cleanup=strip"] if self.begun else []))
 
     def commit_with(self, index, message, *words):
         given = {"given": message.encode(), "GIT_INDEX_FILE": index}
         status, output, said = self.repository.run("commit", *words, **given)
-        self.notes += ["git: " + line for line in os.fsdecode(output + said).splitlines()]
+        self.note(output + said)
         return status
+
+    def commit_in_editor(self, index, *words):
+        status, said = self.repository.with_editor("commit", *words, GIT_INDEX_FILE=index)
+        self.note(said)
+        return status
+
+    def note(self, said):
+        """Notes what git and the hooks said."""
+        self.notes += ["git: " + line for line in os.fsdecode(said).splitlines()]
 
 
 class Amend(Commit):
@@ -173,7 +183,7 @@ class Amend(Commit):
         if message == self.begun or not message and not self.begun:
             return self.commit_with(index, "", "--amend", "--no-edit")
         if not message.strip():
-            return self.repository.in_terminal("commit", "--amend", GIT_INDEX_FILE=index)
+            return self.commit_in_editor(index, "--amend")
         return self.commit_with(index, message, "--amend", "--file=-")
 
 

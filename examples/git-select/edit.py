@@ -3,7 +3,7 @@ import os
 
 from choosing.change import ABSENT
 from choosing.faults import step
-from choosing.git import reason_in, run_in_terminal
+from choosing.git import run_in_terminal
 from choosing.words import Stop, shown
 from ways import file_of
 
@@ -13,10 +13,10 @@ NAME_BYTES = 200
 
 def editor_of(repository):
     """Returns the command of the user's editor, as git finds it. Stops if there is none."""
-    status, editor, said = repository.run("var", "GIT_EDITOR")
-    if status:
-        raise Stop("there is no editor: " + reason_in(said))
-    return os.fsdecode(editor).removesuffix("\n")
+    editor = repository.editor()
+    if editor is None:
+        raise Stop("git finds no editor: see git var GIT_EDITOR")
+    return editor
 
 
 def is_whole(choice):
@@ -46,7 +46,7 @@ def in_editor(choice, number, command, folder, way):
     with open(os.open(path, os.O_WRONLY | os.O_CREAT | os.O_EXCL, 0o600), "wb") as file:
         file.write(choice.data)
     words = ["sh", "-c", command + ' "$@"', command, path]
-    status = run_in_terminal(words, way.repository.environment, **way.repository.inside(way.repository.top))
+    status, _, _ = run_in_terminal(words, way.repository.environment, **way.repository.inside(way.repository.top))
     if status:
         raise Stop("the editor of %s ended with status %d" % (shown(choice.change.path), status))
     with open(path, "rb") as file:

@@ -11,8 +11,10 @@ from choosing.words import Stop, shown, words_of
 
 IS_LOCKED = "%s is there: another git command is at work, or one was cut off"
 IS_LEFT = "%s was left by a git select that was cut off: git select --undo removes it; see git status and git log then"
-# what the lock has in it as long as it is there
-MARK = b"git select\n"
+IS_COPIED = "%s was left by a git select in another copy of this repository: remove it if no git is at work"
+# what the lock has in it as long as it is there, before its inode: a copy of it has another one
+MARK = b"git select "
+MOST_OF_LOCK = 99  # bytes
 # what is written beside the index, before it has its place
 BESIDE = "git-select-"
 LEFT = re.compile(re.escape(BESIDE) + "[0-9a-f]{16}")
@@ -40,12 +42,17 @@ def state_of(found):
     return found and (*mark_of(found), found.st_size, found.st_mtime_ns)
 
 
+def mark_in(file):
+    """Returns what an open file has in it as the lock."""
+    return b"%s%d\n" % (MARK, os.fstat(file.fileno()).st_ino)
+
+
 def open_left(index):
     """Opens the lock of an index, if it was left by a git select that was cut off. Else returns None."""
     with contextlib.ExitStack() as stack:
         try:
             file = stack.enter_context(open(index.open(lock_name(index), os.O_RDWR), "r+b"))
-            is_left = file.read(len(MARK) + 1) == MARK
+            is_left = file.read(MOST_OF_LOCK) == mark_in(file)
         except OSError:
             return None
         # one that is at work has locked it in this way too
@@ -63,10 +70,24 @@ def is_left_at(index):
     return bool(left)
 
 
+def words_on_copied(index):
+    """Returns what is said of the lock of an index that has the mark of another file, or None if it has none: then the repository
+    was copied while that was its lock."""
+    with contextlib.suppress(OSError), open(index.open(lock_name(index), os.O_RDONLY), "rb") as file:
+        found = file.read(MOST_OF_LOCK)
+        return IS_COPIED % shown(lock_path(index)) if found.startswith(MARK) and found != mark_in(file) else None
+    return None
+
+
+def words_on(index):
+    """Returns what is said of the lock of an index that is there."""
+    return words_on_copied(index) or (IS_LEFT if is_left_at(index) else IS_LOCKED) % shown(lock_path(index))
+
+
 def check_free(index):
     """Stops if the lock of an index is there."""
     if index.found(lock_name(index)):
-        raise Stop((IS_LEFT if is_left_at(index) else IS_LOCKED) % shown(lock_path(index)))
+        raise Stop(words_on(index))
 
 
 class Beside:
@@ -120,14 +141,14 @@ class Lock:
         except FileExistsError:
             file = open_left(self.index) if self.takes_left else None
             if not file:
-                raise Stop(IS_LOCKED % shown(self.path)) from None
+                raise Stop(words_on(self.index)) from None
         self.file, self.mark = file, mark_of(os.fstat(file.fileno()))
 
     def new_lock(self):
         """Makes the lock, with its mark, and returns it open."""
         made = Beside(self.index)
         try:
-            made.file.write(MARK)
+            made.file.write(mark_in(made.file))
             made.file.flush()
             self.give_name(made)
         except BaseException:

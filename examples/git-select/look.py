@@ -6,7 +6,7 @@ import os
 import stat
 
 from choosing.change import LINK, Side, Unread
-from choosing.folders import folder_of
+from choosing.folders import MOST_BYTES, TOO_LARGE, folder_of
 from choosing.git import split_by_zeros
 from choosing.packs import name_of
 from repository import FALSE, NO_FILE
@@ -61,6 +61,8 @@ def read_file(folder, name):
         found = os.fstat(opened)
         if not stat.S_ISREG(found.st_mode):
             raise OSError(0, NO_FILE)
+        if found.st_size > MOST_BYTES:
+            raise OSError(0, TOO_LARGE)
         parts, left = [], found.st_size
         while left and (part := os.read(opened, left)):
             parts.append(part)

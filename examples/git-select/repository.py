@@ -17,12 +17,25 @@ NO_FILE = "it is neither a file nor a link"
 FALSE = "false", "no", "off", "0", ""
 SETTINGS = r"^(core\.(filemode|safecrlf)|status\.showuntrackedfiles)$"
 IS_ANOTHER = "%s is another folder by now"
+# what git says before a path that it passes over
+REFUSED = b"Ignoring path "
 
 
 def index_lines(entries):
     """Returns paths with their sides in the form that `git update-index --index-info` reads."""
     lines = [b"%s %s\t%s\0" % (side.mode.encode(), side.name.encode(), os.fsencode(path)) for path, side in entries]
     return b"".join(lines)
+
+
+def update_index(git, entries, **more):
+    """Has `git` write paths with their sides into an index. A side that is absent takes its path out of it. Stops if git refuses a
+    path: git says that alone, and goes on."""
+    status, _, said = git.run("update-index", "-z", "--index-info", given=index_lines(entries), **more)
+    if status:
+        raise Stop(reason_in(said))
+    refused = [line for line in said.splitlines() if line.startswith(REFUSED)]
+    if refused:
+        raise Stop("git takes no such path: " + shown(refused[0][len(REFUSED) :]))
 
 
 def differing_in(output):
@@ -288,5 +301,5 @@ class Repository(Git):
         return split_by_zeros(self.git("ls-files", "-z"))
 
     def update(self, entries, **more):
-        """Writes paths with their sides into the index. A side that is absent takes its path out of it."""
-        self.git("update-index", "-z", "--index-info", given=index_lines(entries), **more)
+        """Writes paths with their sides into the index (see update_index)."""
+        update_index(self, entries, **more)

@@ -7,7 +7,7 @@ from choosing.change import ABSENT, Side, Unread
 from choosing.git import PACKING, Git, reason_in, split_by_zeros
 from choosing.temporary import new_folder, new_path
 from choosing.words import Stop
-from repository import index_lines
+from repository import index_lines, update_index
 
 # the words by which git stores quickly what need not last
 FOR_NOW = "-c", "core.fsync=none", "-c", "core.compression=0"
@@ -131,6 +131,6 @@ class Scratch(Git):
         """Writes paths with their sides into a new folder below `folder`, as a checkout does. Returns that folder."""
         top = new_folder("made-", folder)
         index = {"GIT_INDEX_FILE": os.path.join(top, "index")}
-        self.git("update-index", "-z", "--index-info", given=index_lines(entries), **index)
+        update_index(self, entries, **index)
         self.git("checkout-index", "--all", "--prefix=%s/files/" % top, **index)
         return os.path.join(top, "files")

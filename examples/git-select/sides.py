@@ -1,5 +1,6 @@
 """Which files differ, each with its two sides: between the index and the working tree, or the last commit and the index."""
 from choosing.change import ABSENT, SUBMODULE, Change, Renamed, Side
+from choosing.paths import fault_in
 from choosing.words import shown
 from look import Look, beyond
 from repository import NO_FILE
@@ -7,11 +8,11 @@ from repository import NO_FILE
 GONE = Side(ABSENT, None)
 
 
-def reason_in_index(modes, letter):
-    """Returns why a file is left out by what the index has of it, or None if it is not."""
+def reason_against(path, modes, letter):
+    """Returns why a file is left out by its path and by what the index or a commit has of it, or None if it is not."""
     if letter == "U":
         return "it is in conflict"
-    return "it is a submodule" if SUBMODULE in modes else None
+    return "it is a submodule" if SUBMODULE in modes else fault_in(path)
 
 
 def candidates(repository, paths, start, has_untracked):
@@ -20,7 +21,7 @@ def candidates(repository, paths, start, has_untracked):
     found, left_out, said = {}, {}, []
     for path, side, mode, letter in repository.tracked(paths, start):
         found[path] = side, mode
-        reason = reason_in_index((side.mode, mode), letter)
+        reason = reason_against(path, (side.mode, mode), letter)
         if side.mode == ABSENT and letter != "U" and not has_untracked:
             reason = "the index has no contents of it"
         # git names a file in conflict twice
@@ -30,8 +31,9 @@ def candidates(repository, paths, start, has_untracked):
         untracked, said = repository.untracked(paths, start)
         for path in untracked:
             found[path] = Side(ABSENT, None), None
-            if path.endswith("/"):
-                left_out[path] = "it is a repository of its own"
+            reason = "it is a repository of its own" if path.endswith("/") else fault_in(path)
+            if reason:
+                left_out[path] = reason
     left_out.update((path, NO_FILE) for path in repository.no_files(paths, start))
     return found, left_out, said
 
@@ -69,7 +71,7 @@ def without_left_out(way, scratch, differing):
     """Returns the sides of files that differ, by path, and notes on what is left out. `differing` has what git says of them."""
     sides, left_out = {}, {}
     for path, old, new, letter in differing:
-        reason = reason_in_index((old.mode, new.mode), letter)
+        reason = reason_against(path, (old.mode, new.mode), letter)
         if reason:
             left_out[path] = reason
         sides[path] = old, new

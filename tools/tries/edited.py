@@ -52,7 +52,7 @@ def in_a_commit_too(place):
 
 
 def an_editor_that_fails(place):
-    """An editor that fails, and a file that it empties, cancel the choice. The marks are kept."""
+    """An editor that fails, and a file that it empties, cancel the choice. Without an editor nothing is shown."""
     ends = []
     for editor, words in (
         ("false", "the editor of a.txt ended with status 1: nothing was staged"),
@@ -67,6 +67,9 @@ def an_editor_that_fails(place):
         ends.append(place.has_left_nothing())
     status, said = place.call("git", "select", "--restore", "--edit", folder=repository.folder)
     ends.append(status == 2 and "the editor is for a choice that goes into the index" in said)
+    repository.git("config", "--unset", "core.editor")
+    without = "env", "-u", "EDITOR", "-u", "VISUAL", "-u", "GIT_EDITOR", "TERM=dumb", "git", "select", "--edit"
+    ends.append(place.call(*without, folder=repository.folder) == (1, "git-select: git finds no editor: see git var GIT_EDITOR\n"))
     return all(ends)
 
 

@@ -11,10 +11,14 @@ import sys
 import time
 
 import changed
+from choosing.change import digest_of
 from choosing.folders import remove_folder
+from choosing.plans import key_of
 from disks import disk
 from faults import ACCEPTS, END_AT, HERE, lock_of, points, select
+from outputs import PATCHED
 from places import Repository
+from settings import write_hook
 
 EDITOR = "gabrosty-diff-editor"
 FAIL_AT = os.path.join(HERE, "fail-at")
@@ -105,18 +109,25 @@ def written(path, lines):
 
 
 def plans_that_do_not_fit(first, second):
-    """Yields the plans that do not fit, made of the lines of one that does. """
-    inode, entries = second
+    """Yields the plans that do not fit, made of the lines of one that does."""
+    inode, entries, folders = second
     for path in REFUSED:
-        yield [first, [inode, [*entries, [path, *entries[0][1:]]]]]
+        yield [first, [inode, [*entries, [path, *entries[0][1:]]], folders]]
+        yield [first, [inode, entries, [[path, 0o700, 0, []]]]]
     path, old, new = entries[0]
     sides = [], ["100644"], ["104755", old[1]], ["100644", old[1][1:]], ["000000", old[1]], [old[1], "100644"], [1, 2], "x", None
     for side in (*sides, ["040000", EMPTY]):
-        yield [first, [inode, [[path, side, new], *entries[1:]]]]
-        yield [first, [inode, [[path, old, side], *entries[1:]]]]
+        yield [first, [inode, [[path, side, new], *entries[1:]], folders]]
+        yield [first, [inode, [[path, old, side], *entries[1:]], folders]]
     lists = [[]], [["a", [], []]], [*entries, entries[0]], {}
-    for line in ([], {}, None, [inode], ["1", entries], [True, entries], *([inode, entries] for entries in lists), "x"):
+    others = [inode], [inode, entries], ["1", entries, folders], [True, entries, folders], *([inode, other, folders] for other in lists)
+    for line in ([], {}, None, *others, "x"):
         yield [first, line]
+    for line in (["a"], ["a", 0o4700, 0, []], ["a", "7", 0, []], ["a", 0o700, "0", []], ["a", 0o700, -1, []], [1, 0o700, 0, []], None):
+        yield [first, [inode, entries, [line]]]
+    name = "system.posix_acl_access"
+    for users in ({}, [["user.x", "00"]], [[name, "0"]], [[name]], [[name, 1]]):
+        yield [first, [inode, entries, [["a", 0o700, 0, users]]]]
     yield from ([[*first[:place], 7, *first[place + 1 :]], second] for place in (0, 2, 3, 4))
     yield from ([[*first[:3], name, first[4]], second] for name in ("..", "a", "../x", ".git"))
     yield from ([line, second] for line in ([], {}, None, [1] * 9))
@@ -142,7 +153,7 @@ def plans_that_are_malformed(place):
     written(plan, lines)
     is_undone = select(repository, "--undo") == (0, "as it was: a\nas it was: b\n") and repository.files() == NEW
     clear(place)
-    return all(ends) and len(ends) > 70 and is_undone and repository.is_sound()
+    return all(ends) and len(ends) > 110 and is_undone and repository.is_sound()
 
 
 def what_is_kept_and_changed(place):
@@ -175,7 +186,7 @@ def a_plan_that_fits_to_nothing(place):
     plan, spare = cut_off(repository)
     os.unlink(lock_of(repository))
     lines, ends = read_lines(plan), []
-    for first, second in (([*lines[0][:4], "0" * 32], lines[1]), (lines[0], [lines[1][0] + 1, lines[1][1]])):
+    for first, second in (([*lines[0][:4], "0" * 32], lines[1]), (lines[0], [lines[1][0] + 1, *lines[1][1:]])):
         written(plan, [first, second])
         ends.append(select(repository, "--undo") == (1, "git-select: there is no restore that was cut off\n"))
     kept = changed.read(spare)
@@ -445,6 +456,20 @@ def a_new_file_for_hg(place):
     return [words % EDITOR in text for text in said] == [False, False, True]
 
 
+def links_that_hg_hands_in(place):
+    """hg hands in two links where one alone has changed in a repository: they are links, and what they lead to is neither shown nor
+    changed, be it a file or a folder."""
+    outside, ends = place.folder("outside", {"a": b"1\n", "b": b"2\n", "c/x": b"1\n", "d/x": b"2\n"}), []
+    before = changed.read(outside)
+    for old, new in (("a", "b"), ("c", "d"), ("a", "none"), ("c", None)):
+        left = place.folder("left", {"s": ("link", os.path.join(outside, old))})
+        right = place.folder("right", {"s": b"3\n" if new is None else ("link", os.path.join(outside, new))})
+        status, said = place.type([EDITOR, left + "/s", right + "/s"], ["c"], HG="/usr/bin/hg")
+        ends.append((status, said) == (0, "") and changed.read(right) == changed.read(left) and changed.read(outside) == before)
+    end = editor(place, "-d", left + "/s", right + "/s", HG="/usr/bin/hg")
+    return all(ends) and end == (1, "%s: %s/s is no folder\n" % (EDITOR, left))
+
+
 def a_folder_on_a_disk_of_its_own(place):
     """What is kept lies in RIGHT there, and is left out by name, while another folder of such a name is not. Skipped where no disk
     can be made."""
@@ -467,10 +492,10 @@ def a_folder_on_a_disk_of_its_own(place):
         return is_named and is_shown and is_undone
 
 
-# as another user renames each spare folder that is made in a folder, and puts a link to `target` in its place
+# as another user renames each folder that is made in a folder, if its name begins so, and puts a link to `target` in its place
 RACES = """
 import os, sys, time
-folder, target, ready, user = sys.argv[1:]
+folder, target, ready, user, begin = sys.argv[1:]
 os.setgroups([])
 os.setgid(int(user))
 os.setuid(int(user))
@@ -478,7 +503,7 @@ open(ready, "w").close()
 end = time.monotonic() + 60
 while time.monotonic() < end:
     for name in os.listdir(folder):
-        if name.startswith(".gabrosty-") and not os.path.islink(os.path.join(folder, name)):
+        if name.startswith(begin) and not os.path.islink(os.path.join(folder, name)):
             try:
                 os.rename(os.path.join(folder, name), os.path.join(folder, "moved" + name))
                 os.symlink(target, os.path.join(folder, name))
@@ -508,7 +533,7 @@ def a_race_by_another_user(place):
     for number, folder in enumerate((shared, right)):
         os.chown(folder, NOBODY, NOBODY)
         ready = os.path.join(shared, "ready-%d" % number)
-        races.append(subprocess.Popen([sys.executable, "-c", RACES, folder, victim, ready, str(NOBODY)]))
+        races.append(subprocess.Popen([sys.executable, "-c", RACES, folder, victim, ready, str(NOBODY), ".gabrosty-"]))
         while not os.path.exists(ready):
             time.sleep(0.01)
     try:
@@ -544,10 +569,225 @@ def marks_that_are_no_text(place):
     return end == (1, "git-select: %s has no marks that were kept\n" % marks)
 
 
+def marks_in_what_is_no_file(place):
+    """Where --marks names a FIFO, a device or a folder, that is said at once."""
+    repository = Repository(place, {"a": b"1\n"}, {"a": b"2\n"})
+    pipe, ends = os.path.join(place.top, "pipe"), []
+    os.mkfifo(pipe)
+    for path in pipe, "/dev/zero", place.top:
+        ends.append(select(repository, "--marks", path) == (1, "git-select: %s: it is no file\n" % path))
+    return all(ends) and repository.index() == repository.index_of() and repository.is_sound()
+
+
+def tree_of(repository, *lines):
+    """Stores a tree by hand, as git itself makes none. Returns its name."""
+    return repository.git("mktree", given="".join(line + "\n" for line in lines).encode()).strip()
+
+
+def paths_that_git_refuses(place):
+    """Paths like git's own, of a commit that was made by hand or of the working tree, are left out by name. A path that git refuses
+    in the end is named too, and nothing is written."""
+    repository, ends = Repository(place, {"a": b"1\n"}, {"a": b"2\n", ".GIT/x": b"x\n", "git~1": b"x\n"}), []
+    before, first = repository.index(), repository.git("rev-parse", "HEAD").strip()
+    hooks = tree_of(repository, "100755 blob %s\tpre-commit" % repository.git("rev-parse", "HEAD:a").strip())
+    top = tree_of(repository, *("040000 tree %s\t%s" % (hooks, name) for name in (".GIT", ".git", "git~1")))
+    repository.git("update-ref", "HEAD", repository.git("commit-tree", "-m", "x", "-p", "HEAD", top).strip())
+    out = "git-select: %s is left out: git or jj keeps it for itself\n"
+    named = "".join(out % (name + "/pre-commit") for name in (".GIT", ".git", "git~1"))
+    status, said = select(repository, "--split")
+    place.forget_marks()
+    ends.append(status == 0 and said.startswith(named + "first: a\nsplit: "))
+    ends.append(select(repository, "--unstage") == (0, named + "unstaged: a\n") and repository.index() == "")
+    repository.git("update-ref", "HEAD", first)
+    repository.git("read-tree", "HEAD")
+    ends.append(select(repository) == (0, out % ".GIT/x" + out % "git~1" + "staged: a\n"))
+    repository.git("read-tree", "HEAD")
+    os.symlink("a", os.path.join(repository.folder, ".gitmodules"))
+    status, said = select(repository)
+    place.forget_marks()
+    ends.append(status == 1 and "git-select: git takes no such path: .gitmodules: nothing was staged\n" in said)
+    return all(ends) and repository.index() == before and place.has_left_nothing()
+
+
+def what_git_says_beside_its_editor(place):
+    """Where git opens its editor, that has the terminal, and what git and its hooks say is printed without control characters. An
+    editor that fails is named as the user has set it."""
+    repository, ends = Repository(place, {"a": b"1\n"}, {"a": b"2\n"}), []
+    for hook in "pre-commit", "post-commit":
+        write_hook(repository, hook, "printf '\\033]0;x\\007\\n'\nprintf '\\033[31m\\n' >&2\n")
+    repository.git("config", "core.editor", "false")
+    status, said = repository.select("--commit", keys=["a", "c"])
+    place.forget_marks()
+    ends.append(status == 1 and "There was a problem with the editor 'false'." in said)
+    repository.git("config", "core.editor", "test -t 0 && test -t 1 && test -t 2 && echo in the terminal && printf 'Sub\\033ject\\n' >")
+    status, words = repository.select("--commit", keys=["a", "c"])
+    ends.append(status == 0 and "in the terminal\n" in words and repository.git("log", "-1", "--format=%s") == "Sub\x1bject\n")
+    lines = "git: \\x1b]0;x\\x07\n", "git: \\x1b[31m\n", "Sub\\x1bject\n"
+    ends.append(all(line in words for line in lines) and {"\x1b", "\x07"}.isdisjoint(said + words))
+    return all(ends) and repository.is_sound()
+
+
+# the diff editor, of which a file and all files together may have few bytes
+FEW = "import compared; compared.MOST_IN_ALL = %d"
+
+
+def edit_patched(place, patch, *words):
+    """Runs the diff editor, of which the statement `patch` changes a part. Returns its status, and all that it wrote."""
+    program, parent = os.path.join(place.prefix, "bin", EDITOR), os.path.join(place.prefix, "lib/gabrosty")
+    environment = {**os.environ, **place.environment, **ACCEPTS, "PARENT": parent}
+    how = {"stdin": subprocess.DEVNULL, "stdout": subprocess.PIPE, "stderr": subprocess.STDOUT, "env": environment}
+    done = subprocess.run([sys.executable, "-I", "-c", PATCHED, program, patch, *words], cwd=place.top, start_new_session=True, **how)
+    return done.returncode, os.fsdecode(done.stdout)
+
+
+def files_that_have_too_much_together(place):
+    """The largest files are left out by name, until the others have no more bytes in all than are taken. If OUTPUT is given more than
+    that, it is said, and nothing is written."""
+    left = place.folder("left", {"a": b"1\n", "b": b"1" * 60, "c": b"1" * 50, "same": b"1" * 500})
+    right = place.folder("right", {"a": b"2\n", "b": b"2" * 60, "d": b"2" * 70, "same": b"1" * 500})
+    output = place.folder("output")
+    out = "%s: %s is left out: it is one of the largest files, and all that differ have more than 120 bytes\n"
+    status, said = edit_patched(place, FEW % 120, "--output", right, right, left)
+    is_named = (status, said) == (0, "".join(out % (EDITOR, name) for name in ("b", "d")))
+    is_written = changed.read(right) == {"a": b"1\n", "b": b"2" * 60, "c": b"1" * 50, "d": b"2" * 70, "same": b"1" * 500}
+    changed.write(right, {"a": b"2\n", "b": b"2" * 60, "same": b"1" * 500})
+    status, said = edit_patched(place, FEW % 300, "--output", output, left, right)
+    words = "%s: same cannot be written: OUTPUT would be given more than 300 bytes: nothing was written\n"
+    return is_named and is_written and (status, said) == (1, words % EDITOR) and changed.read(output) == {}
+
+
+def a_lock_that_was_copied(place):
+    """A lock that was copied with the repository is named, and stays: git select cannot know whether another command has it."""
+    repository = Repository(place, {"a": b"1\n"}, {"a": b"2\n"})
+    points(repository, "lock.py:keep", [], signal.SIGKILL, 1)
+    clear(place)
+    copy = Repository.at(place, os.path.join(place.top, "copy"))
+    shutil.copytree(repository.folder, copy.folder, symlinks=True)
+    words = "git-select: %s was left by a git select in another copy of this repository: remove it if no git is at work\n"
+    ends = [select(copy, *way) for way in ([], ["--undo"], ["--finish"])]
+    is_named = ends == [(1, words % lock_of(copy))] * 3 and os.path.exists(lock_of(copy))
+    os.unlink(lock_of(copy))
+    is_left = select(copy) == (0, "staged: a\n") and select(repository)[0] == 1
+    return is_named and is_left and select(repository, "--undo") == (0, "") and select(repository) == (0, "staged: a\n")
+
+
+def links_where_plans_are_kept(place):
+    """A link, a folder or a loop of links with the name of a plan is no plan, and stops nothing. Where the folder of the plans is one,
+    that is said by each call that needs a plan, and the others go on."""
+    left, right = place.folder("left", {"a": b"1\n"}), place.folder("right", {"a": b"2\n"})
+    repository, ends = Repository(place, {"a": b"1\n"}, {"a": b"2\n"}), []
+    kept = {right: os.path.join(place.state, "gabrosty"), repository.folder: os.path.join(repository.folder, ".git", "gabrosty")}
+    for top, folder in kept.items():
+        os.mkdir(folder, 0o700)
+        names = [os.path.join(folder, "%s-%032x.plan" % (key_of(top), number)) for number in range(3)]
+        os.symlink(names[0], names[0])
+        os.symlink("/etc/passwd", names[1])
+        os.mkdir(names[2])
+    ends.append(place.type([EDITOR, left, right], ["c"]) == (0, "") and changed.read(right) == {"a": b"1\n"})
+    ends.append(select(repository, "--restore")[0] == 0 and repository.files() == {"a": b"1\n"})
+    changed.write(right, {"a": b"2\n"})
+    changed.write(repository.folder, {"a": b"2\n"})
+    for folder in kept.values():
+        shutil.rmtree(folder)
+        os.symlink("gabrosty", folder)
+    words = ": it is a link, and no link is followed here"
+    ends.append(editor(place, left, right)[1].startswith("%s: no plan can be kept in %s%s; " % (EDITOR, kept[right], words)))
+    ends.append(editor(place, left, right, "--dry-run")[0] == 0)
+    said = "git-select: no plan can be kept in %s%s\n" % (kept[repository.folder], words)
+    ends.append(select(repository, "--restore") == (1, said) and select(repository) == (0, "staged: a\n"))
+    return all(ends)
+
+
+def a_file_that_changes_unseen(place):
+    """A file that LEFT and RIGHT have alike is not shown. If it is another one by the time that OUTPUT gets it, that is said, and nothing
+    is written. What only LEFT has left out is left out of OUTPUT too."""
+    left, right = place.folder("left", {"a": b"1\n", "b": b"1\n"}), place.folder("right", {"a": b"2\n", "b": b"1\n", "pipe": b"x\n"})
+    os.mkfifo(os.path.join(left, "pipe"))
+    output, words = place.folder("output"), "%s: b changed meanwhile: nothing was written\n" % EDITOR
+    status, said = editor(place, "--output", output, left, right, MEANWHILE="echo 3 > '%s/b'" % right)
+    is_said = status == 1 and said.endswith(words) and changed.read(output) == {}
+    changed.write_file(os.path.join(right, "b"), b"1\n")
+    status, said = editor(place, "--output", output, left, right)
+    is_out = (status, said) == (0, "%s: pipe is left out: it is neither a file nor a link\n" % EDITOR)
+    return is_said and is_out and changed.read(output) == {"a": b"2\n", "b": b"1\n"}
+
+
+def no_home(place):
+    """Where no folder is the user's own, no plan is looked for in the current one, which may be a stranger's."""
+    left, right = place.folder("left", {"a": b"1\n"}), place.folder("right", {"a": b"2\n"})
+    state = place.folder(".local/state/gabrosty")
+    os.chmod(state, 0o700)
+    ends = [editor(place, "--output", right, right, left, *words, HOME=".", XDG_STATE_HOME="state") for words in ([], ["--undo"])]
+    said = "%s: no plan can be kept in ./.local/state/gabrosty: HOME names no folder; XDG_STATE_HOME names another folder\n" % EDITOR
+    return ends == [(1, said), (1, EDITOR + ": there is no writing that was cut off\n")] and changed.read(right) == {"a": b"2\n"}
+
+
+def a_state_folder_of_a_clone(place):
+    """Where XDG_STATE_HOME is a folder that a repository tracks, no plan in it is followed, though it fits in each part."""
+    left, right = place.folder("left", {"a": b"1\n"}), place.folder("right", {"a": b"2\n"})
+    repository = Repository(place, {"gabrosty/x": b"x\n"}, {"gabrosty/x": b"x\n"}, "clone")
+    token, folder = "0" * 32, os.path.join(repository.folder, "gabrosty")
+    spare = place.folder(".gabrosty-" + token, {"secret": token.encode(), "new-0": b"3\n"})
+    sides = [digest_of(side) for side in (("100644", b"2\n"), ("100644", b"3\n"))]
+    first = [right, os.stat(right).st_ino, "beside", os.path.basename(spare), token]
+    written(os.path.join(folder, "%s-%s.plan" % (key_of(right), token)), [first, [os.stat(spare).st_ino, [["a", *sides]], []]])
+    os.chmod(spare, 0o700)
+    ends = [editor(place, left, right, *words, XDG_STATE_HOME=repository.folder) for words in (["--finish"], [])]
+    named = "%s: no plan can be kept in %s: it is not yours alone, with mode 0700; XDG_STATE_HOME names another folder\n" % (EDITOR, folder)
+    is_refused = ends == [(1, EDITOR + ": there is no writing that was cut off\n"), (1, named)] and changed.read(right) == {"a": b"2\n"}
+    os.chmod(folder, 0o700)
+    # so that all of it fitted
+    is_followed = editor(place, left, right, "--finish", XDG_STATE_HOME=repository.folder)[0] == 0 and changed.read(right) == {"a": b"3\n"}
+    return is_refused and is_followed
+
+
+def a_home_of_another_user(place):
+    """Root, with another user's HOME, makes nothing in it. Skipped without the rights of two users."""
+    if os.geteuid():
+        return "that needs another user"
+    left, right, home = place.folder("left", {"a": b"1\n"}), place.folder("right", {"a": b"2\n"}), place.folder("home")
+    os.chown(home, NOBODY, NOBODY)
+    end = editor(place, "--output", right, right, left, HOME=home, XDG_STATE_HOME="")
+    words = "%s: no plan can be kept in %s/.local/state/gabrosty: it lies in a folder of another user; XDG_STATE_HOME names another folder"
+    return end == (1, words % (EDITOR, home) + "\n") and os.listdir(home) == [] and changed.read(right) == {"a": b"2\n"}
+
+
+def a_race_for_a_new_folder(place):
+    """Another user, who owns RIGHT, puts a link in the place of a folder just when it is made, which is to have the permissions that it
+    had: those of the folder that the link leads to stay. Skipped without the rights of two users."""
+    if os.geteuid():
+        return "that needs another user"
+    victim = place.folder("victim", {"private": b"mine\n"})
+    os.chmod(victim, 0o700)
+    os.chmod(place.top, 0o755)
+    left, shared = place.folder("left", {"d/b": b"1\n"}), place.folder("shared")
+    right = place.folder("shared/right")
+    for folder in shared, right:
+        os.chown(folder, NOBODY, NOBODY)
+    ready = os.path.join(shared, "ready")
+    race = subprocess.Popen([sys.executable, "-c", RACES, right, victim, ready, str(NOBODY), "d"])
+    before = os.stat(victim).st_mode, os.listdir(victim), states_in(victim)
+    try:
+        while not os.path.exists(ready):
+            time.sleep(0.01)
+        for number in range(8):
+            changed.write(right, {})
+            changed.write(left, {"d/e%d/b" % number: b"1\n"})
+            editor(place, "--output", right, right, left)
+    finally:
+        race.kill()
+        race.wait()
+    return before == (os.stat(victim).st_mode, os.listdir(victim), states_in(victim))
+
+
 ALL = (
     a_clone_with_a_plan, a_folder_with_a_plan, plans_that_are_malformed, what_is_kept_and_changed, a_plan_that_fits_to_nothing,
     what_another_user_left, where_no_plan_can_be_kept, bits_that_set_a_user, permissions_of_new_files, what_becomes_a_fifo,
     a_deep_folder, names_of_git_on_other_disks, a_spare_folder_that_stays, a_folder_that_others_write_into, two_files_that_are_cut_off,
-    a_lock_that_is_killed, folders_that_undo_leaves, a_new_file_for_hg, a_folder_on_a_disk_of_its_own,
-    a_race_by_another_user, names_like_ours_beside_the_index, marks_that_are_no_text,
+    a_lock_that_is_killed, folders_that_undo_leaves, a_new_file_for_hg, links_that_hg_hands_in,
+    a_folder_on_a_disk_of_its_own,
+    a_race_by_another_user, names_like_ours_beside_the_index, marks_that_are_no_text, marks_in_what_is_no_file,
+    paths_that_git_refuses, what_git_says_beside_its_editor, files_that_have_too_much_together, a_lock_that_was_copied,
+    links_where_plans_are_kept, a_file_that_changes_unseen, no_home, a_home_of_another_user,
+    a_state_folder_of_a_clone, a_race_for_a_new_folder,
 )

@@ -6,6 +6,7 @@ import changed
 from outputs import select_patched
 from places import Repository
 from settings import configure, write_hook
+from strangers import EDITOR, edit_patched
 
 WORDS = [], ["--unstage"], ["--restore"], ["--stash"], ["--commit", "-m", "x"], ["--amend"], ["--split"]
 
@@ -145,4 +146,51 @@ def a_repository_of_another_user(place):
     return is_refused and is_stopped and repository.index() == before and repository.is_sound()
 
 
-ALL = another_repository_meanwhile, a_folder_behind_the_last_look, a_folder_that_becomes_a_link, a_repository_of_another_user
+# a file becomes too large between the look at it and the reading
+GROWS = """import look
+kept = look.Look.converted
+def grows(self, paths):
+    os.truncate("a", 1 << 40)
+    return kept(self, paths)
+look.Look.converted = grows
+"""
+
+
+def a_file_that_becomes_large(place):
+    """A file that has a terabyte when it is read, and had a few bytes when it was looked at, is left out by name."""
+    repository = Repository(place, {"a": b"1\n", "b": b"1\n"}, {"a": b"2\n", "b": b"2\n"})
+    status, said = select_patched(repository, GROWS)
+    changed.write(repository.folder, {"a": b"1\n", "b": b"2\n"})
+    out = "git-select: a is left out: it has more than 1,000,000,000 bytes\n"
+    return status == 0 and out in said and "staged: b\n" in said and repository.index() == repository.index_of("add", "b")
+
+
+# the link that is named as RIGHT leads to another file for a moment, while its folder is looked for
+ANOTHER = """import compared
+kept = compared.target_of
+def lead(path):
+    os.unlink("link")
+    os.symlink(path, "link")
+def target_of(options):
+    lead("mine/x")
+    target = kept(options)
+    lead("others/x")
+    return target
+compared.target_of = target_of
+"""
+
+
+def a_link_that_leads_elsewhere(place):
+    """Where RIGHT is a link in a folder of another user, and leads elsewhere for a moment, what is shown is what is changed, or nothing."""
+    mine, others = place.folder("mine", {"x": b"mine\n"}), place.folder("others", {"x": b"2\n"})
+    left = os.path.join(place.folder("left", {"x": b"1\n"}), "x")
+    os.symlink("others/x", os.path.join(place.top, "link"))
+    status, said = edit_patched(place, ANOTHER, left, "link")
+    is_said = (status, said) == (1, EDITOR + ": link changed meanwhile\n")
+    return is_said and changed.read(mine) == {"x": b"mine\n"} and changed.read(others) == {"x": b"2\n"}
+
+
+ALL = (
+    another_repository_meanwhile, a_folder_behind_the_last_look, a_folder_that_becomes_a_link, a_repository_of_another_user,
+    a_link_that_leads_elsewhere, a_file_that_becomes_large,
+)
