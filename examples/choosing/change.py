@@ -7,6 +7,8 @@ from .records import record
 from .words import shown
 
 ABSENT, LINK, SUBMODULE = "000000", "120000", "160000"
+# a text of no more bytes has no line that is too long for the front end, which counts a byte that is no UTF-8 as four of 1,000,000
+SURELY_SHOWN = 250_000
 
 # One side of a file: its mode, and the name of git's object with its contents.
 Side = collections.namedtuple("Side", "mode name")
@@ -40,27 +42,33 @@ class Change:
 
     def __init__(self, path, sides, contents):
         self.path, (self.old, self.new) = path, sides
-        self.old_data, self.new_data = (b"" if side.mode == ABSENT else contents[side.name] for side in sides)
+        self.old_data, self.new_data = [b"" if side.mode == ABSENT else contents[side.name] for side in sides]
         files = [data for _, side, data in self.versions() if side.mode not in (ABSENT, LINK)]
-        self.is_unread = any(isinstance(data, Unread) for data in files)
-        self.has_lines = bool(files) and not self.is_unread and not any(b"\0" in data for data in files)
+        self.is_unread = any([isinstance(data, Unread) for data in files])
+        self.has_lines = bool(files) and not self.is_unread and not any([b"\0" in data for data in files])
 
     def versions(self):
         """Returns both sides, each with its word in a record and its bytes."""
         return ("old", self.old, self.old_data), ("new", self.new, self.new_data)
 
+    def is_surely_shown(self):
+        """Whether its lines are shown, without a word for one of its versions."""
+        is_short = len(self.old_data) <= SURELY_SHOWN and len(self.new_data) <= SURELY_SHOWN
+        return self.has_lines and is_short and LINK not in (self.old.mode, self.new.mode)
+
     def records(self):
-        """Yields the records that hand it in. What has no lines, and a link, goes without its bytes: it is one item, or none."""
-        yield record("path", shown(self.path))
+        """Returns the records that hand it in. What has no lines, and a link, goes without its bytes: it is one item, or none."""
+        made, has_words = record("path", shown(self.path)), not self.is_surely_shown()
         for word, side, data in self.versions():
             if side.mode != ABSENT:
-                yield record(word + "-mode", side.mode)
+                made += record(word + "-mode", side.mode)
+            if side.mode != ABSENT and has_words:
                 # the front end tells two versions apart by their words
                 is_first = word == "old" and self.new.mode != ABSENT
-                yield record(word + "-words", named(side, data) if is_first else described(side, data))
+                made += record(word + "-words", named(side, data) if is_first else described(side, data))
             if self.has_lines and side.mode != LINK:
-                yield record(word, data)
-        yield from (record(word, text) for word, text in (("note", self.note), ("marks", self.marks)) if text)
+                made += record(word, data)
+        return made + b"".join(record(word, text) for word, text in (("note", self.note), ("marks", self.marks)) if text)
 
     def chosen(self, side, mode, data):
         """Returns what a choice leaves by `side`, `selected` or `unselected`: a change, with its mode and its bytes."""
@@ -84,8 +92,7 @@ class Renamed(Change):
         return self.has_lines or self.old == self.new
 
     def records(self):
-        yield from super().records()
-        yield record("old-path", shown(self.gone.path))
+        return super().records() + record("old-path", shown(self.gone.path))
 
     def chosen(self, side, mode, data):
         # where the file keeps its old path, the front end gives it another mode than any file has

@@ -1,8 +1,6 @@
 """How a program has the user choose in the front end, and keeps the marks."""
 import os
-import shlex
 import signal
-import tempfile
 
 from .accepted import Accepted
 from .change import ABSENT, Choice
@@ -10,6 +8,7 @@ from .faults import step
 from .git import run_in_terminal
 from .records import record
 from .said import program, say, tell
+from .temporary import new_file
 from .terminal import Kept
 from .words import Stop, shown, words_of
 
@@ -52,12 +51,18 @@ man page of scm-select has their form, and says how to choose colours (SELECT_TH
 
 
 def own_front_end():
+    """Returns the command of scm-select as it is installed with this program, else as the tree builds it."""
     return [INSTALLED if os.path.exists(INSTALLED) else BUILDS]
 
 
 def front_end():
+    asked = os.environ.get("SELECT", "").strip()
+    if not asked:
+        return own_front_end()
+    import shlex
+
     try:
-        return shlex.split(os.environ.get("SELECT", "")) or own_front_end()
+        return shlex.split(asked)
     except ValueError as error:
         raise Stop("SELECT has no such form: %s" % error) from None
 
@@ -66,8 +71,7 @@ def records_of(changes, messages, settings):
     """Yields the records that hand in changes, with the messages of commits and the names of settings."""
     yield from (record("message", message) for message in messages)
     yield from (record(name) for name in settings)
-    for change in changes:
-        yield from change.records()
+    yield from (change.records() for change in changes)
 
 
 def ask(changes, folder, task, messages=(), environment=None, settings=()):
@@ -124,6 +128,8 @@ def choices_in(accepted, side, now):
 
 def keep(accepted, words):
     """Keeps the marks that were accepted in a file, and says where. `words` are the command that takes them up."""
+    import shlex
+
     try:
         kept = write_new(accepted.kept(), words[0] + "-", ".marks")
     except OSError as error:
@@ -134,7 +140,7 @@ def keep(accepted, words):
 
 def write_new(text, prefix, suffix):
     """Writes a text into a new temporary file, and returns its path. If that fails, no file stays."""
-    handle, path = tempfile.mkstemp(prefix=prefix, suffix=suffix)
+    handle, path = new_file(prefix, suffix)
     try:
         with open(handle, "w", encoding="utf-8") as file:
             file.write(text)

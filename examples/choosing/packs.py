@@ -25,8 +25,14 @@ def head_of(size):
     return bytes(head)
 
 
+def compressed(data):
+    """Returns bytes as an object has them. A window that is no longer than they are need not be made ready each time."""
+    packer = zlib.compressobj(1, wbits=min(max(len(data).bit_length(), 9), zlib.MAX_WBITS))
+    return packer.compress(data) + packer.flush()
+
+
 def pack_of(contents, algorithm):
     """Returns a pack with an object for each of `contents`."""
-    objects = [head_of(len(data)) + zlib.compress(data, 1) for data in contents]
+    objects = [head_of(len(data)) + compressed(data) for data in contents]
     pack = b"".join([b"PACK", struct.pack(">LL", 2, len(objects)), *objects])
     return pack + digest(algorithm, pack).digest()

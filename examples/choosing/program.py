@@ -1,43 +1,21 @@
-"""How a program begins and ends: its arguments, its folder for temporary files, signals, and what is said where it fails."""
-import argparse
+"""How a program begins and ends: its folder for temporary files, signals, and what is said where it fails."""
 import contextlib
+import gc
 import os
 import signal
-import sys
-import tempfile
 
 from .faults import reason_of
 from .folders import remove_folder
 from .said import program, say, take_standard_files
 from .signals import SIGNALS, Stopped, ignore, stop_on_signals
-from .words import printable, shown
-
-
-class Arguments(argparse.ArgumentParser):
-    """Reads the arguments of a program. What it says of them has no control character."""
-
-    def __init__(self, name, words, epilogue):
-        layout = argparse.RawDescriptionHelpFormatter
-        super().__init__(name, None, words, epilogue, formatter_class=layout, allow_abbrev=False)
-
-    def error(self, message):
-        super().error(printable(message))
-
-    def _print_message(self, message, file=None):
-        """Prints the help, the version, or what is wrong. Ends with status 1 if that cannot be written."""
-        file = file or sys.stderr
-        try:
-            print(message or "", end="", file=file, flush=True)
-        except OSError as error:
-            os.dup2(os.open(os.devnull, os.O_WRONLY), file.fileno())
-            say("the output cannot be written: %s" % error.strerror)
-            sys.exit(1)
+from .temporary import new_folder
+from .words import shown
 
 
 @contextlib.contextmanager
 def temporary_folder():
     """Gives a folder for temporary files, which is removed in the end. If that fails, it is said, and undoes nothing."""
-    folder = tempfile.mkdtemp(prefix=program() + "-")
+    folder = new_folder(program() + "-")
     try:
         yield folder
     finally:
@@ -51,6 +29,8 @@ def temporary_folder():
 
 def run(work):
     """Calls `work` with a folder for temporary files. Returns the program's status. What fails is said in one line."""
+    # it ends soon, and nearly nothing of what it makes is in a circle
+    gc.disable()
     try:
         take_standard_files()
         stop_on_signals()

@@ -1,6 +1,5 @@
 """The file of an index, in its folder, which stays open: files in it are found whatever the folder's name leads to by then."""
 import os
-import shutil
 import stat
 
 from choosing.folders import IS_PLAIN
@@ -35,6 +34,6 @@ class Index:
             found = os.fstat(opened)
             # what is no file is empty here, and git says what it makes of that
             if stat.S_ISREG(found.st_mode):
-                shutil.copyfileobj(file, copy)
+                copy.write(file.read())
         os.utime(path, ns=(found.st_atime_ns, found.st_mtime_ns))
         return found

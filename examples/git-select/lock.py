@@ -3,8 +3,6 @@ import contextlib
 import errno
 import os
 import re
-import secrets
-import shutil
 import stat
 
 from choosing.locks import lock_open
@@ -96,7 +94,7 @@ class Beside:
     """A new file in the folder of `index`, open as `file`. It gets its place by a second name, or by a rename."""
 
     def __init__(self, index):
-        self.index, self.name = index, BESIDE + secrets.token_hex(8)
+        self.index, self.name = index, BESIDE + os.urandom(8).hex()
         self.file = open(index.open(self.name, os.O_WRONLY | os.O_CREAT | os.O_EXCL), "wb")
         lock_open(self.file.fileno())
 
@@ -197,7 +195,7 @@ class Lock:
         made = Beside(self.index)
         try:
             with made.file, open(self.copy, "rb") as new:
-                shutil.copyfileobj(new, made.file)
+                made.file.write(new.read())
                 self.make_alike(made.file, os.fstat(new.fileno()))
             made.rename(self.index.name)
         finally:

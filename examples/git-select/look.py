@@ -1,6 +1,7 @@
 """What the files of the working tree contain, as `git add` would store it. What git stores as it is is read and named here, and git is
 asked for the rest. The largest files are not read, where all of them together are too much."""
 import collections
+import contextlib
 import os
 import stat
 
@@ -34,17 +35,28 @@ def beyond(sizes, most):
     return paths
 
 
-def read_link(folder, path):
-    """Returns what a link below a folder that is open leads to."""
-    with folder_of(path, folder) as (at, name):
-        return os.fsencode(os.readlink(name, dir_fd=at))
+class Folders(contextlib.ExitStack):
+    """The folders of files below the open folder `top`. No link is followed. The last one stays open, since the next file often lies in it
+    too."""
+
+    def __init__(self, top):
+        super().__init__()
+        self.top, self.above = top, None
+
+    def of(self, path):
+        """Returns the folder that a file lies in, open, and the file's name in it."""
+        above, _, name = path.rpartition("/")
+        if above != self.above:
+            self.close()
+            self.above = None
+            self.at, _ = self.enter_context(folder_of(path, self.top))
+            self.above = above
+        return self.at, name
 
 
-def read_file(folder, path):
-    """Returns the bytes of a file below a folder that is open. What is swapped for a link or a pipe meanwhile, also a folder above it, is
-    not read."""
-    with folder_of(path, folder) as (at, name):
-        opened = os.open(name, os.O_RDONLY | os.O_NOFOLLOW | os.O_NONBLOCK | os.O_CLOEXEC, dir_fd=at)
+def read_file(folder, name):
+    """Returns the bytes of a file in a folder that is open. What is swapped for a link or a pipe meanwhile is not read."""
+    opened = os.open(name, os.O_RDONLY | os.O_NOFOLLOW | os.O_NONBLOCK | os.O_CLOEXEC, dir_fd=folder)
     try:
         found = os.fstat(opened)
         if not stat.S_ISREG(found.st_mode):
@@ -70,9 +82,12 @@ class Look:
         self.left_out, self.stats, self.contents = {}, {}, {}
         for path in modes:
             self.look_at(path)
-        sizes = {path: old_sizes.get(path, 0) for path in (*old_sizes, *modes)}
-        sizes.update((path, sizes[path] + found.st_size) for path, found in self.stats.items() if stat.S_ISREG(found.st_mode))
-        self.unread = beyond(sizes, most) if unread is None else unread & sizes.keys()
+        self.unread = beyond(self.sizes(old_sizes), most) if unread is None else unread & modes.keys()
+
+    def sizes(self, old_sizes):
+        """Returns how many bytes both versions of each file have."""
+        sizes = {path: found.st_size for path, found in self.stats.items() if stat.S_ISREG(found.st_mode)}
+        return {path: sizes.get(path, 0) + old_sizes.get(path, 0) for path in old_sizes.keys() | sizes.keys()}
 
     def look_at(self, path):
         try:
@@ -98,7 +113,8 @@ class Look:
         sides = {path: self.unread_side(path) for path in self.unread & self.stats.keys()}
         paths = [path for path in self.stats if path not in self.unread]
         by_git = self.converted(paths)
-        sides.update((path, self.read(path, by_git)) for path in paths if path not in by_git)
+        with Folders(self.folder) as folders:
+            sides.update((path, self.read(path, by_git, folders)) for path in paths if path not in by_git)
         left_out = self.scratch.add(sorted(by_git))
         sides.update(self.scratch.sides(by_git - left_out.keys()))
         self.left_out.update(left_out)
@@ -112,12 +128,13 @@ class Look:
         parts = split_by_zeros(self.scratch.git(*words, given=given, **AT_ONCE)) if paths else []
         return {path for path, value in zip(parts[0::3], parts[2::3]) if value not in NO_CONVERSION}
 
-    def read(self, path, by_git):
+    def read(self, path, by_git, folders):
         """Returns the side of a file, and keeps its contents. Adds its path to `by_git` if git is to store it, or says why it is left
         out; then it has no side."""
         is_link = stat.S_ISLNK(self.stats[path].st_mode)
         try:
-            data = read_link(self.folder, path) if is_link else read_file(self.folder, path)
+            folder, name = folders.of(path)
+            data = os.fsencode(os.readlink(name, dir_fd=folder)) if is_link else read_file(folder, name)
         except OSError as error:
             self.left_out[path] = error.strerror
             return None

@@ -1,7 +1,9 @@
 """The options of git-select, in one table. The help is made of it, and tools/make-options makes of it the list of the man page and what
 shells complete."""
 import collections
+import types
 
+from choosing.words import version_of
 from commits import Amend, Commit, Fixup, Split
 from restore import Restore
 from stash import Stash
@@ -15,8 +17,11 @@ Option = collections.namedtuple("Option", "names value help page way values take
 FINISH, UNDO = "finish", "undo"
 # how files that git does not know are shown; no folder of them is one item, so two words mean the same
 UNTRACKED = "all", "normal", "no"
-# those that take a message
+# those that take a message, and those whose choice can be edited: it goes into the index
 TOLD, TOLD_WORDS = (Commit, Amend, Split, Stash), "--commit, --amend, --split and --stash"
+EDITED = Stage, Unstage, Commit, Amend, Fixup
+# what can follow a choice, each of it a choice of what is left
+THEN = {"stage": Stage, "restore": Restore, "stash": Stash, "commit": Commit}
 OPTIONS = (
     Option(
         ["--unstage"], None, "take chosen changes out of the index",
@@ -68,6 +73,24 @@ OPTIONS = (
         "The message to begin with, for `--commit`, `--amend`, `--split` (of the first commit) and `--stash`.",
     ),
     Option(
+        ["--only"], "PATH", "show only what this path or pathspec names; can be given again", "Shows only what *PATH* names, which is a "
+        "pathspec of git (gitglossary). It can be given again, and is the same as *PATH* without an option. What is staged goes into a "
+        "commit all the same.", None, "files", {"action": "append", "default": []},
+    ),
+    Option(
+        ["--edit"], None, "open what is chosen of a file in the editor before it is put in place",
+        "Opens what is marked of a file in git's editor, before it goes into the index or into a commit: the whole file, as it is to be "
+        "there. What you write is taken byte for byte. A file of which all or nothing is marked is not opened. If the editor fails, or "
+        "leaves an empty file, nothing is changed. It is for no option that writes the working tree, and not for `--split`.",
+        None, None, {"action": "store_true"},
+    ),
+    Option(
+        ["--then"], "WAY", "choose once more when that is done, of what is left: to %s it" % ", ".join(THEN),
+        "Opens the screen once more when all that was marked is done, over what is left: for `stage`, `restore`, `stash` or `commit`. "
+        "So `git select --then=restore` stages some lines and takes others back. If the first choice is given up or refused, the second "
+        "one is not asked for.", None, None, {"choices": tuple(THEN)},
+    ),
+    Option(
         ["--untracked-files"], "MODE", "show files that git does not know (all, normal), or not (no); -uMODE for short, and -u for all",
         "Shows files that git does not know: each of them (`all`, and `normal`, which is the same here), or none (`no`). `-u`*MODE* is "
         "short for it, and *MODE* is `all` if it is missing. Without it `status.showUntrackedFiles` says that.", None, None,
@@ -94,6 +117,29 @@ OPTIONS = (
 )
 
 
+def options_of(words, about, epilogue):
+    """Returns the options and paths among `words`, and prints the help if it is asked for there. `about` and `epilogue` are parts of it."""
+    from choosing.arguments import Arguments
+
+    reader = Arguments("git-select", about, epilogue)
+    add_options(reader, version_of("git-select"))
+    return read_options(reader, words)
+
+
+def without_words():
+    """Returns the same without words."""
+    read = (option for option in OPTIONS if not option.way or option.value)
+    names = (option.taken.get("dest") or option.names[-1].strip("-").replace("-", "_") for option in read)
+    return types.SimpleNamespace(**{**dict.fromkeys(names), "way": Stage, "paths": []})
+
+
+def following(options):
+    """Returns the options of the choice that follows."""
+    way = THEN[options.then]
+    more = {"way": way, "message": None, "marks": None, "then": None, "edit": options.edit and way in EDITED}
+    return types.SimpleNamespace(**{**vars(options), **more})
+
+
 def add_options(reader, version):
     """Has `reader` read the options, and paths."""
     ways = reader.add_mutually_exclusive_group()
@@ -113,12 +159,14 @@ def read_options(reader, words):
     """Returns the options and paths among `words`. What follows `--` is paths. Ends the program if they do not fit one another."""
     end = words.index("--") if "--" in words else len(words)
     options = reader.parse_intermixed_args([spelled(word) for word in words[:end]])
-    options.paths += words[end + 1 :]
+    options.paths += [*options.only, *words[end + 1 :]]
     if options.fixup is not None:
         options.way = Fixup
     if options.message is not None and options.way not in TOLD:
         reader.error("a message is for " + TOLD_WORDS)
-    if options.way in (FINISH, UNDO) and (options.paths or options.marks):
+    if options.edit and options.way not in (*EDITED, FINISH, UNDO):
+        reader.error("the editor is for a choice that goes into the index")
+    if options.way in (FINISH, UNDO) and (options.paths or options.marks or options.edit or options.then):
         reader.error("--%s takes nothing else" % options.way)
     if not is_text(options.message or ""):
         reader.error("the message is not UTF-8")

@@ -105,9 +105,14 @@ class Repository(Git):
         return by_number if os.path.isdir(by_number) else path
 
     def is_found(self):
-        """Whether git finds the repository in its top folder, without variables that name it."""
-        is_named = not {"GIT_DIR", "GIT_WORK_TREE"}.isdisjoint(self.environment)
-        return not is_named and os.fsdecode(self.run("rev-parse", "--absolute-git-dir")[1]) == self.own + "\n"
+        """Whether git finds the repository in its top folder, without variables that name it. Then git says how objects are named, too."""
+        if not {"GIT_DIR", "GIT_WORK_TREE"}.isdisjoint(self.environment):
+            return False
+        found = os.fsdecode(self.run("rev-parse", "--absolute-git-dir", "--show-object-format")[1])
+        own, _, algorithm = found.removesuffix("\n").rpartition("\n")
+        if own == self.own:
+            self.algorithm = algorithm
+        return own == self.own
 
     def check_same(self):
         """Stops if git finds another repository by now, or does not trust the owner of this one."""

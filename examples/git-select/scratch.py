@@ -2,10 +2,10 @@
 import functools
 import os
 import re
-import tempfile
 
 from choosing.change import ABSENT, Side, Unread
 from choosing.git import PACKING, Git, reason_in, split_by_zeros
+from choosing.temporary import new_folder, new_path
 from choosing.words import Stop
 from repository import index_lines, update_index
 
@@ -67,6 +67,8 @@ class Scratch(Git):
     def sides(self, paths):
         """Returns the sides in this index of those of `paths` that it has, by path."""
         wanted = set(paths)
+        if not wanted:
+            return {}
         lines = (line.partition("\t") for line in split_by_zeros(self.git("ls-files", "-z", "--stage")))
         return {path: Side(*head.split()[:2]) for head, _, path in lines if path in wanted}
 
@@ -94,10 +96,9 @@ class Scratch(Git):
 
     def tree(self, entries):
         """Stores a tree of paths with their sides. Returns its name."""
-        with tempfile.TemporaryDirectory(dir=self.folder) as folder:
-            index = {"GIT_INDEX_FILE": os.path.join(folder, "index")}
-            self.git("update-index", "-z", "--index-info", given=index_lines(entries), **index)
-            return self.git("write-tree", "--missing-ok", **index).decode().strip()
+        index = {"GIT_INDEX_FILE": new_path("tree-", folder=self.folder)}
+        self.git("update-index", "-z", "--index-info", given=index_lines(entries), **index)
+        return self.git("write-tree", "--missing-ok", **index).decode().strip()
 
     def sizes(self, names):
         """Returns how many bytes objects have, by name."""
@@ -128,7 +129,7 @@ class Scratch(Git):
 
     def checked_out(self, entries, folder):
         """Writes paths with their sides into a new folder below `folder`, as a checkout does. Returns that folder."""
-        top = tempfile.mkdtemp(dir=folder)
+        top = new_folder("made-", folder)
         index = {"GIT_INDEX_FILE": os.path.join(top, "index")}
         update_index(self, entries, **index)
         self.git("checkout-index", "--all", "--prefix=%s/files/" % top, **index)

@@ -44,8 +44,9 @@ def changed_in_tree(way, scratch, only=None, is_new_shown=True):
     has_untracked = is_new_shown and way.shows_untracked()
     found, left_out, notes = candidates(way.repository, way.options.paths, way.start, has_untracked)
     found = {path: found[path] for path in sorted(found.keys() - left_out.keys()) if only is None or path in only}
-    sizes = scratch.sizes(side.name for side, _ in found.values() if side.name)
-    old_sizes = {path: sizes.get(side.name, 0) for path, (side, _) in found.items() if side.name}
+    # what is not read is found out once
+    sizes = scratch.sizes(side.name for side, _ in found.values() if side.name) if way.unread is None else {}
+    old_sizes = {path: sizes[side.name] for path, (side, _) in found.items() if side.name in sizes}
     modes = {path: mode for path, (_, mode) in found.items() if mode != ABSENT}
     new = Look(scratch, modes, old_sizes, way.unread, way.most_read()).found()
     left_out.update(new.left_out)

@@ -1,8 +1,6 @@
 """What git-select does with a choice in the working tree: stashes it."""
 import contextlib
 import os
-import shlex
-import shutil
 
 from choosing.change import ABSENT, LINK
 from choosing.files import Files
@@ -34,6 +32,8 @@ class Trial(Git):
     options = "-c", "core.fsmonitor=false", "-c", "core.splitIndex=false"
 
     def __init__(self, repository, scratch, index, folder, entries):
+        import shutil
+
         top, own = (os.path.join(folder, name) for name in ("files", "own"))
         write_out(top, entries)
         os.makedirs(own)
@@ -104,6 +104,8 @@ class Stash(Restore):
 
     def applying(self, stash):
         """Returns the command that applies the lines of a stash. `git apply` passes over files outside of the user's folder."""
+        import shlex
+
         above = os.path.relpath(self.repository.top)
         where = "" if above == os.curdir else "-C %s " % printable(shlex.quote(above))
         return "git stash show -p --binary %s | git %sapply" % (stash[:10], where)

@@ -108,6 +108,11 @@ class Way:
             stored = iter(self.repository.store(missing))
         return [(choice.change.path, Side(choice.mode, name or next(stored))) for choice, name in zip(choices, names)]
 
+    def is_now(self, choice):
+        """Whether all is already as a choice has it."""
+        now = getattr(choice.change, self.now)
+        return (choice.mode, choice.data) == (now.mode, getattr(choice.change, self.now + "_data"))
+
     def name_of(self, choice):
         """Returns the name of the object that has the bytes of a choice, if a version has them that the repository has."""
         change = choice.change

@@ -154,7 +154,7 @@ def each_message(place):
     """Each message of the sources, with a text that a terminal would obey in each of its places, is said without that. One file alone
     writes what is said, so no message goes another way."""
     writers = {
-        ("choosing/said.py", "tell"), ("choosing/waiting.py", "write"), ("choosing/program.py", "_print_message"),
+        ("choosing/said.py", "tell"), ("choosing/waiting.py", "write"), ("choosing/arguments.py", "_print_message"),
     }
     found = messages(place)
     top = os.path.join(place.prefix, "lib/gabrosty")
@@ -325,7 +325,19 @@ def what_shells_complete(place):
     return is_there and len(options) > 10 and not os.path.exists(os.path.join(repository.folder, "ran"))
 
 
+def what_is_loaded(place):
+    """Without words nothing is loaded that reads them, or that takes long to load. Git is asked each thing once until the first screen."""
+    repository = Repository(place, {"a": b"1\n"}, {"a": b"2\n"})
+    log, program = os.path.join(place.top, "log"), os.path.join(place.prefix, "bin/git-select")
+    command = ["env", "SELECT=false", "GIT_TRACE=" + log, sys.executable, "-IS", "-X", "importtime", program]
+    said = place.call(*command, folder=repository.folder)[1]
+    loaded = {line.rpartition("|")[2].strip() for line in said.splitlines() if line.startswith("import time:")}
+    asked = re.findall("built-in: (.*)", changed.read_file(log).decode())
+    is_quick = loaded.isdisjoint({"argparse", "json", "random", "secrets", "shutil", "tempfile"}) and "subprocess" in loaded
+    return is_quick and 5 < len(asked) <= 8 and len(set(asked)) == len(asked)
+
+
 ALL = (
     a_module_of_the_clone, standard_files_that_are_closed, a_help_that_cannot_be_written, each_message, hostile_names,
-    a_front_end_that_is_killed, marks_of_another_length, the_message_at_the_start, what_shells_complete,
+    a_front_end_that_is_killed, marks_of_another_length, the_message_at_the_start, what_shells_complete, what_is_loaded,
 )

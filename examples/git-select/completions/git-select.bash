@@ -5,9 +5,11 @@ _git_select() {
     case ${COMP_WORDS[COMP_CWORD - 1]} in
     --fixup) words=$(git log -20 --format=%h 2> /dev/null) ;;
     -m|--message) ;;
+    --only) ;;
+    --then) ;;
     --untracked-files) ;;
     --marks) ;;
-    *) case $word in -*) words="--unstage --restore --stash --commit --amend --fixup --split --finish --undo -m --message --untracked-files --no-untracked --read-all -v --verbose --marks --version -h --help" ;; esac ;;
+    *) case $word in -*) words="--unstage --restore --stash --commit --amend --fixup --split --finish --undo -m --message --only --edit --then --untracked-files --no-untracked --read-all -v --verbose --marks --version -h --help" ;; esac ;;
     esac
     # without words, files are completed
     COMPREPLY=()

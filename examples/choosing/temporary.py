@@ -1,0 +1,31 @@
+"""Temporary files and folders, as the module tempfile makes them: to load that takes longer than all of git's answers."""
+import functools
+import os
+
+VARIABLES, PLACES = ("TMPDIR", "TEMP", "TMP"), ("/tmp", "/var/tmp", "/usr/tmp", os.curdir)
+
+
+@functools.lru_cache(maxsize=None)
+def place():
+    """Returns the folder for temporary files: the first one that can be written to."""
+    places = [*filter(None, map(os.environ.get, VARIABLES)), *PLACES]
+    usable = (it for it in places if os.path.isdir(it) and os.access(it, os.W_OK | os.X_OK))
+    return os.path.abspath(next(usable, PLACES[0]))
+
+
+def new_path(prefix, suffix="", folder=None):
+    """Returns a path in `folder`, or in the folder for temporary files, that nobody can foresee."""
+    return os.path.join(folder or place(), prefix + os.urandom(8).hex() + suffix)
+
+
+def new_folder(prefix, folder=None):
+    """Makes a folder for this user alone. Returns its path."""
+    path = new_path(prefix, folder=folder)
+    os.mkdir(path, 0o700)
+    return path
+
+
+def new_file(prefix, suffix):
+    """Makes a file for this user alone. Returns it open, and its path."""
+    path = new_path(prefix, suffix)
+    return os.open(path, os.O_RDWR | os.O_CREAT | os.O_EXCL | os.O_NOFOLLOW | os.O_CLOEXEC, 0o600), path
