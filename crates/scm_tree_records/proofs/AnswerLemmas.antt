@@ -33,3 +33,19 @@ no_refusals rows = refl
 pub refusals_more : (rows : List Row) (refused : List (Option Refusal)) (i : ℕ) (d : Option Refusal) → i < length refused → refusals_answer rows (take (i + 1) refused) ≡ refusals_answer rows (take i refused) ++ refusal_answer rows (get_or refused i d)
 refusals_more rows refused i d h =
     ap (λ (os : List (Option Refusal)). refusals_answer rows os) (take_more refused i d h) ∙ refusals_push rows (take i refused) (get_or refused i d)
+
+-- what a step adds is what the answer of one element more adds
+step : (start before after one all more : List ℕ) → before ≡ start ++ all → after ≡ before ++ one → more ≡ all ++ one → after ≡ start ++ more
+step start before after one all more begun added grown =
+    added ∙ ap (λ (ys : List ℕ). ys ++ one) begun ∙ append_assoc start all one ∙ ap (λ (ys : List ℕ). start ++ ys) (sym grown)
+
+pub nothing_added : (start part : List ℕ) → part ≡ [] → start ≡ start ++ part
+nothing_added start part h = sym (ap (λ (ys : List ℕ). start ++ ys) h ∙ append-nil start)
+
+pub rows_added : (count : ℕ) (refused : List (Option Refusal)) (rows : List Row) (i : ℕ) (d : Row) (start before after : List ℕ) → i < length rows → before ≡ start ++ rows_answer count refused (take i rows) → after ≡ before ++ row_answer count refused (get_or rows i d) → after ≡ start ++ rows_answer count refused (take (i + 1) rows)
+rows_added count refused rows i d start before after h begun added =
+    step start before after (row_answer count refused (get_or rows i d)) (rows_answer count refused (take i rows)) (rows_answer count refused (take (i + 1) rows)) begun added (rows_more count refused rows i d h)
+
+pub refusals_added : (rows : List Row) (refused : List (Option Refusal)) (i : ℕ) (d : Option Refusal) (start before after : List ℕ) → i < length refused → before ≡ start ++ refusals_answer rows (take i refused) → after ≡ before ++ refusal_answer rows (get_or refused i d) → after ≡ start ++ refusals_answer rows (take (i + 1) refused)
+refusals_added rows refused i d start before after h begun added =
+    step start before after (refusal_answer rows (get_or refused i d)) (refusals_answer rows (take i refused)) (refusals_answer rows (take (i + 1) refused)) begun added (refusals_more rows refused i d h)

@@ -20,6 +20,7 @@ pub(crate) struct Asked<'a> {
 }
 
 /// Why bytes are no records.
+#[derive(Clone, Copy, Debug)]
 pub(crate) enum ReadError<'a> {
     /// These bytes are no record, or the second one of a file without a first one.
     NoRecord(&'a [u8]),

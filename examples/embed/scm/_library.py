@@ -126,7 +126,7 @@ def decide(rows: bytes) -> bytes:
 
 def path_fault(path: bytes) -> str:
     """Returns the name of what is wrong with a path, one of `PATH_FAULTS`, or nothing if it names a file below the top folder."""
-    return PATH_FAULTS[library.scm_path_fault(path, len(path))]
+    return PATH_FAULTS[int(library.scm_path_fault(path, len(path)))]
 
 
 class Error(Exception):
