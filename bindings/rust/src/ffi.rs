@@ -1,4 +1,4 @@
-//! The library for C, as its header `scm.h` declares it. Only `session.rs` calls it.
+//! The library for C, as its header `scm.h` declares it. Only `session.rs` and `trees.rs` call it.
 use std::os::raw::{c_char, c_int, c_void};
 
 /// Stands for no file in a mode, and for nothing in a key.
@@ -99,6 +99,8 @@ extern "C" {
     pub fn scm_line(session: Asked, key: *const Key, out: Room, length: usize, written: *mut usize) -> u32;
     pub fn scm_message(session: Asked, commit: usize, out: Room, length: usize, written: *mut usize) -> u32;
     pub fn scm_run(session: Session, terminal: c_int, title: Bytes) -> c_int;
+    pub fn scm_decide_rows(rows: Bytes, length: usize, out: Room, room: usize, written: *mut usize) -> u32;
+    pub fn scm_path_fault(path: Bytes, length: usize) -> u32;
     pub fn scm_words(code: u32, out: Room, length: usize) -> usize;
     pub fn scm_version() -> u32;
     pub fn scm_free(session: Session);

@@ -71,6 +71,7 @@ mod typed;
 pub mod consts;
 pub mod helpers;
 pub mod session;
+pub mod trees;
 
 pub use error::RecordError;
 pub use event::Event;

@@ -322,7 +322,7 @@ fn done(code: u32) -> Result<(), Error> {
 }
 
 /// Returns a pointer to the bytes of `text`, or to a byte if it has none; and how many they are.
-fn sized(text: &(impl AsRef<[u8]> + ?Sized)) -> (*const c_char, usize) {
+pub(crate) fn sized(text: &(impl AsRef<[u8]> + ?Sized)) -> (*const c_char, usize) {
     static BYTE: u8 = 0;
     let bytes = text.as_ref();
     let start = if bytes.is_empty() {
@@ -361,7 +361,7 @@ const PAINT_ROOM: usize = 1 << 18;
 
 /// Returns the bytes that `call` writes to the room that it gets, of the length that it gets: of `room` bytes at first. It returns
 /// its code, and writes how many bytes there are. If that is more than the room, `call` is made again.
-fn bytes_of(
+pub(crate) fn bytes_of(
     room: usize,
     mut call: impl FnMut(*mut c_char, usize, &mut usize) -> u32,
 ) -> Result<Vec<u8>, Error> {
