@@ -1,11 +1,11 @@
 //! Calls without a session: what becomes of paths, and which paths are refused.
-ghost use Rattle.std.specs.Prelude.{◌≡◌};
+ghost use Rattle.std.specs.Prelude.{◌≡◌, ◌<◌, true};
+ghost use Rattle.scm_c_values.specs.Codes.{IsCode};
 ghost use Rattle.scm_paths.specs.Names.{fault_of};
+ghost use Rattle.scm_tree_records.specs.Answers.{TellsAnswer};
 ghost use Rattle.scm_tree_records.specs.Faults.{fault_number};
 
-use scm_c_values::buffers::write_text;
-use scm_c_values::codes::{DONE, NO_MEMORY};
-use scm_tree_records::{decide_records, path_fault_number};
+use scm_tree_records::{decide_rows, path_fault_number};
 use std::alloc::Global;
 
 /// Writes to `out` the records of what becomes of the paths that the records `rows` have, clipped to the length of `out`,
@@ -16,14 +16,12 @@ pub extern "C" fn scm_decide_rows(
     rows: &[u8],
     out: &mut [u8],
     written: &mut usize,
-) -> u32 {
-    match decide_records(alloc, rows) {
-        Ok(answer) => {
-            *written = write_text(answer.as_slice(), out);
-            DONE
-        }
-        Err(_) => NO_MEMORY,
-    }
+) -> u32
+    ensures code { IsCode true 0 result }
+    ensures answer { result ≡ 0 → TellsAnswer out.old out.new written.new }
+    ensures unwritten { 0 < result → (out.new ≡ out.old) × (written.new ≡ written.old) }
+{
+    decide_rows(alloc, rows, out, written)
 }
 
 /// Returns the number of what is wrong with the first name of `path` with which something is, or 0 if the path names a file

@@ -1,11 +1,16 @@
 -- What becomes of paths, as records of bytes.
-use Rattle.std.specs.Prelude.{◌≡◌, ℕ, ◌==◌, nat_lt, List, [], ◌∷◌, ◌++◌, Bool, Option, Some, None, slice_get, if◌then◌else◌}
+use Rattle.std.specs.Prelude.{◌≡◌, ℕ, ◌==◌, nat_lt, List, [], ◌∷◌, ◌++◌, Bool, true, ◌||◌, length, Option, Some, None, slice_get, if◌then◌else◌}
+use Rattle.scm_c_values.specs.Buffers.{over}
 use Rattle.scm_tree.specs.declared.row.Version.{Version}
 use Rattle.scm_tree.specs.declared.row.Row.{Row}
 use Rattle.scm_tree.specs.declared.scan.Refusal.{Refusal}
 use Rattle.scm_tree.specs.Rows.{chosen}
 use Rattle.scm_tree.specs.Refusals.{is_refused}
+use Rattle.scm_decide.specs.declared.place.Entry.{Entry}
+use Rattle.scm_decide.specs.declared.place.Mark.{Mark}
+use Rattle.scm_decide.specs.declared.decision.Moved.{Moved}
 use Rattle.scm_decide.specs.declared.decision.Decision.{Decision}
+use Rattle.scm_decide.specs.Decisions.{IsDecision}
 
 -- whether the byte is a NUL
 abbrev pub is_nul : ℕ → Bool
@@ -48,3 +53,20 @@ refusals_answer rows (o ∷ refused) = refusal_answer rows o ++ refusals_answer 
 -- what is decided of `count` shown files
 abbrev pub answer_of : ℕ → Decision → List ℕ
 answer_of count d = rows_answer count d.refused.items d.rows.items ++ refusals_answer d.rows.items d.refused.items
+
+-- the letters of what is wrong: a path twice, an unknown one, a path that is refused, two trees that are none, a file that is not
+-- renamed, and what is no record
+abbrev pub is_fault_letter : ℕ → Bool
+is_fault_letter l = l == 50 || l == 63 || l == 33 || l == 47 || l == 43 || l == 35
+
+-- The answer is what is decided of two trees and of the marks of some shown files, or the one record that says why nothing is.
+pub data IsAnswer (answer : List ℕ) : Type 0 where
+  decided : (count : ℕ) (old new : List Entry) (marks : List Mark) (moved : List Moved) (d : Decision) → IsDecision count old new marks moved d → answer ≡ answer_of count d → IsAnswer answer
+  fault : (letter : ℕ) (path : List ℕ) → is_fault_letter letter ≡ true → answer ≡ record_bytes letter path → IsAnswer answer
+
+-- The answer is written over the buffer, clipped to the buffer's length, and its whole length is told.
+pub record TellsAnswer (old new : List ℕ) (told : ℕ) : Type 0 where
+  pub answer : List ℕ
+  pub is : IsAnswer answer
+  pub long : told ≡ length answer
+  pub written : new ≡ over answer old

@@ -1,6 +1,6 @@
 //! What becomes of paths, as records.
-ghost use Rattle.std.specs.Prelude.{◌≡◌, ◌++◌, IfOk, OnOk};
-ghost use Rattle.scm_tree_records.specs.Answers.{answer_of, letter_of, path_or, record_bytes, refusal_answer, refusals_answer, row_answer, rows_answer};
+ghost use Rattle.std.specs.Prelude.{◌≡◌, ◌++◌, IfOk, IfSome, OnOk, true};
+ghost use Rattle.scm_tree_records.specs.Answers.{IsAnswer, answer_of, is_fault_letter, letter_of, path_or, record_bytes, refusal_answer, refusals_answer, row_answer, rows_answer};
 
 use crate::asked::{Asked, ReadError, read_records};
 use scm_decide::{DecideError, Decision, decide};
@@ -133,27 +133,27 @@ fn fault_of(alloc: Global, letter: u8, path: &[u8]) -> Result<Vec<u8>, AllocErro
     Ok(answer)
 }
 
-/// Returns the record of a fault, or fails if an allocation failed.
-fn answer_of_error(
-    alloc: Global,
-    asked: &Asked<'_>,
-    error: DecideError<'_>,
-) -> Result<Vec<u8>, AllocError> {
+/// Returns the letter and the path of the record that says of `error` what is wrong, or `None` if an allocation failed.
+fn fault_parts<'a>(asked: &Asked<'a>, error: DecideError<'a>) -> Option<(u8, &'a [u8])>
+    ensures { IfSome result (λ parts. is_fault_letter parts.0 ≡ true) }
+{
     match error {
-        DecideError::Twice(path) => fault_of(alloc, b'2', path),
-        DecideError::Unknown(path) => fault_of(alloc, b'?', path),
-        DecideError::Path(path, _) => fault_of(alloc, b'!', path),
-        DecideError::Rows(_) => fault_of(alloc, b'/', b""),
+        DecideError::Twice(path) => Some((b'2', path)),
+        DecideError::Unknown(path) => Some((b'?', path)),
+        DecideError::Path(path, _) => Some((b'!', path)),
+        DecideError::Rows(_) => Some((b'/', b"")),
         DecideError::Rename(i) => match asked.moved.get(i) {
-            None => fault_of(alloc, b'+', b""),
-            Some(moved) => fault_of(alloc, b'+', moved.new),
+            None => Some((b'+', b"")),
+            Some(moved) => Some((b'+', moved.new)),
         },
-        DecideError::OutOfMemory => Err(AllocError),
+        DecideError::OutOfMemory => None,
     }
 }
 
 /// Decides what becomes of the paths that records have.
-fn decide_asked(alloc: Global, asked: &Asked<'_>) -> Result<Vec<u8>, AllocError> {
+fn decide_asked(alloc: Global, asked: &Asked<'_>) -> Result<Vec<u8>, AllocError>
+    ensures { IfOk result (λ answer. IsAnswer answer.items) }
+{
     let decided = decide(
         alloc,
         asked.old.as_slice(),
@@ -163,9 +163,26 @@ fn decide_asked(alloc: Global, asked: &Asked<'_>) -> Result<Vec<u8>, AllocError>
         asked.count,
     );
     match decided {
-        Ok(decision) => answer_of(alloc, &decision, asked.count),
-        Err(error) => answer_of_error(alloc, asked, error),
+        Ok(decision) => {
+            let answer = answer_of(alloc, &decision, asked.count)?;
+            Ok(answer)
+        }
+        Err(error) => {
+            let Some((letter, path)) = fault_parts(asked, error) else {
+                return Err(AllocError);
+            };
+            let answer = fault_of(alloc, letter, path)?;
+            Ok(answer)
+        }
     }
+}
+
+/// Returns the one record that says that `record` is none.
+fn no_record(alloc: Global, record: &[u8]) -> Result<Vec<u8>, AllocError>
+    ensures { IfOk result (λ answer. IsAnswer answer.items) }
+{
+    let answer = fault_of(alloc, b'#', record)?;
+    Ok(answer)
 }
 
 /// Returns the records of what becomes of the paths that the records `bytes` have, or the one record that says why
@@ -173,10 +190,12 @@ fn decide_asked(alloc: Global, asked: &Asked<'_>) -> Result<Vec<u8>, AllocError>
 ///
 /// # Errors
 /// `AllocError`: an allocation failed.
-pub fn decide_records(alloc: Global, bytes: &[u8]) -> Result<Vec<u8>, AllocError> {
+pub(crate) fn decide_records(alloc: Global, bytes: &[u8]) -> Result<Vec<u8>, AllocError>
+    ensures { IfOk result (λ answer. IsAnswer answer.items) }
+{
     match read_records(alloc, bytes) {
         Ok(asked) => decide_asked(alloc, &asked),
-        Err(ReadError::NoRecord(record)) => fault_of(alloc, b'#', record),
+        Err(ReadError::NoRecord(record)) => no_record(alloc, record),
         Err(ReadError::OutOfMemory) => Err(AllocError),
     }
 }

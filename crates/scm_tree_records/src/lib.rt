@@ -3,8 +3,9 @@
 
 mod answer;
 mod asked;
+mod call;
 pub mod faults;
 mod record;
 
-pub use answer::decide_records;
+pub use call::decide_rows;
 pub use faults::path_fault_number;
