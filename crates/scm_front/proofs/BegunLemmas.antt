@@ -1,7 +1,6 @@
 -- Sessions that have begun, and jumps of them.
 use Rattle.std.proofs.Common.{◌≡◌, ℕ, Bool, true, false, List, [], ◌∷◌, ◌++◌, refl, sym, ap, subst}
 use Rattle.std.specs.Prelude.{if◌then◌else◌}
-use Rattle.scm_errors.specs.declared.error.RecordError.{RecordError}
 use Rattle.scm_types.specs.declared.keys.SelectionKey.{SelectionKey}
 use Rattle.scm_input.specs.declared.events.Event.{Event}
 use Rattle.scm_types.specs.declared.state.RecordState.{RecordState}
@@ -9,13 +8,12 @@ use Rattle.scm_input.specs.declared.inputs.TerminalKind.{TerminalKind}
 use Rattle.scm_record.specs.Session.{start}
 use Rattle.scm_record.specs.Live.{Live, LiveEdit}
 use Rattle.scm_record.specs.Jumps.{can_select, after_jump, after_selecting}
-use Rattle.scm_record.specs.LiveCalls.{Call, Press, PressAll, Say, Path, still, press, press_all, say, BatchLeads, EventFails, EventLeads, MessageLeads}
+use Rattle.scm_record.specs.LiveCalls.{Call, Press, PressAll, Say, Path, still, press, press_all, say, BatchLeads, EventLeads, MessageLeads}
 use Rattle.scm_record.specs.declared.live.Turn.{Turn}
 use Rattle.scm_record.specs.declared.live.Turn.TheVariants.{Waiting, Editing}
 use Rattle.scm_record.proofs.PathLemmas.{path-after}
 use Rattle.scm_record.proofs.JumpLemmas.{jumped}
 use Rattle.scm_front.specs.Begun.{HasBegun, LeadsOn, JumpLeads, jumps, stays}
-use Rattle.scm_front.specs.Failing.{SessionFails, refused, failed}
 
 -- calls lead on
 pub begun-on : {first next : Turn} (calls : List Call) → Path first calls next → HasBegun first → HasBegun next
@@ -34,14 +32,6 @@ jump-leads l key b = by_can (can_select l key) refl
 pub jump-path : {l next : Live} {key : SelectionKey} {calls : List Call} → JumpLeads l key calls next → Path (Waiting l) calls (Waiting next)
 jump-path (jumps moves g) = press_all g still
 jump-path (stays e) = still
-
--- a session ends in an error later
-pub fails-later : {l next : Live} {error : RecordError} (calls : List Call) → Path (Waiting l) calls (Waiting next) → SessionFails next error → SessionFails l error
-fails-later calls p (refused e) = refused e
-fails-later calls p (failed more last event q h) = failed (calls ++ more) last event (path-after p q) h
-
-pub event-fails : {l : Live} {error : RecordError} (event : Event) → EventFails l event error → SessionFails l error
-event-fails {l} event h = failed [] l event still h
 
 -- ---- the calls of a session that has begun
 
@@ -82,9 +72,6 @@ leads-then first mid last p q = (p.0 ++ q.0, path-after p.1 q.1)
 
 pub leads-same : (first turn last : Turn) → turn ≡ last → LeadsOn first turn → LeadsOn first last
 leads-same first turn last e p = (p.0, subst (λ (t : Turn). Path first p.0 t) e p.1)
-
-pub leads-fail : (l mid : Live) (turn : Turn) (error : RecordError) → turn ≡ Waiting mid → LeadsOn (Waiting l) turn → SessionFails mid error → SessionFails l error
-leads-fail l mid turn error e p h = fails-later p.0 (subst (λ (t : Turn). Path (Waiting l) p.0 t) e p.1) h
 
 pub leads-via : (l mid : Live) (turn last : Turn) → turn ≡ Waiting mid → LeadsOn (Waiting l) turn → LeadsOn (Waiting mid) last → LeadsOn (Waiting l) last
 leads-via l mid turn last e p q = leads-then (Waiting l) (Waiting mid) last (leads-same (Waiting l) turn (Waiting mid) e p) q

@@ -1,12 +1,11 @@
 -- Deeds that are done one after another.
 use Rattle.std.proofs.Common.{◌≡◌, ℕ, ◌+◌, ◌<◌, ◌≤◌, true, false, List, [], ◌∷◌, ◌++◌, length, drop, get_or, sym, ap, subst, ◌∙◌}
 use Rattle.std.proofs.lemmas.List.{drop_all, drop_more}
-use Rattle.scm_errors.specs.declared.error.RecordError.{RecordError}
 use Rattle.scm_types.specs.declared.keys.SelectionKey.{SelectionKey}
 use Rattle.scm_input.specs.declared.events.Event.{Event}
 use Rattle.scm_record.specs.Live.{Live}
 use Rattle.scm_record.specs.Jumps.{after_selecting}
-use Rattle.scm_record.specs.LiveCalls.{Call, Press, Path, still, press, EventLeads, EventFails}
+use Rattle.scm_record.specs.LiveCalls.{Call, Press, Path, still, press, EventLeads}
 use Rattle.scm_record.specs.Typed.{is_waiting}
 use Rattle.scm_record.specs.declared.live.Turn.{Turn}
 use Rattle.scm_record.specs.declared.live.Turn.TheVariants.{Waiting}
@@ -15,8 +14,7 @@ use Rattle.scm_front_items.specs.declared.targets.Deed.{Deed}
 use Rattle.scm_front_items.specs.Targets.{key_of}
 use Rattle.scm_front.specs.Begun.{JumpLeads}
 use Rattle.scm_front.specs.Deeds.{event_of, is_due, DeedDone, DeedTried, idles, acts, DeedsLead, done, skips, does, ends, ReturnsTo, RoundLeads, returns, leaves}
-use Rattle.scm_front.specs.Failing.{SessionFails, failed}
-use Rattle.scm_front.proofs.BegunLemmas.{jump-path, fails-later}
+use Rattle.scm_front.proofs.BegunLemmas.{jump-path}
 
 -- ---- deeds are calls
 
@@ -55,10 +53,9 @@ true-is-not-false e = cc
 -- what comes of the deeds that are left comes of all
 pub record Doing (first : Live) (all : List Deed) (now : Live) (left : List Deed) : Type 0 where
   pub leads : (calls : List Call) (turn : Turn) → DeedsLead now left calls turn → (handled : List Call) × DeedsLead first all handled turn
-  pub fails : (error : RecordError) → SessionFails now error → SessionFails first error
 
 pub doing-first : (l : Live) (deeds : List Deed) → Doing l deeds l deeds
-doing-first l deeds = record { leads = λ calls turn d. (calls, d); fails = λ error h. h }
+doing-first l deeds = record { leads = λ calls turn d. (calls, d) }
 
 -- the deed at a place
 module _ (first now : Live) (all : List Deed) (i : ℕ) (d : Deed) (is : i < length all) (g : Doing first all now (drop i all)) where
@@ -68,13 +65,11 @@ module _ (first now : Live) (all : List Deed) (i : ℕ) (d : Deed) (is : i < len
   pub doing-skip : is_due now (get_or all i d) ≡ false → Doing first all now (drop (i + 1) all)
   doing-skip e = record {
     leads = λ calls turn h. g.leads calls turn (subst (λ (list : List Deed). DeedsLead now list calls turn) (sym left) (skips e h));
-    fails = g.fails;
   }
 
   doing-next : (next : Live) → is_due now (get_or all i d) ≡ true → DeedDone now (get_or all i d) (Waiting next) → Doing first all next (drop (i + 1) all)
   doing-next next e one = record {
     leads = λ calls turn h. g.leads _ turn (subst (λ (list : List Deed). DeedsLead now list (one.calls ++ (Press (event_of (get_or all i d)) ∷ calls)) turn) (sym left) (does e one h));
-    fails = λ error h. g.fails error (fails-later _ (done-path one) h);
   }
 
   here : {turn last : Turn} → turn ≡ last → DeedDone now (get_or all i d) turn → DeedDone now (get_or all i d) last
@@ -119,10 +114,6 @@ pub left-early : (l : Live) (deeds : List Deed) (back : SelectionKey) (turn last
     → ((calls : List Call) × DeedsLead l deeds calls turn) → (calls : List Call) × RoundLeads l deeds back calls last
 left-early l deeds back turn last e f d = (d.0, leaves (subst (λ (t : Turn). DeedsLead l deeds d.0 t) e d.1) f)
 
-pub back-fails : (l mid : Live) (deeds : List Deed) (error : RecordError) (turn : Turn) → turn ≡ Waiting mid
-    → ((calls : List Call) × DeedsLead l deeds calls turn) → SessionFails mid error → SessionFails l error
-back-fails l mid deeds error turn e d h = fails-later d.0 (subst (λ (t : Turn). Path (Waiting l) d.0 t) e (deeds-path d.1)) h
-
 -- ---- by other names of the key and the event
 
 pub deed-done-by : (l mid : Live) (deed : Deed) (key : SelectionKey) (event : Event) (turn : Turn) → key ≡ key_of deed → event ≡ event_of deed → mid ≡ after_selecting l key
@@ -130,10 +121,6 @@ pub deed-done-by : (l mid : Live) (deed : Deed) (key : SelectionKey) (event : Ev
 deed-done-by l mid deed key event turn k v e j g =
     let jump : (calls : List Call) × JumpLeads l (key_of deed) calls mid = (j.0, subst (λ (x : SelectionKey). JumpLeads l x j.0 mid) k j.1) in
     deed-done l mid deed turn (e ∙ ap (λ (x : SelectionKey). after_selecting l x) k) jump (subst (λ (x : Event). EventLeads mid x turn) v g)
-
-pub deed-fails-by : (l mid : Live) (key : SelectionKey) (event : Event) (error : RecordError) → ((calls : List Call) × JumpLeads l key calls mid)
-    → EventFails mid event error → SessionFails l error
-deed-fails-by l mid key event error j h = failed j.0 mid event (jump-path j.1) h
 
 -- ---- deeds after deeds
 
@@ -162,7 +149,3 @@ pub part-leaves : (l : Live) (back : SelectionKey) (turn last : Turn) → turn �
     → ((deeds : List Deed) × ((calls : List Call) × DeedsLead l deeds calls turn))
     → (deeds : List Deed) × ((calls : List Call) × RoundLeads l deeds back calls last)
 part-leaves l back turn last e f d = (d.0, left-early l d.0 back turn last e f d.1)
-
-pub part-fails : (l mid : Live) (error : RecordError) (turn : Turn) → turn ≡ Waiting mid
-    → ((deeds : List Deed) × ((calls : List Call) × DeedsLead l deeds calls turn)) → SessionFails mid error → SessionFails l error
-part-fails l mid error turn e d h = back-fails l mid d.0 error turn e d.1 h

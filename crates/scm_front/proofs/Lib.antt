@@ -2,6 +2,10 @@
 pub mod PressLemmas
 -- the turn that an event leads to
 pub mod TurnLemmas
+-- events after which a session always waits
+pub mod OutcomeLemmas
+-- folds at the start, and deeds, after which a session waits
+pub mod StartLemmas
 -- the same events lead to the same session
 pub mod ReplayLemmas
 -- sessions that have begun, and jumps of them

@@ -9,7 +9,6 @@ use Rattle.scm_record.specs.declared.live.Turn.{Turn}
 use Rattle.scm_record.specs.declared.live.Turn.TheVariants.{Waiting}
 use Rattle.scm_record.specs.Typed.{is_waiting}
 use Rattle.scm_front.specs.Presses.{calls_of, PressesLead, PressesFail}
-use Rattle.scm_front.specs.Failing.{SessionFails, failed}
 
 leads-none : (l : Live) (events : List Event) → events ≡ [] → PressesLead l events (Waiting l)
 leads-none l events e = record { handled = []; dropped = []; are = e; path = still; all = λ w. refl }
@@ -92,7 +91,3 @@ module _ (first now : Live) (events : List Event) (i : ℕ) (d : Event) (is : i 
 
 pub goes-end : (first now : Live) (events : List Event) (i : ℕ) → length events ≤ i → Goes first events now (drop i events) → PressesLead first events (Waiting now)
 goes-end first now events i is g = g.leads (Waiting now) (leads-none now (drop i events) (drop_all i events is))
-
--- where one of the events fails, after the earlier ones
-pub press-fails : {l : Live} {events : List Event} {error : RecordError} → PressesFail l events error → SessionFails l error
-press-fails h = failed (calls_of h.handled) h.last h.event h.path h.fails

@@ -103,11 +103,11 @@ folded l next f g =
 
 -- ---- a deed
 
-is-true-left : (a b : Bool) → (a && b) ≡ true → a ≡ true
+pub is-true-left : (a b : Bool) → (a && b) ≡ true → a ≡ true
 is-true-left true b e = refl
 is-true-left false b e = e
 
-selected : (l : Live) (key : SelectionKey) → can_select l key ≡ true → after_selecting l key ≡ after_jump l key
+pub selected : (l : Live) (key : SelectionKey) → can_select l key ≡ true → after_selecting l key ≡ after_jump l key
 selected l key e = ap (λ (b : Bool). cond b (after_jump l key) l) e
 
 -- without a quit dialog an item can be selected if the files have it

@@ -31,7 +31,7 @@ failed-alone (on a) = ap after (failed-alone a)
 abbrev alone_point : TerminalKind → Session → ℕ → Point
 alone_point kind s frames = Drawn (world_in (live_setting kind [] []) s frames)
 
-no-event : (kind : TerminalKind) (s : Session) (frames : ℕ) → s.pending ≡ []
+pub no-event : (kind : TerminalKind) (s : Session) (frames : ℕ) → s.pending ≡ []
     → after (alone_point kind s frames) ≡ Failed no_events_left (world_in (live_setting kind [] []) s frames)
 no-event kind s frames e = ap (λ (list : List Event). batch (world_in (live_setting kind [] []) s frames) list) e
 
@@ -75,10 +75,10 @@ module _ (l : Live) (event : Event) (t : Session) (calm : l.session.pending ≡ 
       reaches-trans (reads-event l event reads edits frames calm)
       (goes (live_setting l.kind reads edits) l.session l.session t frames event ((stays t).flow) is refl)
 
-  abbrev drawn_once : Live
+  abbrev pub drawn_once : Live
   drawn_once = record { session = without_pending (after_frame t); kind = l.kind }
 
-  leads-to-stay : t.pending ≡ [] → EventLeads l event (Waiting drawn_once)
+  pub leads-to-stay : t.pending ≡ [] → EventLeads l event (Waiting drawn_once)
   leads-to-stay e reads edits frames = comes-to-wait _ l.kind reads edits t _ (frames + 1) (sym e) refl (drawn-after reads edits frames)
 
   -- an event that leaves nothing pending
@@ -95,10 +95,10 @@ module _ (l : Live) (event : Event) (t : Session) (calm : l.session.pending ≡ 
   abbrev scrolled : Session
   scrolled = with_scroll unscrolled (scroll_to_show scene_then unscrolled.scroll unscrolled.shown.selection)
 
-  abbrev drawn_twice : Live
+  abbrev pub drawn_twice : Live
   drawn_twice = record { session = without_pending (after_frame scrolled); kind = l.kind }
 
-  leads-to-scroll : t.pending ≡ events.EnsureSelectionInViewport ∷ [] → EventLeads l event (Waiting drawn_twice)
+  pub leads-to-scroll : t.pending ≡ events.EnsureSelectionInViewport ∷ [] → EventLeads l event (Waiting drawn_twice)
   leads-to-scroll e reads edits frames =
       let handled = comes-to-handle _ (live_setting l.kind reads edits) t unscrolled (frames + 1) events.EnsureSelectionInViewport (sym e) refl (drawn-after reads edits frames) in
       let drawn = goes (live_setting l.kind reads edits) (after_frame t) unscrolled scrolled (frames + 1) events.EnsureSelectionInViewport ((stays scrolled).flow) refl refl in

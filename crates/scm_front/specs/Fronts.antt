@@ -1,6 +1,7 @@
 -- A layer over a live session: what it does with what it hears, and the calls of the session beneath.
 use Rattle.std.specs.Prelude.{◌≡◌, ℕ, Bool, true, false, not, ◌&&◌, ◌||◌, List, [], ◌∷◌, ◌++◌, Option, Some, None, is_some, option_to_list, if◌then◌else◌}
 use Rattle.scm_errors.specs.declared.error.RecordError.{RecordError}
+use Rattle.scm_errors.specs.declared.error.RecordError.TheVariants.{OutOfMemory}
 use Rattle.scm_types.specs.declared.file.File.{File}
 use Rattle.scm_types.specs.declared.keys.SelectionKey.{SelectionKey}
 use Rattle.scm_types.specs.declared.keys.SelectionKey.TheVariants as keys
@@ -11,7 +12,7 @@ use Rattle.scm_input.specs.declared.terminal.TerminalEvent.{TerminalEvent}
 use Rattle.scm_terminal.specs.declared.decoder.Decoder.{Decoder}
 use Rattle.scm_terminal.specs.Decoders.{Adds}
 use Rattle.scm_record.specs.Live.{Live, on_screen}
-use Rattle.scm_record.specs.LiveCalls.{Call, Press, PressAll, Say, Resize, Path, EventLeads, BatchLeads, MessageLeads}
+use Rattle.scm_record.specs.LiveCalls.{Call, Press, PressAll, Say, Resize, Path, EventFails, EventLeads, BatchLeads, MessageLeads}
 use Rattle.scm_record.specs.Typed.{is_waiting, SilenceMeans}
 use Rattle.scm_record.specs.declared.live.Turn.{Turn}
 use Rattle.scm_record.specs.declared.live.Turn.TheVariants as turns
@@ -42,7 +43,6 @@ use Rattle.scm_front.specs.Actions.{action_of}
 use Rattle.scm_front.specs.Asking.{after_typing, with_word}
 use Rattle.scm_front.specs.Begun.{JumpLeads}
 use Rattle.scm_front.specs.Deeds.{RoundLeads}
-use Rattle.scm_front.specs.Failing.{SessionFails}
 use Rattle.scm_front.specs.Keeping.{KeepsAs, saying, after_range, is_none, steps_of, done_word, nothing_left}
 use Rattle.scm_front.specs.Presses.{PressesLead, calls_of}
 use Rattle.scm_front.specs.Recording.{BeginsAnewAt, RemembersAt, Returns, back_of}
@@ -215,10 +215,6 @@ pub data Does : Front → Action → List Call → FrontTurn → Type 0 where
   -- nothing is done
   ignores : {f : Front} → Does f Ignore [] (Waiting f)
 
--- a call of the session beneath ends the session with `error`, or an allocation failed
-abbrev pub FrontFails : Front → RecordError → Type 0
-FrontFails f error = SessionFails f.beneath error
-
 -- the action that an event of the terminal is
 abbrev pub heard : Front → TerminalEvent → Action
 heard f event = action_of (mode_of f) f.kept.keys event
@@ -245,6 +241,38 @@ pub record SilenceHeard (f : Front) (old new : Decoder) (turn : FrontTurn) : Typ
   pub means : SilenceMeans old new event
   pub calls : List Call
   pub hears : Hears f (option_to_list event) calls turn
+
+-- ---- errors
+
+-- an allocation failed, or the event of the session that the key means ends the session with `error`
+pub data KeyFails (f : Front) (key : TerminalEvent) (error : RecordError) : Type 0 where
+  key_refused : error ≡ OutOfMemory → KeyFails f key error
+  key_failed : (event : Event) → heard f key ≡ Pass event → EventFails f.beneath event error → KeyFails f key error
+
+-- one of the keys fails, after the earlier ones led to a front that waits
+pub record KeysFail (f : Front) (keys : List TerminalEvent) (error : RecordError) : Type 0 where
+  -- the keys before it, the key, and those that are dropped
+  pub heard_first : List TerminalEvent
+  pub key : TerminalEvent
+  pub dropped : List TerminalEvent
+  pub are : keys ≡ heard_first ++ (key ∷ dropped)
+  -- the front before the key
+  pub calls : List Call
+  pub last : Front
+  pub hears : Hears f heard_first calls (Waiting last)
+  -- the key fails
+  pub fails : KeyFails last key error
+
+-- bytes end the session with `error`: an allocation failed while they were decoded, or one of the keys that they complete fails
+pub data HeardBytesFail (f : Front) (old new : Decoder) (bytes : List ℕ) (error : RecordError) : Type 0 where
+  bytes_refused : error ≡ OutOfMemory → HeardBytesFail f old new bytes error
+  bytes_failed : (found : List TerminalEvent) → Adds old new bytes [] found → KeysFail f found error → HeardBytesFail f old new bytes error
+
+-- a silence ends the session with `error`: the key that it means fails
+pub record HeardSilenceFails (f : Front) (old new : Decoder) (error : RecordError) : Type 0 where
+  pub key : TerminalEvent
+  pub means : SilenceMeans old new (Some key)
+  pub fails : KeysFail f (key ∷ []) error
 
 -- ---- sequences
 

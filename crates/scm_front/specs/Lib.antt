@@ -4,12 +4,12 @@ pub mod Begun
 pub mod Logging
 -- what its calls lead to
 pub mod Driving
--- how it ends in an error
-pub mod Failing
 -- lists of events that are handed in one after another
 pub mod Presses
 -- marks that are set and folds that are closed, one after another
 pub mod Deeds
+-- folds and a selection at the start
+pub mod Starting
 -- a session that hears the layer's keys
 pub mod Free
 -- the text that is searched for, and the keys that type it

@@ -1,10 +1,10 @@
 //! Deeds: marks that are set and folds that are closed, by jumps and events of the session.
-ghost use Rattle.std.specs.Prelude.{◌≡◌, List, IfErr, IfOk};
+ghost use Rattle.std.specs.Prelude.{◌≡◌, true, List, IfErr, IfOk};
+ghost use Rattle.scm_errors.specs.declared.error.RecordError.TheVariants.{OutOfMemory};
 ghost use Rattle.scm_record.specs.LiveCalls.{Call};
 ghost use Rattle.scm_front_items.specs.Targets.{is_open_deed};
 ghost use Rattle.scm_front.specs.Deeds.{DeedDone, DeedTried, DeedsLead, ReturnsTo, RoundLeads, event_of, is_due};
 ghost use Rattle.scm_front.specs.Driving.{turn_of};
-ghost use Rattle.scm_front.specs.Failing.{SessionFails};
 
 use crate::begun::{Begun, BegunTurn};
 use scm_front_items::Deed;
@@ -43,7 +43,7 @@ fn is_due(session: &Begun<'_>, deed: Deed) -> bool
 /// Selects the item of `deed`, and handles its event there.
 fn do_deed<'state>(session: Begun<'state>, deed: Deed) -> Result<BegunTurn<'state>, RecordError>
     ensures ok { IfOk result (λ turn. DeedDone session.entry deed (turn_of turn)) }
-    ensures err { IfErr result (λ e. SessionFails session.entry e) }
+    ensures err { is_due session.entry deed ≡ true → IfErr result (λ e. e ≡ OutOfMemory) }
 {
     let session = session.select(deed.key())?;
     session.handle(event_of(deed))
@@ -52,7 +52,7 @@ fn do_deed<'state>(session: Begun<'state>, deed: Deed) -> Result<BegunTurn<'stat
 /// Does `deed` if it is due.
 fn try_deed<'state>(session: Begun<'state>, deed: Deed) -> Result<BegunTurn<'state>, RecordError>
     ensures ok { IfOk result (λ turn. DeedTried session.entry deed (turn_of turn)) }
-    ensures err { IfErr result (λ e. SessionFails session.entry e) }
+    ensures err { IfErr result (λ e. e ≡ OutOfMemory) }
 {
     if is_due(&session, deed) {
         do_deed(session, deed)
@@ -69,7 +69,7 @@ pub(crate) fn do_deeds<'state>(
 ) -> Result<BegunTurn<'state>, RecordError>
     ensures ok { IfOk result (λ turn.
         (calls : List Call) × DeedsLead session.entry deeds.now calls (turn_of turn)) }
-    ensures err { IfErr result (λ e. SessionFails session.entry e) }
+    ensures err { IfErr result (λ e. e ≡ OutOfMemory) }
 {
     let mut session = session;
     for deed in deeds {
@@ -85,7 +85,7 @@ pub(crate) fn do_deeds<'state>(
 /// Selects `back`.
 fn go_back<'state>(mid: Begun<'state>, back: SelectionKey) -> Result<BegunTurn<'state>, RecordError>
     ensures ok { IfOk result (λ turn. ReturnsTo mid.entry back (turn_of turn)) }
-    ensures err { IfErr result (λ e. SessionFails mid.entry e) }
+    ensures err { IfErr result (λ e. e ≡ OutOfMemory) }
 {
     let last = mid.select(back)?;
     Ok(BegunTurn::Waiting(last))
@@ -99,7 +99,7 @@ pub(crate) fn do_round<'state>(
 ) -> Result<BegunTurn<'state>, RecordError>
     ensures ok { IfOk result (λ turn.
         (calls : List Call) × RoundLeads session.entry deeds.now back calls (turn_of turn)) }
-    ensures err { IfErr result (λ e. SessionFails session.entry e) }
+    ensures err { IfErr result (λ e. e ≡ OutOfMemory) }
 {
     let turn = do_deeds(session, deeds)?;
     match turn {

@@ -19,13 +19,13 @@ ghost use Rattle.scm_front.specs.Driving.{turn_of};
 ghost use Rattle.scm_front.specs.Keeping.{IsNew, KeepsAs, after_range, anchored, done_word, is_none, nothing_left, other_way, saying, steps_of};
 ghost use Rattle.scm_front.specs.Presses.{PressesFail, PressesLead};
 ghost use Rattle.scm_front.specs.Logging.{IsLogged};
-ghost use Rattle.scm_front.specs.Failing.{SessionFails};
 ghost use Rattle.scm_front.specs.Handing.{HandsOn};
 ghost use Rattle.scm_front.specs.Restoring.{RestoresTo};
 ghost use Rattle.scm_front.specs.Recording.{RecordsAt, Returns, back_of};
 ghost use Rattle.scm_front_items.specs.Runs.{marks_of_files, marks_with};
 ghost use Rattle.scm_front_items.specs.Histories.{no_history};
-ghost use Rattle.scm_front.specs.Fronts.{Does, FrontFails, IsGiven, RemembersIn, beneath_of, files_of, front, front_of, found, heard, is_elsewhere, is_silent, mode_of, notice_of, restoring, said_word};
+ghost use Rattle.scm_front.specs.Starting.{Starts};
+ghost use Rattle.scm_front.specs.Fronts.{Does, IsGiven, KeyFails, RemembersIn, beneath_of, files_of, front, front_of, found, heard, is_elsewhere, is_silent, mode_of, notice_of, restoring, said_word};
 
 use crate::accepted::AcceptedState;
 use crate::actions::{Action, Mode, OwnKey, action_of, has_key};
@@ -312,7 +312,7 @@ fn restored<'state>(
 ) -> Result<FrontTurn<'state>, RecordError>
     ensures ok { IfOk result (λ turn.
         RestoresTo beneath.entry query kept way what.wanted what.back turn) }
-    ensures err { IfErr result (λ e. SessionFails beneath.entry e) }
+    ensures err { IfErr result (λ e. e ≡ OutOfMemory) }
 {
     let Restoring { wanted, back } = what;
     let turn = restore(kept.alloc, beneath, &wanted)?;
@@ -329,7 +329,7 @@ fn given_up<'state>(
 ) -> Result<FrontTurn<'state>, RecordError>
     ensures ok { (way : Direction) → (wanted : List (List (List Bool))) → (back : Past)
         → IfOk result (λ turn. RestoresTo beneath.entry query kept way wanted back turn) }
-    ensures err { IfErr result (λ e. SessionFails beneath.entry e) }
+    ensures err { IfErr result (λ e. e ≡ OutOfMemory) }
 {
     let kept = without_steps(kept);
     let back = selection_of(&beneath);
@@ -348,7 +348,7 @@ fn restore_step<'state>(
     ensures ok { IfOk result (λ turn. RestoresTo beneath.entry query kept way
         (marks_with step (marks_of_files (files_of beneath.entry)))
         (back_of (files_of beneath.entry) step) turn) }
-    ensures err { IfErr result (λ e. SessionFails beneath.entry e) }
+    ensures err { IfErr result (λ e. e ≡ OutOfMemory) }
 {
     match what_to_restore(kept.alloc, &beneath, &step) {
         Ok(what) => restored(beneath, query, kept, way, what),
@@ -394,7 +394,8 @@ impl<'state> Front<'state> {
         })
     }
 
-    /// Unfolds what `folds` says, and selects `first`. If there is no such item, the selection stays.
+    /// Unfolds what `folds` says, and selects `first`. If there is no such item, the selection stays. Marks,
+    /// messages and dialogs stay as they are, and so do what the layer keeps and the keys of the user's own.
     ///
     /// # Errors
     ///
@@ -406,7 +407,9 @@ impl<'state> Front<'state> {
             × Path (Waiting self.entry.beneath) calls (beneath_of turn)) }
         ensures kept { IfOk result (λ turn.
             turn ≡ front_of (beneath_of turn) self.entry.query self.entry.kept) }
-        ensures err { IfErr result (λ e. FrontFails self.entry e) }
+        ensures starts { IfOk result (λ turn.
+            Starts self.entry.beneath first (beneath_of turn)) }
+        ensures err { IfErr result (λ e. e ≡ OutOfMemory) }
     {
         let Front {
             beneath,
@@ -696,11 +699,13 @@ impl<'state> Front<'state> {
     ///
     /// # Errors
     ///
-    /// An error ends the session: it is that of the first event that fails.
+    /// An error ends the session.
+    ///
+    /// - `OutOfMemory`: an allocation failed.
     pub fn mark(self) -> Result<FrontTurn<'state>, RecordError>
         ensures ok { IfOk result (λ turn.
             (calls : List Call) × Does self.entry Mark calls turn) }
-        ensures err { IfErr result (λ e. FrontFails self.entry e) }
+        ensures err { IfErr result (λ e. e ≡ OutOfMemory) }
     {
         let Front {
             beneath,
@@ -724,11 +729,13 @@ impl<'state> Front<'state> {
     ///
     /// # Errors
     ///
-    /// An error ends the session: it is that of the first event that fails.
+    /// An error ends the session.
+    ///
+    /// - `OutOfMemory`: an allocation failed.
     pub fn restore(self, way: Way) -> Result<FrontTurn<'state>, RecordError>
         ensures ok { IfOk result (λ turn.
             (calls : List Call) × Does self.entry (restoring way) calls turn) }
-        ensures err { IfErr result (λ e. FrontFails self.entry e) }
+        ensures err { IfErr result (λ e. e ≡ OutOfMemory) }
     {
         let Front {
             beneath,
@@ -777,11 +784,14 @@ impl<'state> Front<'state> {
     ///
     /// # Errors
     ///
-    /// An error ends the session: the errors are those of the calls that the keys make.
+    /// An error ends the session. It is that of the event of the session that the key means
+    /// ([`LiveSession::handle`]), or:
+    ///
+    /// - `OutOfMemory`: an allocation failed.
     pub fn hear(self, event: TerminalEvent) -> Result<FrontTurn<'state>, RecordError>
         ensures ok { IfOk result (λ turn.
             (calls : List Call) × Does self.entry (heard self.entry event) calls turn) }
-        ensures err { IfErr result (λ e. FrontFails self.entry e) }
+        ensures err { IfErr result (λ e. KeyFails self.entry event e) }
     {
         let action = action_of(self.mode(), self.kept.keys.as_slice(), event);
         match action {

@@ -7,7 +7,6 @@ ghost use Rattle.scm_front_items.specs.Runs.{marks_of_files, marks_with};
 ghost use Rattle.scm_front_items.specs.Steps.{runs_of_range};
 ghost use Rattle.scm_front.specs.Deeds.{SomeDeedsLead, SomeRoundLeads};
 ghost use Rattle.scm_front.specs.Driving.{turn_of};
-ghost use Rattle.scm_front.specs.Failing.{SessionFails};
 ghost use Rattle.scm_front.specs.Fronts.{HasMarks, files_of, range_deeds, selection_of};
 ghost use Rattle.scm_front.specs.Recording.{back_of};
 
@@ -158,7 +157,7 @@ fn first_part<'state>(
     wanted: &Marks,
 ) -> Result<BegunTurn<'state>, RecordError>
     ensures ok { IfOk result (λ turn. SomeDeedsLead session.entry (turn_of turn)) }
-    ensures err { IfErr result (λ e. SessionFails session.entry e) }
+    ensures err { IfErr result (λ e. e ≡ OutOfMemory) }
 {
     let deeds = deeds_towards(alloc, &session, Part::First, wanted)?;
     do_deeds(session, deeds.as_slice())
@@ -172,7 +171,7 @@ fn last_part<'state>(
     back: SelectionKey,
 ) -> Result<BegunTurn<'state>, RecordError>
     ensures ok { IfOk result (λ turn. SomeRoundLeads session.entry back (turn_of turn)) }
-    ensures err { IfErr result (λ e. SessionFails session.entry e) }
+    ensures err { IfErr result (λ e. e ≡ OutOfMemory) }
 {
     let deeds = deeds_towards(alloc, &session, Part::Last, wanted)?;
     do_round(session, deeds.as_slice(), back)
@@ -187,7 +186,7 @@ pub(crate) fn restore<'state>(
 ) -> Result<BegunTurn<'state>, RecordError>
     ensures ok { IfOk result (λ turn.
         SomeRoundLeads session.entry (selection_of session.entry) (turn_of turn)) }
-    ensures err { IfErr result (λ e. SessionFails session.entry e) }
+    ensures err { IfErr result (λ e. e ≡ OutOfMemory) }
 {
     let back = selection_of(&session);
     let turn = first_part(alloc, session, wanted)?;

@@ -9,10 +9,8 @@ ghost use Rattle.scm_front.specs.Begun.{LeadsOn};
 ghost use Rattle.scm_record.specs.Jumps.{after_selecting};
 ghost use Rattle.scm_front.specs.Driving.{turn_of};
 ghost use Rattle.scm_front.specs.declared.starting.Folds.TheVariants.{AsIs};
-ghost use Rattle.scm_front_items.specs.declared.targets.Deed.{Deed as Done};
-ghost use Rattle.scm_front_items.specs.declared.targets.Deed.TheVariants.{Mark};
-ghost use Rattle.scm_front_items.specs.declared.targets.Target.{Target as Aim};
-ghost use Rattle.scm_front.specs.Failing.{SessionFails};
+ghost use Rattle.scm_record.specs.Live.{Live};
+ghost use Rattle.scm_front.specs.Starting.{AreFolds, Refolds, Starts};
 
 use crate::begun::{Begun, BegunTurn};
 use crate::deeds::do_round;
@@ -93,7 +91,8 @@ fn set_folds<'state>(
     is_open: bool,
 ) -> Result<BegunTurn<'state>, RecordError>
     ensures ok { IfOk result (λ turn. LeadsOn (Waiting session.entry) (turn_of turn)) }
-    ensures err { IfErr result (λ e. SessionFails session.entry e) }
+    ensures folds { IfOk result (λ turn. Refolds session.entry (turn_of turn)) }
+    ensures err { IfErr result (λ e. e ≡ OutOfMemory) }
 {
     let events = events_for(alloc, session.live().view_state(), is_open)?;
     press_each(session, events)
@@ -105,8 +104,7 @@ fn folds_of(
     expanded: &KeySet,
     keys: &[SelectionKey],
 ) -> Result<Vec<Deed>, RecordError>
-    ensures folds { IfOk result (λ deeds.
-        All (λ (d : Done). (t : Aim) → d ≡ Mark t → ⊥) deeds.items) }
+    ensures folds { IfOk result (λ deeds. AreFolds deeds.items) }
     ensures err { IfErr result (λ e. e ≡ OutOfMemory) }
 {
     let mut deeds = Vec::new(alloc);
@@ -127,7 +125,9 @@ fn fold_unless_shown<'state>(
     back: SelectionKey,
 ) -> Result<BegunTurn<'state>, RecordError>
     ensures ok { IfOk result (λ turn. LeadsOn (Waiting session.entry) (turn_of turn)) }
-    ensures err { IfErr result (λ e. SessionFails session.entry e) }
+    ensures folds { AreFolds folds.now
+        → IfOk result (λ turn. Refolds session.entry (turn_of turn)) }
+    ensures err { IfErr result (λ e. e ≡ OutOfMemory) }
 {
     if shows(&session, last) {
         Ok(BegunTurn::Waiting(session))
@@ -142,7 +142,8 @@ fn unfold_if_fitting<'state>(
     session: Begun<'state>,
 ) -> Result<BegunTurn<'state>, RecordError>
     ensures ok { IfOk result (λ turn. LeadsOn (Waiting session.entry) (turn_of turn)) }
-    ensures err { IfErr result (λ e. SessionFails session.entry e) }
+    ensures folds { IfOk result (λ turn. Refolds session.entry (turn_of turn)) }
+    ensures err { IfErr result (λ e. e ≡ OutOfMemory) }
 {
     let keys = all_keys(alloc, session.live().state().files.as_slice())?;
     if keys.is_empty() || keys.len() > session.live().grid().height() {
@@ -168,7 +169,8 @@ pub(crate) fn fold_at_start<'state>(
 ) -> Result<BegunTurn<'state>, RecordError>
     ensures as_is { folds ≡ AsIs → IfOk result (λ turn. turn_of turn ≡ Waiting session.entry) }
     ensures ok { IfOk result (λ turn. LeadsOn (Waiting session.entry) (turn_of turn)) }
-    ensures err { IfErr result (λ e. SessionFails session.entry e) }
+    ensures folds { IfOk result (λ turn. Refolds session.entry (turn_of turn)) }
+    ensures err { IfErr result (λ e. e ≡ OutOfMemory) }
 {
     match folds {
         Folds::AsIs => Ok(BegunTurn::Waiting(session)),
@@ -198,6 +200,8 @@ pub(crate) fn select_first<'state>(
     first: SelectionKey,
 ) -> Result<BegunTurn<'state>, RecordError>
     ensures ok { IfOk result (λ last. LeadsOn (turn_of turn.entry) (turn_of last)) }
+    ensures selected { (l : Live) → Refolds l (turn_of turn.entry)
+        → IfOk result (λ last. Starts l first (turn_of last)) }
     ensures err { IfErr result (λ e. e ≡ OutOfMemory) }
 {
     match turn {

@@ -3,7 +3,7 @@ ghost use Rattle.std.specs.Prelude.{◌≡◌, [], List, IfErr, IfOk};
 ghost use Rattle.scm_errors.specs.declared.error.RecordError.TheVariants.{OutOfMemory};
 ghost use Rattle.scm_record.specs.LiveCalls.{Call};
 ghost use Rattle.scm_terminal.specs.Decoders.{Adds};
-ghost use Rattle.scm_front.specs.Fronts.{BytesHeard, FrontFails, Hears, SilenceHeard};
+ghost use Rattle.scm_front.specs.Fronts.{HeardBytesFail, BytesHeard, Hears, KeysFail, HeardSilenceFails, SilenceHeard};
 
 use crate::layer::{Front, FrontTurn};
 use scm_record::{Decoder, RecordError, TerminalEvent};
@@ -33,7 +33,7 @@ impl<'state> Front<'state> {
     pub fn hear_all(self, events: &[TerminalEvent]) -> Result<FrontTurn<'state>, RecordError>
         ensures ok { IfOk result (λ turn.
             (calls : List Call) × Hears self.entry events.now calls turn) }
-        ensures err { IfErr result (λ e. FrontFails self.entry e) }
+        ensures err { IfErr result (λ e. KeysFail self.entry events.now e) }
     {
         let mut front = self;
         for event in events {
@@ -60,7 +60,8 @@ impl<'state> Front<'state> {
     ) -> Result<FrontTurn<'state>, RecordError>
         ensures ok { IfOk result (λ turn.
             BytesHeard self.entry decoder.old decoder.new bytes.now turn) }
-        ensures err { IfErr result (λ e. FrontFails self.entry e) }
+        ensures err { IfErr result (λ e.
+            HeardBytesFail self.entry decoder.old decoder.new bytes.now e) }
     {
         let found = decoded(alloc, decoder, bytes)?;
         self.hear_all(found.as_slice())
@@ -75,7 +76,7 @@ impl<'state> Front<'state> {
     /// An error ends the session: the errors are those of [`Front::hear`].
     pub fn idle(self, decoder: &mut Decoder) -> Result<FrontTurn<'state>, RecordError>
         ensures ok { IfOk result (λ turn. SilenceHeard self.entry decoder.old decoder.new turn) }
-        ensures err { IfErr result (λ e. FrontFails self.entry e) }
+        ensures err { IfErr result (λ e. HeardSilenceFails self.entry decoder.old decoder.new e) }
     {
         match decoder.idle() {
             None => Ok(FrontTurn::Waiting(self)),

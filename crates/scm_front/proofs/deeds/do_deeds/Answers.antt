@@ -1,5 +1,4 @@
 use Rattle.std.proofs.Common.{refl, ap}
-use Rattle.std.proofs.lemmas.Result.{err_from_is_err_and}
 use Rattle.scm_record.specs.declared.live.Turn.TheVariants.{Editing, Accepted}
 use Rattle.scm_front.specs.Driving.{turn_of}
 use Rattle.scm_front.proofs.DeedLemmas.{doing-first, doing-on, doing-last, doing-end}
@@ -7,11 +6,6 @@ use Rattle.scm_front.proofs.deeds.do_deeds.Goals as goal
 
 pub loop-deed-init : goal.loop-deed-init
 loop-deed-init c = doing-first _ _
-
-pub returns-in_err-next-clause-err : goal.returns-in_err-next-clause-err
-returns-in_err-next-clause-err c =
-    let p = err_from_is_err_and c.from_residual.result c.from_residual.ensures.1 in
-    rw (p.1, p.2) (c.loop-deed.invariant.fails _ c.in_err-next.ensures.err)
 
 pub loop-deed-preserved : goal.loop-deed-preserved
 loop-deed-preserved c =

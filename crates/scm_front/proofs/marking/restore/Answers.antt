@@ -1,9 +1,9 @@
 use Rattle.std.proofs.Common.{refl, ap}
-use Rattle.std.proofs.lemmas.Result.{IfErr-weaker, IfOk-weaker}
+use Rattle.std.proofs.lemmas.Result.{IfOk-weaker}
 use Rattle.scm_record.specs.declared.live.Turn.TheVariants.{Editing, Accepted}
 use Rattle.scm_front.specs.Driving.{turn_of}
 use Rattle.scm_front.specs.Fronts.{selection_of}
-use Rattle.scm_front.proofs.DeedLemmas.{part-fails, part-leaves, parts-lead}
+use Rattle.scm_front.proofs.DeedLemmas.{part-leaves, parts-lead}
 use Rattle.scm_front.proofs.marking.restore.Goals as goal
 
 pub returns-in-Waiting-clause-ok : goal.returns-in-Waiting-clause-ok
@@ -12,12 +12,6 @@ returns-in-Waiting-clause-ok c =
     parts-lead c.args.session c.in-Waiting.mid c.selection_of-back.result (selection_of c.args.session) (turn_of c.in_ok-turn.turn) (turn_of last)
     c.selection_of-back.ensures (ap turn_of c.in-Waiting.is) c.in_ok-turn.ensures.ok r)
     c.last_part.ensures.ok
-
-pub returns-in-Waiting-clause-err : goal.returns-in-Waiting-clause-err
-returns-in-Waiting-clause-err c =
-    IfErr-weaker c.last_part.result _ _ (λ error h.
-    part-fails c.args.session c.in-Waiting.mid error (turn_of c.in_ok-turn.turn) (ap turn_of c.in-Waiting.is) c.in_ok-turn.ensures.ok h)
-    c.last_part.ensures.err
 
 pub returns-in-Editing-clause-ok : goal.returns-in-Editing-clause-ok
 returns-in-Editing-clause-ok c =

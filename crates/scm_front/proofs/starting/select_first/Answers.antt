@@ -3,6 +3,7 @@ use Rattle.std.proofs.lemmas.Result.{IfOk-weaker}
 use Rattle.scm_record.specs.declared.live.Turn.TheVariants.{Waiting, Editing, Accepted}
 use Rattle.scm_front.specs.Driving.{turn_of}
 use Rattle.scm_front.proofs.BegunLemmas.{leads-from, leads-still}
+use Rattle.scm_front.proofs.StartLemmas.{refolds-same, starts-with}
 use Rattle.scm_front.proofs.starting.select_first.Goals as goal
 
 pub returns-in-Waiting-clause-ok : goal.returns-in-Waiting-clause-ok
@@ -18,3 +19,17 @@ returns-in-Editing-clause-ok c =
 pub returns-in-Accepted-clause-ok : goal.returns-in-Accepted-clause-ok
 returns-in-Accepted-clause-ok c =
     leads-from (turn_of c.args.turn) (Accepted c.in-Accepted.state) (Accepted c.in-Accepted.state) (ap turn_of c.in-Accepted.is) (leads-still (Accepted c.in-Accepted.state))
+
+pub returns-in-Waiting-clause-selected : goal.returns-in-Waiting-clause-selected
+returns-in-Waiting-clause-selected c = λ l h.
+    IfOk-weaker c.select_in.result _ _ (λ last s.
+    starts-with l c.in-Waiting.session c.args.first (turn_of c.args.turn) (turn_of last) (ap turn_of c.in-Waiting.is) h s)
+    c.select_in.ensures.selected
+
+pub returns-in-Editing-clause-selected : goal.returns-in-Editing-clause-selected
+returns-in-Editing-clause-selected c = λ l h.
+    absurd (refolds-same l (turn_of c.args.turn) (Editing c.in-Editing.editing) (ap turn_of c.in-Editing.is) h)
+
+pub returns-in-Accepted-clause-selected : goal.returns-in-Accepted-clause-selected
+returns-in-Accepted-clause-selected c = λ l h.
+    absurd (refolds-same l (turn_of c.args.turn) (Accepted c.in-Accepted.state) (ap turn_of c.in-Accepted.is) h)

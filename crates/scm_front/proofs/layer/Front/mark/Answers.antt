@@ -1,9 +1,7 @@
 use Rattle.std.proofs.Common.{ap, ◌∙◌}
-use Rattle.std.proofs.lemmas.Result.{err_from_is_err_and}
 use Rattle.scm_front.specs.declared.kept.Kept.{Kept}
 use Rattle.scm_front.specs.declared.kept.Notice.TheVariants.{Nothing}
 use Rattle.scm_front.specs.Driving.{turn_of}
-use Rattle.scm_front.specs.Failing.{refused}
 use Rattle.scm_front.specs.Fronts.{selection_of}
 use Rattle.scm_front.specs.Keeping.{saying}
 use Rattle.scm_front.proofs.DoLemmas.{marked, same-round}
@@ -20,8 +18,3 @@ returns-clause-ok c =
     (c.saying.ensures ∙ ap (λ (k : Kept). saying k Nothing) c.anchored-kept.ensures) c.recorded.ensures.keeps c.in_ok-deeds.ensures.ok round
     (range-remembers f.beneath f.kept.anchor turn f.kept.history c.recorded.result.history c.runs_of_range-before.result c.runs_of_range-before.ensures.calm
     c.runs_of_range-before.ensures.taken c.in_ok-deeds.ensures.ok round c.recorded.ensures.history)
-
-pub returns-in_err-deeds-clause-err : goal.returns-in_err-deeds-clause-err
-returns-in_err-deeds-clause-err c =
-    let p = err_from_is_err_and c.from_residual.result c.from_residual.ensures.1 in
-    rw (p.1, p.2) (refused c.in_err-deeds.ensures.err)

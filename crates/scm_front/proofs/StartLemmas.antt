@@ -1,0 +1,153 @@
+-- Deeds, and events that fold all: the session waits after each.
+use Rattle.std.proofs.Common.{◌≡◌, Bool, true, false, ◌&&◌, List, [], ◌∷◌, ◌++◌, Option, Some, None, refl, sym, ap, ◌∙◌, subst}
+use Rattle.std.proofs.lemmas.List.Elements.{All-cons, All-head, All-nil, All-tail}
+use Rattle.std.specs.List.{All}
+use Rattle.std.specs.Prelude.{not, is_some}
+use Rattle.scm_errors.specs.declared.error.RecordError.{RecordError}
+use Rattle.scm_errors.specs.declared.error.RecordError.TheVariants.{OutOfMemory}
+use Rattle.scm_types.specs.declared.keys.SelectionKey.{SelectionKey}
+use Rattle.scm_input.specs.declared.events.Event.{Event}
+use Rattle.scm_input.specs.declared.events.Event.TheVariants as events
+use Rattle.scm_record.specs.Live.{Live}
+use Rattle.scm_record.specs.Jumps.{after_jump, after_selecting}
+use Rattle.scm_record.specs.LiveCalls.{Call, EventFails, EventLeads, Path, press, press_all, resize, say, still}
+use Rattle.scm_record.specs.Typed.{is_waiting}
+use Rattle.scm_record.specs.declared.live.Turn.{Turn}
+use Rattle.scm_record.specs.declared.live.Turn.TheVariants.{Waiting, Editing, Accepted}
+use Rattle.scm_front_items.specs.declared.targets.Deed.{Deed}
+use Rattle.scm_front_items.specs.declared.targets.Deed.TheVariants.{Mark, Fold}
+use Rattle.scm_front_items.specs.Targets.{key_of}
+use Rattle.scm_front.specs.Deeds.{is_due, event_of, DeedDone, DeedsLead, done, skips, does, ends, RoundLeads, returns, leaves}
+use Rattle.scm_front.specs.Presses.{PressesFail, PressesLead, calls_of}
+use Rattle.scm_front.specs.Starting.{AreFolds, IsFold, IsRefolded, Refolds, Starts}
+use Rattle.scm_front.proofs.OutcomeLemmas.{Waits, expand-all, expand-item, folds-via, jump-refolds, memory-alone, one-turn, same-folds, selecting-refolds, toggle-item}
+use Rattle.scm_front.proofs.RangeLemmas.{is-true-left, selected}
+use Rattle.scm_front.proofs.RememberLemmas.{calm-path}
+use Rattle.scm_front.proofs.TurnLemmas.{one-live}
+
+-- ---- a deed
+
+closed-of : {X : Type 0} (dialog : Option X) (has : Bool) → (not (is_some dialog) && has) ≡ true → dialog ≡ None
+closed-of None has e = refl
+closed-of (Some dialog) has e = absurd (cc e)
+
+-- a deed that is due leads to a session that waits
+deed-waits : (l : Live) (deed : Deed) → is_due l deed ≡ true → Waits (after_selecting l (key_of deed)) (event_of deed)
+deed-waits l (Mark t) due =
+    let can = is-true-left _ _ due in
+    subst (λ (x : Live). Waits x events.ToggleItem) (sym (selected l t.key can))
+    (toggle-item (after_jump l t.key) refl (closed-of l.session.shown.quit_dialog _ can))
+deed-waits l (Fold key) due =
+    let c = expand-item (after_jump l key) refl in
+    subst (λ (x : Live). Waits x events.ExpandItem) (sym (selected l key (is-true-left _ _ due))) (c.next, c.leads)
+
+-- and fails for memory alone
+pub deed-memory : (l mid : Live) (deed : Deed) (key : SelectionKey) (event : Event) (error : RecordError) → key ≡ key_of deed → event ≡ event_of deed
+    → mid ≡ after_selecting l key → is_due l deed ≡ true → EventFails mid event error → error ≡ OutOfMemory
+deed-memory l mid deed key event error k v m due h =
+    let w = deed-waits l deed due in
+    let at : mid ≡ after_selecting l (key_of deed) = m ∙ ap (λ (x : SelectionKey). after_selecting l x) k in
+    let same_event = subst (λ (x : Event). EventFails mid x error) v h in
+    memory-alone _ w.0 _ w.1 error (subst (λ (x : Live). EventFails x (event_of deed) error) at same_event)
+
+-- ---- deeds
+
+no-end : (turn : Turn) (next : Live) → turn ≡ Waiting next → is_waiting turn ≡ false → ⊥
+no-end turn next e f = no (subst (λ (t : Turn). is_waiting t ≡ false) e f)
+  where
+    no : true ≡ false → ⊥
+    no q = cc q
+
+never-ends : (l : Live) (deed : Deed) (turn : Turn) → is_due l deed ≡ true → DeedDone l deed turn → is_waiting turn ≡ false → ⊥
+never-ends l deed turn due d e = let w = deed-waits l deed due in no-end turn w.0 (one-turn _ w.0 _ turn w.1 d.event) e
+
+-- the session waits after deeds
+deeds-wait : {l : Live} {deeds : List Deed} {calls : List Call} {turn : Turn} → DeedsLead l deeds calls turn → (next : Live) × (turn ≡ Waiting next)
+deeds-wait (done {l = l}) = (l, refl)
+deeds-wait (skips due later) = deeds-wait later
+deeds-wait (does due d later) = deeds-wait later
+deeds-wait (ends {l = l} {deed = deed} {turn = turn} due d e) = absurd (never-ends l deed turn due d e)
+
+-- ---- folds
+
+refolds-via : (first mid : Live) (turn : Turn) → IsRefolded first mid → Refolds mid turn → Refolds first turn
+refolds-via first mid (Waiting last) e h = folds-via first mid last e h
+refolds-via first mid (Editing a) e h = h
+refolds-via first mid (Accepted state) e h = h
+
+deed-refolds : (l next : Live) (deed : Deed) → IsFold deed → is_due l deed ≡ true → DeedDone l deed (Waiting next) → IsRefolded l next
+deed-refolds l next (Mark t) fold due d = absurd (fold t refl)
+deed-refolds l next (Fold key) fold due d =
+    let same = selected l key (is-true-left _ _ due) in
+    let g = subst (λ (x : Live). EventLeads x events.ExpandItem (Waiting next)) same d.event in
+    let c = expand-item (after_jump l key) refl in
+    let is = one-live (after_jump l key) next c.next events.ExpandItem g c.leads in
+    subst (λ (x : Live). IsRefolded l x) (sym is) (folds-via l (after_jump l key) c.next (jump-refolds l key) c.refolded)
+
+deeds-refold : {l : Live} {deeds : List Deed} {calls : List Call} {turn : Turn} → DeedsLead l deeds calls turn → AreFolds deeds → Refolds l turn
+deeds-refold (done {l = l}) h = same-folds l
+deeds-refold (skips {deed = deed} {deeds = deeds} due later) h = deeds-refold later (All-tail IsFold deed deeds h)
+deeds-refold (does {l = l} {next = next} {deed = deed} {deeds = deeds} {turn = turn} due d later) h =
+    refolds-via l next turn (deed-refolds l next deed (All-head IsFold deed deeds h) due d) (deeds-refold later (All-tail IsFold deed deeds h))
+deeds-refold (ends {l = l} {deed = deed} {turn = turn} due d e) h = absurd (never-ends l deed turn due d e)
+
+pub round-refolds : {l : Live} {deeds : List Deed} {back : SelectionKey} {calls : List Call} {turn : Turn} → RoundLeads l deeds back calls turn
+    → AreFolds deeds → Refolds l turn
+round-refolds (returns {l = l} {mid = mid} {back = back} d j) h = folds-via l mid (after_selecting mid back) (deeds-refold d h) (selecting-refolds mid back)
+round-refolds (leaves {turn = turn} d e) h = let w = deeds-wait d in absurd (no-end turn w.0 w.1 e)
+
+-- ---- events that fold all
+
+abbrev pub IsFlip : Event → Type 0
+IsFlip event = event ≡ events.ExpandAll
+
+all-first : (xs ys : List Event) → All IsFlip (xs ++ ys) → All IsFlip xs
+all-first [] ys h = All-nil IsFlip
+all-first (x ∷ xs) ys h = All-cons IsFlip x xs (All-head IsFlip x (xs ++ ys) h) (all-first xs ys (All-tail IsFlip x (xs ++ ys) h))
+
+all-middle : (xs ys : List Event) (y : Event) → All IsFlip (xs ++ (y ∷ ys)) → IsFlip y
+all-middle [] ys y h = All-head IsFlip y ys h
+all-middle (x ∷ xs) ys y h = all-middle xs ys y (All-tail IsFlip x (xs ++ (y ∷ ys)) h)
+
+path-refolds : (es : List Event) (l : Live) {t u : Turn} {calls : List Call} → Path t calls u → t ≡ Waiting l → calls ≡ calls_of es → All IsFlip es
+    → l.session.pending ≡ [] → Refolds l u
+path-refolds es l still same e all calm = subst (λ (x : Turn). Refolds l x) (sym same) (same-folds l)
+path-refolds [] l (press g p) same e all calm = absurd (cc e)
+path-refolds (x ∷ es) l (press {l = k} {event = event} {turn = turn} {last = last} {calls = more} g p) same e all calm =
+    let is : k ≡ l = cc same in
+    let flip : event ≡ events.ExpandAll = (let first : event ≡ x = cc e in first ∙ All-head IsFlip x es all) in
+    let rest : more ≡ calls_of es = cc e in
+    let c = expand-all l calm in
+    let led = subst (λ (v : Event). EventLeads l v turn) flip (subst (λ (y : Live). EventLeads y event turn) is g) in
+    let waits = one-turn l c.next events.ExpandAll turn c.leads led in
+    refolds-via l c.next last c.refolded (path-refolds es c.next p waits rest (All-tail IsFlip x es all) (c.leads [] [] 0).2)
+path-refolds [] l (press_all g p) same e all calm = absurd (cc e)
+path-refolds (x ∷ es) l (press_all g p) same e all calm = absurd (cc e)
+path-refolds [] l (say g p) same e all calm = absurd (cc e)
+path-refolds (x ∷ es) l (say g p) same e all calm = absurd (cc e)
+path-refolds [] l (resize p) same e all calm = absurd (cc e)
+path-refolds (x ∷ es) l (resize p) same e all calm = absurd (cc e)
+
+pub presses-refold : (l : Live) (list : List Event) (turn : Turn) → l.session.pending ≡ [] → All IsFlip list → PressesLead l list turn → Refolds l turn
+presses-refold l list turn calm all h =
+    path-refolds h.handled l h.path refl refl (all-first h.handled h.dropped (subst (All IsFlip) h.are all)) calm
+
+pub presses-memory : (l : Live) (list : List Event) (error : RecordError) → l.session.pending ≡ [] → All IsFlip list → PressesFail l list error → error ≡ OutOfMemory
+presses-memory l list error calm all h =
+    let flip = all-middle h.handled h.dropped h.event (subst (All IsFlip) h.are all) in
+    let c = expand-all h.last (calm-path h.path calm) in
+    memory-alone h.last c.next events.ExpandAll c.leads error (subst (λ (v : Event). EventFails h.last v error) flip h.fails)
+
+-- ---- the start
+
+pub are-folds : (list deeds : List Deed) → list ≡ deeds → AreFolds deeds → AreFolds list
+are-folds list deeds e h = subst AreFolds (sym e) h
+
+pub refolds-then : (l mid : Live) (turn last : Turn) → turn ≡ Waiting mid → Refolds l turn → Refolds mid last → Refolds l last
+refolds-then l mid turn last e h k = refolds-via l mid last (subst (λ (t : Turn). Refolds l t) e h) k
+
+pub refolds-same : (l : Live) (turn last : Turn) → turn ≡ last → Refolds l turn → Refolds l last
+refolds-same l turn last e h = subst (λ (t : Turn). Refolds l t) e h
+
+pub starts-with : (l mid : Live) (first : SelectionKey) (turn last : Turn) → turn ≡ Waiting mid → Refolds l turn → last ≡ Waiting (after_selecting mid first) → Starts l first last
+starts-with l mid first turn last e h s = record { folded = mid; refolded = refolds-same l turn (Waiting mid) e h; selected = s }
