@@ -11,7 +11,8 @@ use Rattle.scm_terminal.specs.StyledCell.{StyledCell, HasSize}
 use Rattle.scm_terminal.specs.Terminal.{Terminal, Spot, IsOfSize, Command, MoveTo, SetStyle, Put, SetWrap, after_all, bytes_of}
 use Rattle.scm_terminal.proofs.RunLemmas.{Runs-append}
 use Rattle.scm_terminal.proofs.SentLemmas.{length-row}
-use Rattle.scm_record.specs.Painted.{screen_of}
+use Rattle.scm_front_paint.specs.declared.labels.Label.{Label}
+use Rattle.scm_front_paint.specs.Headers.{labelled}
 use Rattle.scm_front_paint.specs.declared.themes.Theme.{Theme}
 use Rattle.scm_front_paint.specs.declared.columns.Columns.{Columns}
 use Rattle.scm_front_paint.specs.Pane.{offset}
@@ -373,9 +374,10 @@ both-written p =
 
 -- ---- the pictures of a front
 
-pub view-whole : (theme : Theme) (words : List (List Columns)) (v : Seen) (accept : List ℕ) → AreWhole (width_of v) (rows_shown v.front.beneath) (view_pictures theme words v accept)
-view-whole theme words v accept = record {
-  session = sideways-size (offset v.pane v.front.beneath) (shown_style theme words v.front.beneath) (screen_of v.front.beneath);
+pub view-whole : (theme : Theme) (words : List (List Columns)) (labels : List Label) (v : Seen) (accept : List ℕ)
+    → AreWhole (width_of v) (rows_shown v.front.beneath) (view_pictures theme words labels v accept)
+view-whole theme words labels v accept = record {
+  session = sideways-size (offset v.pane v.front.beneath) (shown_style theme words v.front.beneath) (labelled labels v.front.beneath);
   status = status-size (width_of v) (rows_shown v.front.beneath) (left_of v.front) (right_of v.front (width_of v) (left_of v.front) (offset v.pane v.front.beneath) accept);
   blank = status-above (width_of v) (rows_shown v.front.beneath) (left_of v.front) (right_of v.front (width_of v) (left_of v.front) (offset v.pane v.front.beneath) accept);
 }

@@ -18,3 +18,7 @@ pub mod ViewLemmas
 pub mod PaintLemmas
 -- the styles of a row
 pub mod ShownLemmas
+-- labels of sections
+pub mod LabelLemmas
+-- headers, and the labels that they show
+pub mod HeaderLemmas

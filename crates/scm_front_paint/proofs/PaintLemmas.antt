@@ -1,10 +1,11 @@
 -- What is painted of a view.
-use Rattle.std.proofs.Common.{◌≡◌, ℕ, zero, suc, ◌+◌, ◌-◌, ◌<◌, ◌≤◌, min, Bool, true, false, List, ◌++◌, length, map, refl, sym, ap, ap₂, ◌∙◌, subst, arith, Option, Some}
+use Rattle.std.proofs.Common.{◌≡◌, ℕ, zero, suc, ◌+◌, ◌-◌, ◌<◌, ◌≤◌, min, Bool, true, false, List, [], ◌∷◌, ◌++◌, length, map, refl, sym, ap, ap₂, ◌∙◌, subst, arith, Option, Some}
 use Rattle.std.specs.Prelude.{if◌then◌else◌}
 use Rattle.std.proofs.lemmas.List.{length-replicate}
 use Rattle.scm_cells.specs.Counts.{no_counts}
 use Rattle.scm_cells.specs.Cell.{Cell}
 use Rattle.scm_cells.specs.Screen.{Screen, IsScreen}
+use Rattle.scm_cells.specs.Symbols.{symbol_at}
 use Rattle.scm_cells.specs.declared.style.Style.{Style}
 use Rattle.scm_render.proofs.PaintLemmas.{length-painted}
 use Rattle.scm_terminal.specs.Promise.{Paints}
@@ -23,7 +24,10 @@ use Rattle.scm_front_paint.specs.declared.painter.FrontPainter.{FrontPainter}
 use Rattle.scm_front_paint.specs.declared.themes.Theme.{Theme}
 use Rattle.scm_front_paint.specs.Blank.{PaintsLast}
 use Rattle.scm_front_paint.specs.Below.{Pictures, PaintsView, known_to, pictures_of, rows_shown, session_picture, shown_style, width_of}
+use Rattle.scm_front_paint.specs.Headers.{AreRows, labelled}
+use Rattle.scm_front_paint.specs.Labels.{symbol_under, symbols_over}
 use Rattle.scm_front_paint.specs.LineValue.{LineValue}
+use Rattle.scm_front_paint.specs.Symbols.{symbols_of}
 use Rattle.scm_front_paint.specs.declared.status.LeftText.{LeftText}
 use Rattle.scm_front_paint.specs.Status.{left_of, right_of, status_picture}
 use Rattle.scm_front_paint.specs.Words.{AreWords}
@@ -33,7 +37,7 @@ use Rattle.scm_front_paint.specs.Seen.{Seen, IsSeen}
 use Rattle.scm_front_paint.specs.Sideways.{sideways_picture}
 use Rattle.scm_front_paint.specs.Capped.{capped}
 use Rattle.scm_front_paint.specs.Cut.{IsCut}
-use Rattle.scm_front_paint.proofs.SidewaysLemmas.{at-zero, cut-picture}
+use Rattle.scm_front_paint.proofs.SidewaysLemmas.{at-zero, cut-picture, same-symbols}
 
 -- ---- the size
 
@@ -75,9 +79,17 @@ rows-below v is h = let e = rows-are v is in omega arith
 
 -- ---- pictures
 
-pub same-sideways : (x : ℕ) (style : ℕ → ℕ → Style) (s t : Screen) → s.width ≡ t.width → s.rows ≡ t.rows → sideways_picture x style s ≡ sideways_picture x style t
-same-sideways x style s t e f =
-    ap₂ (λ (w : ℕ) (rows : List (List Cell)). sideways_picture x style (record { width = w; rows = rows; counts = no_counts })) e f
+-- two screens with the same columns and rows, under the same labels
+pub same-sideways : (x : ℕ) (style : ℕ → ℕ → Style) (labels : List (Option Screen)) (s t : Screen) → s.width ≡ t.width → s.rows ≡ t.rows
+    → sideways_picture x style (symbols_over labels s) ≡ sideways_picture x style (symbols_over labels t)
+same-sideways x style labels s t e f =
+    ap₂ (λ (w : ℕ) (rows : List (List Cell)). sideways_picture x style (symbols_over labels (record { width = w; rows = rows; counts = no_counts }))) e f
+
+-- without labels the symbols are those of the screen
+unlabelled : (x : ℕ) (style : ℕ → ℕ → Style) (s : Screen) (labels : List (Option Screen)) → length labels ≡ 0
+    → sideways_picture x style (symbols_of s) ≡ sideways_picture x style (symbols_over labels s)
+unlabelled x style s [] e = same-symbols x style (symbols_of s) (symbols_over [] s) refl refl (λ row c h k. refl)
+unlabelled x style s (label ∷ labels) e = absurd (omega arith)
 
 -- ---- paints
 
@@ -93,18 +105,18 @@ pub record IsGridOf (grid : Screen) (l : Live) : Type 0 where
   pub width : grid.width ≡ columns_of l.kind
   pub rows : grid.rows ≡ (scene_of l.kind l.session).frame.rows
 
-module _ (style : ℕ → ℕ → Style) (grid : Screen) (l : Live) (x : ℕ) (g : IsGridOf grid l) where
+module _ (style : ℕ → ℕ → Style) (labels : List (Option Screen)) (grid : Screen) (l : Live) (x : ℕ) (g : IsGridOf grid l) where
   -- at 0 the whole grid is painted
-  pub whole-picture : IsScreen grid → x ≡ 0 → picture style grid ≡ sideways_picture x style (screen_of l)
-  whole-picture is e =
-      sym (at-zero style grid is) ∙ same-sideways 0 style grid (screen_of l) g.width g.rows
-      ∙ ap (λ (n : ℕ). sideways_picture n style (screen_of l)) (sym e)
+  pub whole-picture : length labels ≡ 0 → IsScreen grid → x ≡ 0 → picture style grid ≡ sideways_picture x style (symbols_over labels (screen_of l))
+  whole-picture none is e =
+      sym (at-zero style grid is) ∙ unlabelled 0 style grid labels none ∙ same-sideways 0 style labels grid (screen_of l) g.width g.rows
+      ∙ ap (λ (n : ℕ). sideways_picture n style (symbols_over labels (screen_of l))) (sym e)
 
-  pub whole-paints : IsScreen grid → x ≡ 0 → (old : List (List StyledCell)) (bytes : List ℕ) → Paints grid.width old (picture style grid) bytes
-      → Paints (columns_of l.kind - x) old (sideways_picture x style (screen_of l)) bytes
-  whole-paints is e old bytes p =
+  pub whole-paints : length labels ≡ 0 → IsScreen grid → x ≡ 0 → (old : List (List StyledCell)) (bytes : List ℕ) → Paints grid.width old (picture style grid) bytes
+      → Paints (columns_of l.kind - x) old (sideways_picture x style (symbols_over labels (screen_of l))) bytes
+  whole-paints none is e old bytes p =
       let wide : grid.width ≡ columns_of l.kind - x = (let w = g.width in omega arith) in
-      paints-as grid.width (columns_of l.kind - x) old (picture style grid) (sideways_picture x style (screen_of l)) bytes wide (whole-picture is e) p
+      paints-as grid.width (columns_of l.kind - x) old (picture style grid) (sideways_picture x style (symbols_over labels (screen_of l))) bytes wide (whole-picture none is e) p
 
   -- a cut of it
   abbrev pub moved : ℕ → ℕ → Style
@@ -116,13 +128,13 @@ module _ (style : ℕ → ℕ → Style) (grid : Screen) (l : Live) (x : ℕ) (g
       let w = g.width in
       ap (λ (n : ℕ). style r n) (let e : capped (c + x) ≡ x + c = omega arith in e)
 
-  pub part-picture : (cut : Screen) → IsCut cut grid x → picture moved cut ≡ sideways_picture x style (screen_of l)
-  part-picture cut is = cut-picture style moved cut grid x moved-is is ∙ same-sideways x style grid (screen_of l) g.width g.rows
+  pub part-picture : (cut : Screen) → IsCut cut (symbols_over labels grid) x → picture moved cut ≡ sideways_picture x style (symbols_over labels (screen_of l))
+  part-picture cut is = cut-picture style moved cut (symbols_over labels grid) x moved-is is ∙ same-sideways x style labels grid (screen_of l) g.width g.rows
 
-  pub part-paints : (cut : Screen) → IsCut cut grid x → (old : List (List StyledCell)) (bytes : List ℕ) → Paints cut.width old (picture moved cut) bytes
-      → Paints (columns_of l.kind - x) old (sideways_picture x style (screen_of l)) bytes
+  pub part-paints : (cut : Screen) → IsCut cut (symbols_over labels grid) x → (old : List (List StyledCell)) (bytes : List ℕ) → Paints cut.width old (picture moved cut) bytes
+      → Paints (columns_of l.kind - x) old (sideways_picture x style (symbols_over labels (screen_of l))) bytes
   part-paints cut is old bytes p =
-      paints-as cut.width (columns_of l.kind - x) old (picture moved cut) (sideways_picture x style (screen_of l)) bytes
+      paints-as cut.width (columns_of l.kind - x) old (picture moved cut) (sideways_picture x style (symbols_over labels (screen_of l))) bytes
       (is.width ∙ ap (λ (n : ℕ). n - x) g.width) (part-picture cut is) p
 
 -- ---- a view
@@ -142,23 +154,31 @@ abbrev pictures : List (List StyledCell) → List (List StyledCell) → Pictures
 pictures s t = record { session = s; status = t }
 
 module _ (old kept new : FrontPainter) (v : Seen) (accept bytes first second : List ℕ) (l : Live) (w h x : ℕ) (theme : Theme)
-    (slice items : List (Option LineValue)) (left : LeftText) (right : List ℕ) where
+    (slice items : List (Option LineValue)) (labels rows : List (Option Screen)) (left : LeftText) (right : List ℕ) where
   abbrev painted_rows : List (List StyledCell)
-  painted_rows = sideways_picture x (shown_style theme (map columns_in slice) l) (screen_of l)
+  painted_rows = sideways_picture x (shown_style theme (map columns_in slice) l) (symbols_over labels (screen_of l))
+
+  -- the labels are those that the rows show
+  labels-are : labels ≡ rows → AreRows old.labels l rows → painted_rows ≡ sideways_picture x (shown_style theme (map columns_in slice) l) (labelled old.labels l)
+  labels-are e are =
+      ap (λ (list : List (Option Screen)). sideways_picture x (shown_style theme (map columns_in slice) l) (symbols_over list (screen_of l))) e
+      ∙ same-symbols x (shown_style theme (map columns_in slice) l) (symbols_over rows (screen_of l)) (labelled old.labels l) refl refl
+      (λ row c h k. ap (λ (o : Option Screen). symbol_under (columns_of l.kind) o c (symbol_at (screen_of l).rows row c)) (are row h))
 
   -- what the code painted is the picture of the view
   pub paints-view : l ≡ v.front.beneath → w ≡ width_of v → h ≡ rows_shown v.front.beneath → x ≡ offset v.pane v.front.beneath
-      → theme ≡ old.theme → slice ≡ items → AreWords l (map columns_in items) → left ≡ left_of v.front → right ≡ right_of v.front w left x accept
+      → theme ≡ old.theme → slice ≡ items → AreWords l (map columns_in items) → labels ≡ rows → AreRows old.labels l rows → left ≡ left_of v.front → right ≡ right_of v.front w left x accept
       → pictures_of kept ≡ known_to old w h → PaintsLast w kept.status (status_picture w h left right) first
       → Paints (columns_of l.kind - x) kept.session.painter painted_rows second → bytes ≡ first ++ second
-      → new.status ≡ status_picture w h left right → new.session.painter ≡ painted_rows → new.size ≡ Some (w, h) → new.theme ≡ theme
+      → new.status ≡ status_picture w h left right → new.session.painter ≡ painted_rows → new.size ≡ Some (w, h) → new.theme ≡ theme → new.labels ≡ old.labels
       → PaintsView old new v accept bytes
-  paints-view le we he xe te se are left_is right_is known_is first_paints second_paints written status_new session_new sized themed =
-      let rows : painted_rows ≡ session_picture old.theme (map columns_in items) v =
-      ap (λ (n : ℕ). sideways_picture n (shown_style theme (map columns_in slice) l) (screen_of l)) xe
-      ∙ ap (λ (t : Theme). sideways_picture (offset v.pane v.front.beneath) (shown_style t (map columns_in slice) l) (screen_of l)) te
-      ∙ ap (λ (s : List (Option LineValue)). sideways_picture (offset v.pane v.front.beneath) (shown_style old.theme (map columns_in s) l) (screen_of l)) se
-      ∙ ap (λ (m : Live). sideways_picture (offset v.pane v.front.beneath) (shown_style old.theme (map columns_in items) m) (screen_of m)) le in
+  paints-view le we he xe te se are labels_are label_rows left_is right_is known_is first_paints second_paints written status_new session_new sized themed kept_labels =
+      let rows_are : painted_rows ≡ session_picture old.theme (map columns_in items) old.labels v =
+      labels-are labels_are label_rows
+      ∙ ap (λ (n : ℕ). sideways_picture n (shown_style theme (map columns_in slice) l) (labelled old.labels l)) xe
+      ∙ ap (λ (t : Theme). sideways_picture (offset v.pane v.front.beneath) (shown_style t (map columns_in slice) l) (labelled old.labels l)) te
+      ∙ ap (λ (s : List (Option LineValue)). sideways_picture (offset v.pane v.front.beneath) (shown_style old.theme (map columns_in s) l) (labelled old.labels l)) se
+      ∙ ap (λ (m : Live). sideways_picture (offset v.pane v.front.beneath) (shown_style old.theme (map columns_in items) m) (labelled old.labels m)) le in
       let row :
       status_picture w h left right
       ≡ status_picture (width_of v) (rows_shown v.front.beneath) (left_of v.front)
@@ -182,9 +202,10 @@ module _ (old kept new : FrontPainter) (v : Seen) (accept bytes first second : L
               last-from w (width_of v) kept.status _ (status_picture w h left right) _ first we (ap (λ (p : Pictures). p.status) known) row first_paints;
           session =
               paints-from (columns_of l.kind - x) (width_of v) kept.session.painter _ painted_rows _ second
-              wide (ap (λ (p : Pictures). p.session) known) rows second_paints;
+              wide (ap (λ (p : Pictures). p.session) known) rows_are second_paints;
         };
-        painted = ap₂ (λ (s t : List (List StyledCell)). pictures s t) (session_new ∙ rows) (status_new ∙ row);
+        painted = ap₂ (λ (s t : List (List StyledCell)). pictures s t) (session_new ∙ rows_are) (status_new ∙ row);
         sized = sized ∙ ap₂ (λ (a b : ℕ). Some (a, b)) we he;
         same = themed ∙ te;
+        same_labels = kept_labels;
       }

@@ -16,7 +16,8 @@ use Rattle.scm_cells.specs.Screen.{Screen, IsScreen}
 use Rattle.scm_cells.specs.Symbols.{symbol_at, symbol_in}
 use Rattle.scm_cells.specs.declared.style.Style.{Style}
 use Rattle.scm_terminal.specs.StyledCell.{StyledCell, First, Later, cell_of, cell_at, styled_row, picture, laters, HasSize}
-use Rattle.scm_front_paint.specs.Sideways.{with_blank_front, sideways_row_of, sideways_picture}
+use Rattle.scm_front_paint.specs.Symbols.{Symbols, symbols_of}
+use Rattle.scm_front_paint.specs.Sideways.{with_blank_front, styled_symbols, sideways_row, sideways_row_of, sideways_picture}
 use Rattle.scm_front_paint.specs.Cut.{IsLead, IsCutRow, IsCut, cut_symbol}
 
 -- the numbers from 0 on
@@ -55,21 +56,24 @@ laters-are (Later ∷ cells) (suc lead) h none next =
 laters-are (First symbol own ∷ cells) zero h none next = refl
 laters-are (First symbol own ∷ cells) (suc lead) h none next = let n = none 0 (omega arith) in absurd (cc n)
 
-module _ (style : ℕ → ℕ → Style) (s : Screen) (x row : ℕ) where
+module _ (style : ℕ → ℕ → Style) (s : Symbols) (x row : ℕ) where
+  abbrev cell_of_column : ℕ → StyledCell
+  cell_of_column column = cell_of (s.at row column) (style row column)
+
   abbrev columns : List StyledCell
-  columns = drop x (styled_row style s row)
+  columns = drop x (styled_symbols style s row)
 
   length-columns : length columns ≡ s.width - x
   length-columns =
-      length-drop x (styled_row style s row)
-      ∙ ap (λ (n : ℕ). n - x) (length-map (range_with_len 0 s.width) (cell_at style s row) ∙ length-range_with_len 0 s.width)
+      length-drop x (styled_symbols style s row)
+      ∙ ap (λ (n : ℕ). n - x) (length-map (range_with_len 0 s.width) cell_of_column ∙ length-range_with_len 0 s.width)
 
-  column-is : (c : ℕ) → c < s.width - x → get_or columns c Later ≡ cell_at style s row (x + c)
+  column-is : (c : ℕ) → c < s.width - x → get_or columns c Later ≡ cell_of_column (x + c)
   column-is c h =
       let inside : x + c < length (range_with_len 0 s.width) = subst (λ (n : ℕ). x + c < n) (sym (length-range_with_len 0 s.width)) (omega arith) in
-      get_or-drop x (styled_row style s row) c Later
-      ∙ get_or-map (cell_at style s row) (range_with_len 0 s.width) (x + c) 0 Later inside
-      ∙ ap (cell_at style s row) (in-range s.width (x + c) (omega arith))
+      get_or-drop x (styled_symbols style s row) c Later
+      ∙ get_or-map cell_of_column (range_with_len 0 s.width) (x + c) 0 Later inside
+      ∙ ap cell_of_column (in-range s.width (x + c) (omega arith))
 
   module _ (lead : ℕ) (is : IsLead s x row lead) (few : lead ≤ s.width - x) where
     laters-lead : laters columns ≡ lead
@@ -85,11 +89,11 @@ module _ (style : ℕ → ℕ → Style) (s : Screen) (x row : ℕ) where
     cut-column c h = elim (cases_lt c lead) [
       | inl below ↦
           let test : nat_lt c lead ≡ true = grind (arith, nat_tests) in
-          ap (λ (b : Bool). cell_of (if b then Some (32 ∷ []) else symbol_at s.rows row (x + c)) (style row (x + c))) test
+          ap (λ (b : Bool). cell_of (if b then Some (32 ∷ []) else s.at row (x + c)) (style row (x + c))) test
           ∙ sym (front-below (style row) x columns c (subst (λ (n : ℕ). c < n) (sym laters-lead) below))
       | inr past ↦
           let test : nat_lt c lead ≡ false = grind (arith, nat_tests) in
-          ap (λ (b : Bool). cell_of (if b then Some (32 ∷ []) else symbol_at s.rows row (x + c)) (style row (x + c))) test
+          ap (λ (b : Bool). cell_of (if b then Some (32 ∷ []) else s.at row (x + c)) (style row (x + c))) test
           ∙ sym (front-past (style row) x columns c (subst (λ (n : ℕ). n ≤ c) (sym laters-lead) past) ∙ column-is c h)
     ]
 
@@ -111,28 +115,28 @@ module _ (style : ℕ → ℕ → Style) (s : Screen) (x row : ℕ) where
       ∙ ap (λ (o : Option (List ℕ)). cell_of o (style row (x + c))) (is.symbols c below)
       ∙ cut-column is.lead is.is_lead is.few c below)
 
-map-range : (f g : ℕ → List StyledCell) (n : ℕ) → ((k : ℕ) → k < n → f k ≡ g k) → map f (range_with_len 0 n) ≡ map g (range_with_len 0 n)
-map-range f g n same =
+map-range : {X : Type 0} (d : X) (f g : ℕ → X) (n : ℕ) → ((k : ℕ) → k < n → f k ≡ g k) → map f (range_with_len 0 n) ≡ map g (range_with_len 0 n)
+map-range d f g n same =
     let range = range_with_len 0 n in
-    ext_get_or [] (map f range) (map g range) (length-map range f ∙ sym (length-map range g)) (λ k h.
+    ext_get_or d (map f range) (map g range) (length-map range f ∙ sym (length-map range g)) (λ k h.
     let inside : k < length range = subst (λ (m : ℕ). k < m) (length-map range f) h in
     let below : k < n = subst (λ (m : ℕ). k < m) (length-range_with_len 0 n) inside in
     let at : get_or range k 0 ≡ k = in-range n k below in
-    get_or-map f range k 0 [] inside ∙ ap f at ∙ same k below ∙ sym (get_or-map g range k 0 [] inside ∙ ap g at))
+    get_or-map f range k 0 d inside ∙ ap f at ∙ same k below ∙ sym (get_or-map g range k 0 d inside ∙ ap g at))
 
 -- the picture of the cut
-pub cut-picture : (style moved : ℕ → ℕ → Style) (cut s : Screen) (x : ℕ) → ((r c : ℕ) → c < s.width - x → moved r c ≡ style r (x + c)) → IsCut cut s x
+pub cut-picture : (style moved : ℕ → ℕ → Style) (cut : Screen) (s : Symbols) (x : ℕ) → ((r c : ℕ) → c < s.width - x → moved r c ≡ style r (x + c)) → IsCut cut s x
     → picture moved cut ≡ sideways_picture x style s
 cut-picture style moved cut s x same is =
     ap (λ (n : ℕ). map (styled_row moved cut) (range_with_len 0 n)) is.height
-    ∙ map-range (styled_row moved cut) (sideways_row_of x style s) (length s.rows) (λ row h. cut-row style s x row moved (same row) cut is.width (is.rows row h))
+    ∙ map-range [] (styled_row moved cut) (sideways_row_of x style s) s.height (λ row h. cut-row style s x row moved (same row) cut is.width (is.rows row h))
 
 -- its size
-pub sideways-size : (x : ℕ) (style : ℕ → ℕ → Style) (s : Screen) → HasSize (s.width - x) (length s.rows) (sideways_picture x style s)
+pub sideways-size : (x : ℕ) (style : ℕ → ℕ → Style) (s : Symbols) → HasSize (s.width - x) s.height (sideways_picture x style s)
 sideways-size x style s =
-    let range = range_with_len 0 (length s.rows) in
+    let range = range_with_len 0 s.height in
     record {
-      high = length-map range (sideways_row_of x style s) ∙ length-range_with_len 0 (length s.rows);
+      high = length-map range (sideways_row_of x style s) ∙ length-range_with_len 0 s.height;
       all_wide = All-from_get_or (λ (row : List StyledCell). length row ≡ s.width - x) (sideways_picture x style s) [] (λ k h.
           let inside : k < length range = subst (λ (n : ℕ). k < n) (length-map range (sideways_row_of x style s)) h in
           ap length (get_or-map (sideways_row_of x style s) range k 0 [] inside) ∙ length-sideways style s x (get_or range k 0));
@@ -150,8 +154,8 @@ unfolding cells_of
 first-of [] row e h = absurd (let n = ap length e in omega arith)
 first-of (c ∷ cs) row e h = (c.0, ap (λ (cells : List Cell). symbol_in cells 0) e)
 
-pub at-zero : (style : ℕ → ℕ → Style) (s : Screen) → IsScreen s → sideways_picture 0 style s ≡ picture style s
-at-zero style s is = map-range (sideways_row_of 0 style s) (styled_row style s) (length s.rows) (λ row h. whole-front (style row) 0 (styled_row style s row) (begins row h))
+pub at-zero : (style : ℕ → ℕ → Style) (s : Screen) → IsScreen s → sideways_picture 0 style (symbols_of s) ≡ picture style s
+at-zero style s is = map-range [] (sideways_row_of 0 style (symbols_of s)) (styled_row style s) (length s.rows) (λ row h. whole-front (style row) 0 (styled_row style s row) (begins row h))
   where
     at-row : (row : ℕ) → row < length s.rows → slice_get s.rows row ≡ Some (get_or s.rows row [])
     at-row row h = slice_get-get_or s.rows row [] h
@@ -159,14 +163,28 @@ at-zero style s is = map-range (sideways_row_of 0 style s) (styled_row style s) 
     begins : (row : ℕ) → row < length s.rows → laters (styled_row style s row) ≡ 0
     begins row h =
         laters-are (styled_row style s row) 0 (omega arith) (λ c none. absurd (omega arith)) (λ below.
-        let wide : 0 < s.width = subst (λ (n : ℕ). 0 < n) (length-columns style s 0 row ∙ (let e : s.width - 0 ≡ s.width = omega arith in e)) below in
+        let wide : 0 < s.width = subst (λ (n : ℕ). 0 < n) (length-columns style (symbols_of s) 0 row ∙ (let e : s.width - 0 ≡ s.width = omega arith in e)) below in
         let whole = All-get_or IsWhole s.rows row [] h is.symbols in
         let long = All-get_or (λ (r : List Cell). length r ≡ s.width) s.rows row [] h is.columns in
         let first = first-of whole.symbols (get_or s.rows row []) whole.cells (subst (λ (n : ℕ). 0 < n) (sym long) wide) in (
           first.0,
           (
             style row 0,
-            column-is style s 0 row 0 (omega arith)
+            column-is style (symbols_of s) 0 row 0 (omega arith)
                 ∙ ap (λ (o : Option (List ℕ)). cell_of o (style row 0)) (ap (λ (o : Option (List Cell)). option_and_then (λ (cells : List Cell). symbol_in cells 0) o) (at-row row h) ∙ first.1),
           ),
         ))
+
+-- ---- symbols that are the same at each place
+
+pub same-symbols : (x : ℕ) (style : ℕ → ℕ → Style) (s t : Symbols) → s.width ≡ t.width → s.height ≡ t.height
+    → ((row c : ℕ) → row < s.height → c < s.width → s.at row c ≡ t.at row c) → sideways_picture x style s ≡ sideways_picture x style t
+same-symbols x style s t wide high same =
+    map-range [] (sideways_row_of x style s) (sideways_row_of x style t) s.height (λ row h. ap (λ (cells : List StyledCell). sideways_row (style row) x cells) (same-row row h))
+    ∙ ap (λ (n : ℕ). map (sideways_row_of x style t) (range_with_len 0 n)) high
+  where
+    same-row : (row : ℕ) → row < s.height → styled_symbols style s row ≡ styled_symbols style t row
+    same-row row h =
+        map-range Later (λ (c : ℕ). cell_of (s.at row c) (style row c)) (λ (c : ℕ). cell_of (t.at row c) (style row c)) s.width
+        (λ c below. ap (λ (o : Option (List ℕ)). cell_of o (style row c)) (same row c h below))
+        ∙ ap (λ (n : ℕ). map (λ (c : ℕ). cell_of (t.at row c) (style row c)) (range_with_len 0 n)) wide

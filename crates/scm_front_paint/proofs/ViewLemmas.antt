@@ -1,5 +1,5 @@
 -- What views do.
-use Rattle.std.proofs.Common.{◌≡◌, ℕ, ◌+◌, ◌<◌, ◌≤◌, Bool, true, false, List, [], ◌∷◌, ◌++◌, length, drop, get_or, sym, ap, ap₂, ◌∙◌, subst, arith}
+use Rattle.std.proofs.Common.{◌≡◌, ℕ, ◌+◌, ◌<◌, ◌≤◌, Bool, true, false, List, [], ◌∷◌, ◌++◌, length, drop, get_or, refl, sym, ap, ap₂, ◌∙◌, subst, arith}
 use Rattle.std.proofs.lemmas.Bool.Decides.{nat_tests}
 use Rattle.std.proofs.lemmas.List.{drop_all, drop_more}
 use Rattle.scm_errors.specs.declared.error.RecordError.{RecordError}
@@ -17,8 +17,7 @@ use Rattle.scm_front.specs.declared.layer.Front.{Front}
 use Rattle.scm_front.specs.declared.layer.FrontEditing.{FrontEditing}
 use Rattle.scm_front.specs.declared.layer.FrontTurn.{FrontTurn}
 use Rattle.scm_front.specs.declared.layer.FrontTurn.TheVariants as fronts
-use Rattle.scm_front.specs.Fronts.{FrontFails, beneath_of, front_of}
-use Rattle.scm_front.specs.Failing.{refused as front_refused, failed as front_failed}
+use Rattle.scm_front.specs.Fronts.{beneath_of, front_of}
 use Rattle.scm_front.proofs.FrontLemmas.{hears-path}
 use Rattle.scm_front_paint.specs.declared.pane.Pane.{Pane}
 use Rattle.scm_front_paint.specs.declared.pane.Heard.{Heard}
@@ -27,7 +26,7 @@ use Rattle.scm_front_paint.specs.declared.view.ViewTurn.{ViewTurn}
 use Rattle.scm_front_paint.specs.declared.view.ViewTurn.TheVariants.{Waiting, Editing, Accepted}
 use Rattle.scm_front_paint.specs.Pane.{kind_for, with_x}
 use Rattle.scm_front_paint.specs.Seen.{Seen, SeenEditing, IsSeen, seen}
-use Rattle.scm_front_paint.specs.Views.{IsFitted, fits, drawn, IsShown, waits, edits, accepts, IsHanded, ViewDoes, shows, hands, ViewHears, no_more, ends, goes_on, waits_on, heard_by, ViewFails, refused, failed, ViewSays, ViewSayFails, say_failed, is_kind, ViewInput, ViewPath, at_end, by_hearing, by_answer, by_size, LeadsBy, front_turn}
+use Rattle.scm_front_paint.specs.Views.{IsFitted, fits, drawn, IsShown, waits, edits, accepts, IsHanded, ViewDoes, shows, hands, ViewHears, no_more, ends, goes_on, waits_on, heard_by, HandFails, HeardFails, failed, ViewFails, ViewSays, ViewSayFails, say_failed, is_kind, ViewInput, ViewPath, at_end, by_hearing, by_answer, by_size, LeadsBy, front_turn}
 
 -- ---- calls of the session beneath
 
@@ -78,20 +77,36 @@ view-leads d = let c = view-calls d in record { calls = c.calls; path = c.path }
 
 -- ---- errors
 
-pub front-fails : (v : Seen) (error : RecordError) → FrontFails v.front error → ViewFails v error
-front-fails v error (front_refused e) = refused e
-front-fails v error (front_failed calls last event path fails) = failed calls last event path fails
+fails-here : (v : Seen) (event : TerminalEvent) (rest : List TerminalEvent) (error : RecordError) → HeardFails v (heard_by v event) error
+    → ViewFails v (event ∷ rest) error
+fails-here v event rest error h = record {
+  heard_first = [];
+  event = event;
+  dropped = rest;
+  are = refl;
+  last = v;
+  hears = no_more;
+  fails = h;
+}
 
-fails-later : (now next : Seen) (error : RecordError) → Calls (turns.Waiting now.front.beneath) (turns.Waiting next.front.beneath) → ViewFails next error → ViewFails now error
-fails-later now next error c (refused e) = refused e
-fails-later now next error c (failed calls last event path fails) = failed (c.calls ++ calls) last event (path-after c.path path) fails
+fails-next : (v next : Seen) (event : TerminalEvent) (rest : List TerminalEvent) (error : RecordError) → ViewDoes v (heard_by v event) (Waiting next)
+    → ViewFails next rest error → ViewFails v (event ∷ rest) error
+fails-next v next event rest error does h = record {
+  heard_first = event ∷ h.heard_first;
+  event = h.event;
+  dropped = h.dropped;
+  are = ap (λ (list : List TerminalEvent). event ∷ list) h.are;
+  last = h.last;
+  hears = goes_on does h.hears;
+  fails = h.fails;
+}
 
 -- ---- events one after another
 
 -- what comes of the events that are left comes of all
 pub record Hearing (first : Seen) (all : List TerminalEvent) (now : Seen) (left : List TerminalEvent) : Type 0 where
   pub leads : (turn : ViewTurn) → ViewHears now left turn → ViewHears first all turn
-  pub fails : (error : RecordError) → ViewFails now error → ViewFails first error
+  pub fails : (error : RecordError) → ViewFails now left error → ViewFails first all error
 
 pub hearing-first : (v : Seen) (all : List TerminalEvent) → Hearing v all v all
 hearing-first v all = record { leads = λ turn h. h; fails = λ error e. e }
@@ -104,8 +119,11 @@ module _ (first now : Seen) (all : List TerminalEvent) (i : ℕ) (d : TerminalEv
   hearing-next : (next : Seen) → ViewDoes now (heard_by now (get_or all i d)) (Waiting next) → Hearing first all next (drop (i + 1) all)
   hearing-next next does = record {
     leads = λ turn h. g.leads turn (subst (λ (list : List TerminalEvent). ViewHears now list turn) (sym left) (goes_on does h));
-    fails = λ error e. g.fails error (fails-later now next error (does-calls does) e);
+    fails = λ error e. g.fails error (subst (λ (list : List TerminalEvent). ViewFails now list error) (sym left) (fails-next now next _ _ error does e));
   }
+
+  pub hearing-wrong : (error : RecordError) → HeardFails now (heard_by now (get_or all i d)) error → ViewFails first all error
+  hearing-wrong error h = g.fails error (subst (λ (list : List TerminalEvent). ViewFails now list error) (sym left) (fails-here now _ _ error h))
 
   pub hearing-on : (turn : ViewTurn) (next : Seen) → turn ≡ Waiting next → ViewDoes now (heard_by now (get_or all i d)) turn → Hearing first all next (drop (i + 1) all)
   hearing-on turn next e does = hearing-next next (subst (λ (t : ViewTurn). ViewDoes now (heard_by now (get_or all i d)) t) e does)
@@ -171,8 +189,9 @@ pub hands-at : (inside v : Seen) (heard : Heard) (event : TerminalEvent) (turn :
 hands-at inside v heard event turn e h g =
     subst (λ (w : Seen). ViewDoes w heard turn) e (subst (λ (m : Heard). ViewDoes inside m turn) (sym h) (hands g))
 
-pub fails-at : (inside v : Seen) (error : RecordError) → inside ≡ v → FrontFails inside.front error → ViewFails v error
-fails-at inside v error e g = subst (λ (w : Seen). ViewFails w error) e (front-fails inside error g)
+pub fails-at : (inside v : Seen) (heard : Heard) (event : TerminalEvent) (error : RecordError) → inside ≡ v → heard ≡ Hand event
+    → HandFails inside.front event error → HeardFails v heard error
+fails-at inside v heard event error e h g = subst (λ (w : Seen). HeardFails w heard error) e (failed event h g)
 
 pub says-at : (inside v : SeenEditing) (text : List ℕ) (middle : FrontTurn) (turn : ViewTurn) → inside ≡ v
     → MessageLeads inside.beneath.beneath text (beneath_of middle) → middle ≡ front_of (beneath_of middle) inside.beneath.query inside.beneath.kept

@@ -8,11 +8,13 @@ use Rattle.scm_terminal.specs.StyledCell.{StyledCell, HasSize}
 use Rattle.scm_terminal.specs.Terminal.{Terminal, IsOfSize, Command, after_all}
 use Rattle.scm_record.specs.Live.{Live}
 use Rattle.scm_record.specs.Frames.{columns_of, scene_of}
-use Rattle.scm_record.specs.Painted.{screen_of, style_at}
+use Rattle.scm_record.specs.Painted.{style_at}
 use Rattle.scm_front_paint.specs.declared.painter.FrontPainter.{FrontPainter}
+use Rattle.scm_front_paint.specs.declared.labels.Label.{Label}
 use Rattle.scm_front_paint.specs.declared.themes.Theme.{Theme}
 use Rattle.scm_front_paint.specs.declared.columns.Columns.{Columns}
 use Rattle.scm_front_paint.specs.Blank.{PaintsLast, blank_cells}
+use Rattle.scm_front_paint.specs.Headers.{labelled}
 use Rattle.scm_front_paint.specs.Pane.{offset}
 use Rattle.scm_front_paint.specs.Seen.{Seen}
 use Rattle.scm_front_paint.specs.Sideways.{sideways_picture}
@@ -46,15 +48,15 @@ abbrev pub shown_style : Theme → List (List Columns) → Live → ℕ → ℕ 
 shown_style theme words l row column =
     themed theme (with_words (slice_index_or words row []) column (style_at l row column))
 
--- what the terminal shows of the session: the columns of its screen from the offset on
-abbrev pub session_picture : Theme → List (List Columns) → Seen → List (List StyledCell)
-session_picture theme words v =
-    sideways_picture (offset v.pane v.front.beneath) (shown_style theme words v.front.beneath) (screen_of v.front.beneath)
+-- what the terminal shows of the session: the columns of its screen from the offset on, with labels in its headers
+abbrev pub session_picture : Theme → List (List Columns) → List Label → Seen → List (List StyledCell)
+session_picture theme words labels v =
+    sideways_picture (offset v.pane v.front.beneath) (shown_style theme words v.front.beneath) (labelled labels v.front.beneath)
 
 -- the pictures of a view, whose status row says what accepting does by the text `accept`
-abbrev pub view_pictures : Theme → List (List Columns) → Seen → List ℕ → Pictures
-view_pictures theme words v accept = record {
-  session = session_picture theme words v;
+abbrev pub view_pictures : Theme → List (List Columns) → List Label → Seen → List ℕ → Pictures
+view_pictures theme words labels v accept = record {
+  session = session_picture theme words labels v;
   status =
       status_picture (width_of v) (rows_shown v.front.beneath) (left_of v.front) (right_of v.front (width_of v) (left_of v.front) (offset v.pane v.front.beneath) accept);
 }
@@ -86,10 +88,11 @@ pub record PaintsView (old new : FrontPainter) (v : Seen) (accept bytes : List �
   pub words : List (List Columns)
   pub are_words : AreWords v.front.beneath words
   pub paints :
-      PaintsBoth (width_of v) (known_to old (width_of v) (rows_shown v.front.beneath)) (view_pictures old.theme words v accept) bytes
-  pub painted : pictures_of new ≡ view_pictures old.theme words v accept
+      PaintsBoth (width_of v) (known_to old (width_of v) (rows_shown v.front.beneath)) (view_pictures old.theme words old.labels v accept) bytes
+  pub painted : pictures_of new ≡ view_pictures old.theme words old.labels v accept
   pub sized : new.size ≡ Some (width_of v, rows_shown v.front.beneath)
   pub same : new.theme ≡ old.theme
+  pub same_labels : new.labels ≡ old.labels
 
 -- ---- what a terminal shows
 

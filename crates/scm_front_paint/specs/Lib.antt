@@ -2,7 +2,9 @@
 pub mod Capped
 -- a view sideways, of a session that is wider than the terminal
 pub mod Sideways
--- a grid that has the columns of another from a column on
+-- the symbols of a screen, by their places
+pub mod Symbols
+-- a grid that has the columns of a screen from a column on
 pub mod Cut
 -- what becomes of a style when it is painted
 pub mod Themes
@@ -12,6 +14,12 @@ pub mod Words
 pub mod LineValue
 -- what the code's values of words represent
 pub mod WordsView
+-- labels of sections, in place of their numbers
+pub mod Labels
+-- headers of a session's screen, and the labels that they show
+pub mod Headers
+-- the symbols of the code's source of a cut
+pub mod Source
 -- where a terminal stands over a session, and the keys that move it sideways
 pub mod Pane
 -- the values of views

@@ -1,16 +1,15 @@
 -- Views: a front on a terminal with a status row, from a column of the window on.
-use Rattle.std.specs.Prelude.{◌≡◌, ℕ, nat_eq, Bool, true, false, not, ◌&&◌, List, [], ◌∷◌, Option, option_to_list}
+use Rattle.std.specs.Prelude.{◌≡◌, ℕ, nat_eq, Bool, true, false, not, ◌&&◌, List, [], ◌∷◌, ◌++◌, Option, Some, option_to_list}
 use Rattle.scm_errors.specs.declared.error.RecordError.{RecordError}
 use Rattle.scm_errors.specs.declared.error.RecordError.TheVariants.{OutOfMemory}
 use Rattle.scm_types.specs.declared.state.RecordState.{RecordState}
-use Rattle.scm_input.specs.declared.events.Event.{Event}
 use Rattle.scm_input.specs.declared.inputs.TerminalKind.{TerminalKind}
 use Rattle.scm_input.specs.declared.inputs.TerminalKind.TheVariants.{Testing}
 use Rattle.scm_input.specs.declared.terminal.TerminalEvent.{TerminalEvent}
 use Rattle.scm_terminal.specs.declared.decoder.Decoder.{Decoder}
 use Rattle.scm_terminal.specs.Decoders.{Adds}
-use Rattle.scm_record.specs.Live.{Live, on_screen}
-use Rattle.scm_record.specs.LiveCalls.{Call, Path, EventFails, MessageFails, MessageLeads}
+use Rattle.scm_record.specs.Live.{on_screen}
+use Rattle.scm_record.specs.LiveCalls.{Call, Path, MessageFails, MessageLeads}
 use Rattle.scm_record.specs.Typed.{SilenceMeans}
 use Rattle.scm_record.specs.declared.live.Turn.TheVariants as turns
 use Rattle.scm_front.specs.declared.layer.Front.{Front}
@@ -18,7 +17,7 @@ use Rattle.scm_front.specs.declared.layer.FrontEditing.{FrontEditing}
 use Rattle.scm_front.specs.declared.layer.FrontTurn.{FrontTurn}
 use Rattle.scm_front.specs.declared.layer.FrontTurn.TheVariants as fronts
 use Rattle.scm_front.specs.Actions.{has_key}
-use Rattle.scm_front.specs.Fronts.{Hears, beneath_of, front_of}
+use Rattle.scm_front.specs.Fronts.{Hears, KeysFail, beneath_of, front_of}
 use Rattle.scm_front_paint.specs.declared.pane.Pane.{Pane}
 use Rattle.scm_front_paint.specs.declared.pane.Heard.{Heard}
 use Rattle.scm_front_paint.specs.declared.pane.Heard.TheVariants.{Show, Hand}
@@ -102,11 +101,38 @@ pub record ViewSays (v : SeenEditing) (text : List ℕ) (turn : ViewTurn) : Type
 
 -- ---- errors
 
--- an allocation failed, or after some calls an event of the session beneath ends the session with `error`
-pub data ViewFails (v : Seen) (error : RecordError) : Type 0 where
-  refused : error ≡ OutOfMemory → ViewFails v error
-  failed : (calls : List Call) (last : Live) (event : Event)
-      → Path (turns.Waiting v.front.beneath) calls (turns.Waiting last) → EventFails last event error → ViewFails v error
+-- an allocation failed, or the event of the terminal ends the front with `error`
+pub data HandFails (f : Front) (event : TerminalEvent) (error : RecordError) : Type 0 where
+  hand_refused : error ≡ OutOfMemory → HandFails f event error
+  hand_failed : KeysFail f (event ∷ []) error → HandFails f event error
+
+-- the same of what a view hears
+pub data HeardFails (v : Seen) (heard : Heard) (error : RecordError) : Type 0 where
+  refused : error ≡ OutOfMemory → HeardFails v heard error
+  failed : (event : TerminalEvent) → heard ≡ Hand event → HandFails v.front event error → HeardFails v heard error
+
+-- one of the events fails, after the earlier ones led to a view that waits
+pub record ViewFails (v : Seen) (events : List TerminalEvent) (error : RecordError) : Type 0 where
+  -- the events before it, the event, and those that are dropped
+  pub heard_first : List TerminalEvent
+  pub event : TerminalEvent
+  pub dropped : List TerminalEvent
+  pub are : events ≡ heard_first ++ (event ∷ dropped)
+  -- the view before the event
+  pub last : Seen
+  pub hears : ViewHears v heard_first (Waiting last)
+  -- the event fails
+  pub fails : HeardFails last (heard_by last event) error
+
+-- bytes end the session with `error`: an allocation failed, or one of the events that they complete fails
+pub data ViewBytesFail (v : Seen) (old new : Decoder) (bytes : List ℕ) (error : RecordError) : Type 0 where
+  bytes_refused : error ≡ OutOfMemory → ViewBytesFail v old new bytes error
+  bytes_failed : (found : List TerminalEvent) → Adds old new bytes [] found → ViewFails v found error → ViewBytesFail v old new bytes error
+
+-- a silence ends the session with `error`: an allocation failed, or the event that it means fails
+pub data ViewSilenceFails (v : Seen) (old new : Decoder) (error : RecordError) : Type 0 where
+  silence_refused : error ≡ OutOfMemory → ViewSilenceFails v old new error
+  silence_failed : (event : TerminalEvent) → SilenceMeans old new (Some event) → ViewFails v (event ∷ []) error → ViewSilenceFails v old new error
 
 -- an allocation failed, or the message ends the session with `error`
 pub data ViewSayFails (v : SeenEditing) (text : List ℕ) (error : RecordError) : Type 0 where

@@ -1,21 +1,23 @@
-//! A cut of a grid: the columns from a column on.
+//! A cut of a screen with its labels: a grid of the columns from a column on.
 ghost use Rattle.std.specs.Prelude.{◌≡◌, ℕ, ◌+◌, ◌-◌, ◌<◌, ◌≤◌, IfErr, IfOk, IsTrue, OnOk, length, option_map};
 ghost use Rattle.scm_cells.specs.Symbols.{symbol_at};
 ghost use Rattle.scm_front_paint.specs.Cut.{CutFails, IsCut, IsCutRow, IsLead, KeepsOthers, cut_symbol};
+ghost use Rattle.scm_front_paint.specs.Source.{symbols_in};
 
+use crate::source::Source;
 use scm_cells::Grid;
 use scm_errors::RecordError;
 use std::alloc::Global;
 
 /// Returns the number of columns from column `x` on before the next symbol of row `row`, or before the
 /// end of the row.
-fn lead_of(grid: &Grid, x: usize, row: usize) -> usize
-    ensures few { result ≤ grid.now.width - x }
-    ensures is_lead { IsLead grid.now x row result }
+fn lead_of(source: &Source<'_>, x: usize, row: usize) -> usize
+    ensures few { result ≤ (symbols_in source.now).width - x }
+    ensures is_lead { IsLead (symbols_in source.now) x row result }
 {
-    let width = grid.width();
+    let width = source.width();
     for column in x..width {
-        match grid.symbol(row, column) {
+        match source.symbol(row, column) {
             None => {}
             Some(_symbol) => return column - x,
         }
@@ -37,49 +39,50 @@ fn is_same(symbol: Option<&str>, other: Option<&str>) -> bool
 
 /// Returns the symbol at column `column` of the cut of row `row`, whose first `lead` columns are blank.
 fn cut_symbol<'a>(
-    grid: &'a Grid,
+    source: &Source<'a>,
     x: usize,
     row: usize,
     lead: usize,
     column: usize,
 ) -> Option<&'a str>
-    requires { column < grid.now.width - x }
-    ensures { option_map (λ s. s.now) result ≡ cut_symbol grid.now x row lead column }
+    requires { column < (symbols_in source.now).width - x }
+    ensures { option_map (λ s. s.now) result
+        ≡ cut_symbol (symbols_in source.now) x row lead column }
 {
     if column < lead {
         return Some(" ");
     }
-    let _width = grid.width();
-    grid.symbol(row, x + column)
+    let _width = source.width();
+    source.symbol(row, x + column)
 }
 
-/// Returns whether row `row` of `cut` has the columns of that row of `grid` from `x` on. The first `lead`
+/// Returns whether row `row` of `cut` has the columns of that row of `source` from `x` on. The first `lead`
 /// of them are blank.
-fn is_cut_row(cut: &Grid, grid: &Grid, x: usize, row: usize, lead: usize) -> bool
-    ensures { IsTrue result → (c : ℕ) → c < grid.now.width - x
-        → symbol_at cut.now.rows row c ≡ cut_symbol grid.now x row lead c }
+fn is_cut_row(cut: &Grid, source: &Source<'_>, x: usize, row: usize, lead: usize) -> bool
+    ensures { IsTrue result → (c : ℕ) → c < (symbols_in source.now).width - x
+        → symbol_at cut.now.rows row c ≡ cut_symbol (symbols_in source.now) x row lead c }
 {
-    let columns = grid.width().saturating_sub(x);
+    let columns = source.width().saturating_sub(x);
     for column in 0..columns {
         let symbol = cut.symbol(row, column);
-        if !is_same(symbol, cut_symbol(grid, x, row, lead, column)) {
+        if !is_same(symbol, cut_symbol(source, x, row, lead, column)) {
             return false;
         }
     }
     true
 }
 
-/// Puts the symbols of row `row` of `grid` from column `x` on on that row of `cut`.
-fn put_row(cut: &mut Grid, grid: &Grid, x: usize, row: usize) -> Result<(), RecordError>
+/// Puts the symbols of row `row` of `source` from column `x` on on that row of `cut`.
+fn put_row(cut: &mut Grid, source: &Source<'_>, x: usize, row: usize) -> Result<(), RecordError>
     requires row { row < length cut.old.rows }
-    requires width { cut.old.width ≡ grid.now.width - x }
+    requires width { cut.old.width ≡ (symbols_in source.now).width - x }
     ensures others { OnOk result (KeepsOthers cut.old cut.new row) }
     ensures err { IfErr result (λ e. CutFails e) }
 {
-    let columns = grid.width().saturating_sub(x);
+    let columns = source.width().saturating_sub(x);
     cut.put_blank(row, 0, columns, 0, columns);
     for column in 0..columns {
-        if let Some(symbol) = grid.symbol(row, x + column) {
+        if let Some(symbol) = source.symbol(row, x + column) {
             cut.put(row, 0_isize.strict_add_unsigned(column), symbol, 0, columns)?;
         }
     }
@@ -96,42 +99,42 @@ fn no_cut(alloc: Global) -> RecordError
     }
 }
 
-/// Makes row `row` of `cut` the columns of that row of `grid` from `x` on. A row that is as it should be
+/// Makes row `row` of `cut` the columns of that row of `source` from `x` on. A row that is as it should be
 /// is only read.
 fn cut_row(
     alloc: Global,
     cut: &mut Grid,
-    grid: &Grid,
+    source: &Source<'_>,
     x: usize,
     row: usize,
 ) -> Result<(), RecordError>
     requires row { row < length cut.old.rows }
-    requires width { cut.old.width ≡ grid.now.width - x }
-    ensures ok { OnOk result (IsCutRow cut.new grid.now x row) }
+    requires width { cut.old.width ≡ (symbols_in source.now).width - x }
+    ensures ok { OnOk result (IsCutRow cut.new (symbols_in source.now) x row) }
     ensures others { OnOk result (KeepsOthers cut.old cut.new row) }
     ensures err { IfErr result (λ e. CutFails e) }
 {
-    let lead = lead_of(grid, x, row);
-    if is_cut_row(cut, grid, x, row, lead) {
+    let lead = lead_of(source, x, row);
+    if is_cut_row(cut, source, x, row, lead) {
         return Ok(());
     }
-    put_row(cut, grid, x, row)?;
-    if is_cut_row(cut, grid, x, row, lead) {
+    put_row(cut, source, x, row)?;
+    if is_cut_row(cut, source, x, row, lead) {
         Ok(())
     } else {
         Err(no_cut(alloc))
     }
 }
 
-/// Makes `cut` the columns of `grid` from `x` on. It has their width and height.
-fn cut_rows(alloc: Global, cut: &mut Grid, grid: &Grid, x: usize) -> Result<(), RecordError>
-    requires width { cut.old.width ≡ grid.now.width - x }
-    requires height { length cut.old.rows ≡ length grid.now.rows }
-    ensures ok { OnOk result (IsCut cut.new grid.now x) }
+/// Makes `cut` the columns of `source` from `x` on. It has their width and height.
+fn cut_rows(alloc: Global, cut: &mut Grid, source: &Source<'_>, x: usize) -> Result<(), RecordError>
+    requires width { cut.old.width ≡ (symbols_in source.now).width - x }
+    requires height { length cut.old.rows ≡ (symbols_in source.now).height }
+    ensures ok { OnOk result (IsCut cut.new (symbols_in source.now) x) }
     ensures err { IfErr result (λ e. CutFails e) }
 {
-    for row in 0..grid.height() {
-        cut_row(alloc, cut, grid, x, row)?;
+    for row in 0..source.height() {
+        cut_row(alloc, cut, source, x, row)?;
     }
     Ok(())
 }
@@ -150,18 +153,18 @@ fn with_size(alloc: Global, cut: Option<Grid>, width: u16, height: u16) -> Resul
     Grid::new(alloc, width, height)
 }
 
-/// Returns the columns of `grid` from `x` on, in the memory of `cut`, an earlier cut, if that has the size.
+/// Returns the columns of `source` from `x` on, in the memory of `cut`, an earlier cut, if that has the size.
 pub(crate) fn cut_of(
     alloc: Global,
     cut: Option<Grid>,
-    grid: &Grid,
+    source: &Source<'_>,
     x: usize,
 ) -> Result<Grid, RecordError>
-    ensures ok { IfOk result (λ new. IsCut new grid.now x) }
+    ensures ok { IfOk result (λ new. IsCut new (symbols_in source.now) x) }
     ensures err { IfErr result (λ e. CutFails e) }
 {
-    let width = grid.width().saturating_sub(x);
-    let mut cut = with_size(alloc, cut, width as u16, grid.height() as u16)?;
-    cut_rows(alloc, &mut cut, grid, x)?;
+    let width = source.width().saturating_sub(x);
+    let mut cut = with_size(alloc, cut, width as u16, source.height() as u16)?;
+    cut_rows(alloc, &mut cut, source, x)?;
     Ok(cut)
 }

@@ -13,12 +13,14 @@ ghost use Rattle.scm_record.specs.Keeping.{IsKept};
 ghost use Rattle.scm_record.specs.LiveCalls.{AreRuns};
 ghost use Rattle.scm_record.specs.declared.live.Turn.TheVariants as turns;
 ghost use Rattle.scm_front.specs.Fronts.{beneath_of};
+ghost use Rattle.scm_front_paint.specs.declared.labels.Label.{Label};
 ghost use Rattle.scm_front_paint.specs.declared.themes.Theme.{Theme};
 ghost use Rattle.scm_front_paint.specs.declared.view.ViewTurn.{ViewTurn};
 ghost use Rattle.scm_front_paint.specs.declared.columns.Columns.{Columns};
 ghost use Rattle.scm_front_paint.specs.Below.{AreWhole, Before, LeadsToBoth, PaintsBoth, Pictures, StayApart, commands_of, rows_shown, view_pictures, width_of};
 ghost use Rattle.scm_front_paint.specs.Seen.{IsSeen, Seen};
 ghost use Rattle.scm_front_paint.specs.Sideways.{sideways_picture, sideways_row};
+ghost use Rattle.scm_front_paint.specs.Symbols.{symbols_of};
 ghost use Rattle.scm_front_paint.specs.Views.{LeadsBy, ViewInput, ViewPath, front_turn};
 
 use scm_record::live::sessions_are_runs;
@@ -57,7 +59,7 @@ pub fn views_are_runs()
 /// This is a law: the function does nothing, and is there for its contract.
 pub fn sideways_rows_are_cut()
     ensures zero { (style : ℕ → ℕ → Style) (s : Screen) → IsScreen s
-        → sideways_picture 0 style s ≡ picture style s }
+        → sideways_picture 0 style (symbols_of s) ≡ picture style s }
     ensures column { (style : ℕ → Style) (x c : ℕ) (cells : List StyledCell)
         → laters (drop x cells) ≤ c
         → slice_index_or (sideways_row style x cells) c Later ≡ slice_index_or cells (x + c) Later }
@@ -86,9 +88,9 @@ pub fn status_rows_stand_below()
     ensures written { (width : ℕ) (known new : Pictures) (bytes : List ℕ)
         (p : PaintsBoth width known new bytes) → bytes ≡ flat_map bytes_of (commands_of p) }
     // the row below the session is the status row, and those above it are blank
-    ensures whole { (theme : Theme) (words : List (List Columns)) (v : Seen)
+    ensures whole { (theme : Theme) (words : List (List Columns)) (labels : List Label) (v : Seen)
         (accept : List ℕ) → AreWhole (width_of v) (rows_shown v.front.beneath)
-        (view_pictures theme words v accept) }
+        (view_pictures theme words labels v accept) }
     // once both are shown, each stays on its rows
     ensures apart { (width height : ℕ) (known new : Pictures) (bytes : List ℕ)
         (p : PaintsBoth width known new bytes) → AreWhole width height known

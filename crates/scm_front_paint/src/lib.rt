@@ -7,6 +7,8 @@
 mod blanks;
 mod columns;
 mod cut;
+pub mod headers;
+pub mod labels;
 pub mod laws;
 mod line_words;
 mod painter;
@@ -15,12 +17,14 @@ mod pairs;
 pub mod pane;
 mod restyling;
 mod shown;
+mod source;
 mod status;
 mod status_painter;
 pub mod themes;
 pub mod view;
 mod words;
 
+pub use labels::Label;
 pub use painter::FrontPainter;
 pub use pane::{Heard, Pane, heard_as};
 pub use themes::{Theme, themed};

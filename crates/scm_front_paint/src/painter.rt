@@ -1,63 +1,75 @@
 //! Painting a view: the session's screen, and the status row below it.
-ghost use Rattle.std.specs.Prelude.{◌≡◌, ◌-◌, IfErr, IfOk, OnErr, OnOk, Some, string_bytes};
+ghost use Rattle.std.specs.Prelude.{◌≡◌, ◌-◌, IfErr, IfOk, OnErr, OnOk, Some, [], length, string_bytes};
 ghost use Rattle.scm_errors.specs.declared.error.RecordError.TheVariants.{OutOfMemory};
 ghost use Rattle.scm_terminal.specs.Promise.{Paints};
 ghost use Rattle.scm_record.specs.Frames.{columns_of};
 ghost use Rattle.scm_record.specs.Painted.{screen_of};
 ghost use Rattle.scm_front_paint.specs.Below.{PaintsView, is_of, known_to, no_pictures, pictures_of, rows_shown, width_of};
 ghost use Rattle.scm_front_paint.specs.Cut.{CutFails, IsCut};
+ghost use Rattle.scm_front_paint.specs.Labels.{symbols_over, with_label};
 ghost use Rattle.scm_front_paint.specs.ShownView.{style_in};
 ghost use Rattle.scm_front_paint.specs.Sideways.{sideways_picture};
+ghost use Rattle.scm_front_paint.specs.Source.{symbols_in};
 
 use crate::cut::cut_of;
+use crate::headers::label_rows;
+use crate::labels::{Label, set_label};
 use crate::line_words::LineWords;
 use crate::shown::{Moved, Shown};
+use crate::source::Source;
 use crate::status::{left_of, right_of};
 use crate::status_painter::StatusPainter;
 use crate::themes::Theme;
 use crate::view::View;
 use crate::words::words_of;
-use scm_record::{Grid, Painter, RecordError};
+use scm_record::{Grid, Items, Painter, RecordError};
 use std::alloc::Global;
 use std::mem::replace;
 
-/// Returns the bytes that paint the whole screen of a session, whose first column is `x` = 0.
+/// Returns the bytes that paint the whole screen of a session, whose first column is `x` = 0. No label is over
+/// its rows.
 fn paint_whole(
     painter: &mut Painter,
     shown: &Shown<'_, '_>,
+    labels: &[Option<Grid>],
     grid: &Grid,
     x: usize,
 ) -> Result<String, RecordError>
+    requires none { length labels.now ≡ 0 }
     requires width { grid.now.width ≡ columns_of shown.now.session.now.kind }
     requires rows { grid.now.rows ≡ (screen_of shown.now.session.now).rows }
     requires zero { x ≡ 0 }
     ensures ok { IfOk result (λ text. Paints (columns_of shown.now.session.now.kind - x)
-        painter.old (sideways_picture x (style_in shown.now) (screen_of shown.now.session.now))
+        painter.old (sideways_picture x (style_in shown.now)
+        (symbols_over labels.now (screen_of shown.now.session.now)))
         (string_bytes text)) }
     ensures painted { OnOk result (painter.new
-        ≡ sideways_picture x (style_in shown.now) (screen_of shown.now.session.now)) }
+        ≡ sideways_picture x (style_in shown.now)
+        (symbols_over labels.now (screen_of shown.now.session.now))) }
     ensures err { IfErr result (λ e. e ≡ OutOfMemory) }
 {
     let _width = grid.width();
     painter.paint(grid, shown)
 }
 
-/// Returns the bytes that paint `cut`, the columns of the session's screen from `x` on.
+/// Returns the bytes that paint `cut`, the columns of the session's screen with its labels from `x` on.
 fn paint_part(
     painter: &mut Painter,
     shown: &Shown<'_, '_>,
     cut: &Grid,
     x: usize,
-    _grid: &Grid,
+    _source: &Source<'_>,
 ) -> Result<String, RecordError>
-    requires width { _grid.now.width ≡ columns_of shown.now.session.now.kind }
-    requires rows { _grid.now.rows ≡ (screen_of shown.now.session.now).rows }
-    requires cut { IsCut cut.now _grid.now x }
+    requires width { _source.now.grid.now.width ≡ columns_of shown.now.session.now.kind }
+    requires rows { _source.now.grid.now.rows ≡ (screen_of shown.now.session.now).rows }
+    requires cut { IsCut cut.now (symbols_in _source.now) x }
     ensures ok { IfOk result (λ text. Paints (columns_of shown.now.session.now.kind - x)
-        painter.old (sideways_picture x (style_in shown.now) (screen_of shown.now.session.now))
+        painter.old (sideways_picture x (style_in shown.now)
+        (symbols_over _source.now.labels.now (screen_of shown.now.session.now)))
         (string_bytes text)) }
     ensures painted { OnOk result (painter.new
-        ≡ sideways_picture x (style_in shown.now) (screen_of shown.now.session.now)) }
+        ≡ sideways_picture x (style_in shown.now)
+        (symbols_over _source.now.labels.now (screen_of shown.now.session.now))) }
     ensures err { IfErr result (λ e. e ≡ OutOfMemory) }
 {
     let moved = Moved { shown, x };
@@ -69,33 +81,37 @@ fn paint_part(
 struct SessionPainter {
     /// The painter of the rows.
     painter: Painter,
-    /// The last cut, if the terminal stood further right.
+    /// The last cut, if the terminal stood further right, or a screen had labels.
     cut: Option<Grid>,
 }
 
-/// Returns the bytes that paint the columns of the session's screen from `x` on.
+/// Returns the bytes that paint the columns of the session's screen from `x` on, with `labels` over its rows.
 fn paint_session(
     alloc: Global,
     session: &mut SessionPainter,
     shown: &Shown<'_, '_>,
+    labels: &[Option<Grid>],
     x: usize,
 ) -> Result<String, RecordError>
     ensures ok { IfOk result (λ text. Paints (columns_of shown.now.session.now.kind - x)
         session.old.painter
-        (sideways_picture x (style_in shown.now) (screen_of shown.now.session.now))
+        (sideways_picture x (style_in shown.now)
+        (symbols_over labels.now (screen_of shown.now.session.now)))
         (string_bytes text)) }
     ensures painted { OnOk result (session.new.painter
-        ≡ sideways_picture x (style_in shown.now) (screen_of shown.now.session.now)) }
+        ≡ sideways_picture x (style_in shown.now)
+        (symbols_over labels.now (screen_of shown.now.session.now))) }
     ensures err { IfErr result (λ e. CutFails e) }
 {
     let grid = shown.session.grid();
-    if x == 0 {
-        let text = paint_whole(&mut session.painter, shown, grid, x)?;
+    if x == 0 && labels.is_empty() {
+        let text = paint_whole(&mut session.painter, shown, labels, grid, x)?;
         return Ok(text);
     }
+    let source = Source { grid, labels };
     let last = session.cut.take();
-    let cut = cut_of(alloc, last, grid, x)?;
-    let text = paint_part(&mut session.painter, shown, &cut, x, grid)?;
+    let cut = cut_of(alloc, last, &source, x)?;
+    let text = paint_part(&mut session.painter, shown, &cut, x, &source)?;
     session.cut = Some(cut);
     Ok(text)
 }
@@ -136,6 +152,8 @@ pub struct FrontPainter {
     alloc: Global,
     /// The colours of the terminal.
     theme: Theme,
+    /// The labels of sections.
+    labels: Items<Label>,
     /// The painter of the session's rows.
     session: SessionPainter,
     /// The painter of the status row.
@@ -148,14 +166,16 @@ pub struct FrontPainter {
 
 impl FrontPainter {
     /// Makes a painter without a last picture: what the terminal shows is unknown. It paints in the colours
-    /// of `theme`.
+    /// of `theme`. No section has a label.
     pub fn new(alloc: Global, theme: Theme) -> FrontPainter
         ensures pictures { pictures_of result ≡ no_pictures }
         ensures theme { result.theme ≡ theme }
+        ensures labels { result.labels ≡ [] }
     {
         FrontPainter {
             alloc,
             theme,
+            labels: Items::new(alloc),
             session: SessionPainter {
                 painter: Painter::new(alloc),
                 cut: None,
@@ -170,6 +190,7 @@ impl FrontPainter {
     pub fn forget(&mut self)
         ensures pictures { pictures_of self.new ≡ no_pictures }
         ensures theme { self.new.theme ≡ self.old.theme }
+        ensures labels { self.new.labels ≡ self.old.labels }
     {
         self.session.painter.forget();
         self.status.forget();
@@ -181,13 +202,33 @@ impl FrontPainter {
     pub fn set_theme(&mut self, theme: Theme)
         ensures pictures { pictures_of self.new ≡ no_pictures }
         ensures theme { self.new.theme ≡ theme }
+        ensures labels { self.new.labels ≡ self.old.labels }
     {
         self.forget();
         self.theme = theme;
     }
 
-    /// Returns the bytes that make a terminal show `view`: its session from a column on, and below it the
-    /// status row, which says by `accept` what accepting does. The terminal has the size of the view.
+    /// Shows the text of `label` in the header of its section from the next `paint` on, in place of an earlier
+    /// one and of the section's number.
+    ///
+    /// # Errors
+    ///
+    /// - `OutOfMemory`: an allocation failed; the labels are unchanged.
+    pub fn label(&mut self, label: Label) -> Result<(), RecordError>
+        ensures ok { OnOk result
+            (self.new.labels ≡ with_label label self.old.labels) }
+        ensures unchanged { OnErr result (self.new ≡ self.old) }
+        ensures pictures { pictures_of self.new ≡ pictures_of self.old }
+        ensures size { self.new.size ≡ self.old.size }
+        ensures theme { self.new.theme ≡ self.old.theme }
+        ensures err { IfErr result (λ e. e ≡ OutOfMemory) }
+    {
+        set_label(&mut self.labels, label)
+    }
+
+    /// Returns the bytes that make a terminal show `view`: its session from a column on, with the labels of
+    /// sections, and below it the status row, which says by `accept` what accepting does. The terminal has
+    /// the size of the view.
     ///
     /// # Errors
     ///
@@ -200,6 +241,8 @@ impl FrontPainter {
         ensures ok { IfOk result (λ text.
             PaintsView self.old self.new view.now accept.now (string_bytes text)) }
         ensures forgotten { OnErr result (pictures_of self.new ≡ no_pictures) }
+        ensures theme { self.new.theme ≡ self.old.theme }
+        ensures labels { self.new.labels ≡ self.old.labels }
         ensures err { IfErr result (λ e. CutFails e) }
     {
         match self.paint_both(view, accept) {
@@ -216,6 +259,8 @@ impl FrontPainter {
     fn paint_both(&mut self, view: &View<'_>, accept: &str) -> Result<String, RecordError>
         ensures ok { IfOk result (λ text.
             PaintsView self.old self.new view.now accept.now (string_bytes text)) }
+        ensures theme { self.new.theme ≡ self.old.theme }
+        ensures labels { self.new.labels ≡ self.old.labels }
         ensures err { IfErr result (λ e. CutFails e) }
     {
         let _pane = view.pane();
@@ -227,6 +272,7 @@ impl FrontPainter {
         let right = right_of(self.alloc, view.front(), width, &left, x, accept)?;
         let kept = replace(&mut self.words, Vec::new(self.alloc));
         let words = words_of(self.alloc, session, kept)?;
+        let labels = label_rows(self.alloc, self.labels.as_slice(), session)?;
         self.keep_size(width as usize, height as usize);
         let mut text = self
             .status
@@ -236,7 +282,7 @@ impl FrontPainter {
             words: words.as_slice(),
             theme: self.theme,
         };
-        let rows = paint_session(self.alloc, &mut self.session, &shown, x)?;
+        let rows = paint_session(self.alloc, &mut self.session, &shown, labels.as_slice(), x)?;
         text.push_str(rows.as_str())?;
         self.words = words;
         Ok(text)
@@ -247,6 +293,7 @@ impl FrontPainter {
         ensures known { pictures_of self.new ≡ known_to self.old width height }
         ensures size { self.new.size ≡ Some (width, height) }
         ensures theme { self.new.theme ≡ self.old.theme }
+        ensures labels { self.new.labels ≡ self.old.labels }
     {
         if !is_of(self.size, width, height) {
             self.forget();

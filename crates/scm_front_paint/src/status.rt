@@ -98,7 +98,7 @@ fn text_of_key<'a>(files: &'a [File<'_>], key: SelectionKey) -> &'a str
 }
 
 /// Returns `text` with replacements for the characters that a screen cannot show.
-fn with_replacements(alloc: Global, text: &str) -> Result<String, RecordError>
+pub(crate) fn with_replacements(alloc: Global, text: &str) -> Result<String, RecordError>
     ensures ok { IfOk result (λ shown. string_bytes shown ≡ concat (line_pieces text.now)) }
     ensures err { IfErr result (λ e. e ≡ OutOfMemory) }
 {

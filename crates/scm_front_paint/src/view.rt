@@ -3,10 +3,9 @@ ghost use Rattle.std.specs.Prelude.{◌≡◌, ◌+◌, ◌≤◌, IfErr, IfOk, 
 ghost use Rattle.scm_errors.specs.declared.error.RecordError.TheVariants.{OutOfMemory};
 ghost use Rattle.scm_record.specs.Session.{message_text};
 ghost use Rattle.scm_front.specs.declared.layer.FrontTurn.TheVariants as fronts;
-ghost use Rattle.scm_front.specs.Fronts.{FrontFails};
 ghost use Rattle.scm_front_paint.specs.Pane.{offset, with_size, with_x};
 ghost use Rattle.scm_front_paint.specs.Seen.{IsSeen};
-ghost use Rattle.scm_front_paint.specs.Views.{IsFitted, IsHanded, IsShown, ViewBytes, ViewDoes, ViewFails, ViewHears, ViewSayFails, ViewSays, ViewSilence, heard_by, is_kind, is_own};
+ghost use Rattle.scm_front_paint.specs.Views.{HandFails, HeardFails, IsFitted, IsHanded, IsShown, ViewBytes, ViewBytesFail, ViewDoes, ViewFails, ViewHears, ViewSayFails, ViewSays, ViewSilence, ViewSilenceFails, heard_by, is_kind, is_own};
 
 use crate::pane::{Heard, Pane, heard_as, is_free, kind_for, offset, with_size, with_x};
 use scm_front::{AcceptedState, Front, FrontEditing, FrontTurn, OwnKey};
@@ -142,7 +141,7 @@ fn hand<'state>(
 ) -> Result<ViewTurn<'state>, RecordError>
     requires { pane.x + pane.width ≤ 65535 }
     ensures ok { IfOk result (λ turn. IsHanded front.entry pane event turn) }
-    ensures err { IfErr result (λ e. FrontFails front.entry e) }
+    ensures err { IfErr result (λ e. HandFails front.entry event e) }
 {
     let turn = front.hear_all(&[event])?;
     shown(turn, pane)
@@ -191,7 +190,7 @@ impl<'state> View<'state> {
     /// Does what is heard.
     fn act(self, heard: Heard) -> Result<ViewTurn<'state>, RecordError>
         ensures ok { IfOk result (λ turn. ViewDoes self.entry heard turn) }
-        ensures err { IfErr result (λ e. ViewFails self.entry e) }
+        ensures err { IfErr result (λ e. HeardFails self.entry heard e) }
     {
         let View { front, pane } = self;
         match heard {
@@ -208,7 +207,7 @@ impl<'state> View<'state> {
     /// An error ends the session: the errors are those of [`Front::hear`].
     pub fn hear(self, event: TerminalEvent) -> Result<ViewTurn<'state>, RecordError>
         ensures ok { IfOk result (λ turn. ViewDoes self.entry (heard_by self.entry event) turn) }
-        ensures err { IfErr result (λ e. ViewFails self.entry e) }
+        ensures err { IfErr result (λ e. HeardFails self.entry (heard_by self.entry event) e) }
     {
         let heard = self.meaning(event);
         self.act(heard)
@@ -222,7 +221,7 @@ impl<'state> View<'state> {
     /// An error ends the session: the errors are those of [`Front::hear`].
     pub fn hear_all(self, events: &[TerminalEvent]) -> Result<ViewTurn<'state>, RecordError>
         ensures ok { IfOk result (λ turn. ViewHears self.entry events.now turn) }
-        ensures err { IfErr result (λ e. ViewFails self.entry e) }
+        ensures err { IfErr result (λ e. ViewFails self.entry events.now e) }
     {
         let mut view = self;
         for event in events {
@@ -249,7 +248,8 @@ impl<'state> View<'state> {
     ) -> Result<ViewTurn<'state>, RecordError>
         ensures ok { IfOk result (λ turn.
             ViewBytes self.entry decoder.old decoder.new bytes.now turn) }
-        ensures err { IfErr result (λ e. ViewFails self.entry e) }
+        ensures err { IfErr result (λ e.
+            ViewBytesFail self.entry decoder.old decoder.new bytes.now e) }
     {
         let found = decoder.decode(alloc, bytes)?;
         self.hear_all(found.as_slice())
@@ -262,7 +262,8 @@ impl<'state> View<'state> {
     /// An error ends the session: the errors are those of [`Front::hear`].
     pub fn idle(self, decoder: &mut Decoder) -> Result<ViewTurn<'state>, RecordError>
         ensures ok { IfOk result (λ turn. ViewSilence self.entry decoder.old decoder.new turn) }
-        ensures err { IfErr result (λ e. ViewFails self.entry e) }
+        ensures err { IfErr result (λ e.
+            ViewSilenceFails self.entry decoder.old decoder.new e) }
     {
         match decoder.idle() {
             None => Ok(ViewTurn::Waiting(self)),

@@ -12,7 +12,7 @@ use scm_record::{CommitViewMode, File, LiveSession, RecordError, ShownLines};
 use std::alloc::Global;
 
 /// Returns whether nothing lies over the lines: no dialog and no menu is open, and one commit is shown.
-fn is_bare(session: &LiveSession<'_>) -> bool
+pub(crate) fn is_bare(session: &LiveSession<'_>) -> bool
     ensures { result ≡ is_bare session.now }
 {
     let view = session.view_state();

@@ -1,6 +1,8 @@
 //! How the layer looks on a terminal: calls without a view.
-use scm_front_paint::{Heard, Pane, Theme, heard_as, themed};
-use scm_record::{Colour, KeyCode, KeyEvent, KeyEventKind, KeyModifiers, Style, TerminalEvent};
+use scm_front_paint::{FrontPainter, Heard, Label, Pane, Theme, heard_as, themed};
+use scm_record::{
+    Colour, KeyCode, KeyEvent, KeyEventKind, KeyModifiers, OwnedText, Style, TerminalEvent,
+};
 use std::test::Fail;
 
 /// The event of pressing the key `>`.
@@ -26,5 +28,19 @@ fn keys_move_a_pane(rt: HostRuntime) -> Result<(), Fail> {
 fn themes_change_styles(rt: HostRuntime) -> Result<(), Fail> {
     let style = Style::PLAIN.coloured(Colour::Cyan).reversed();
     assert!(rt; themed(Theme::NoColours, style) == Style::PLAIN.reversed());
+    Ok(())
+}
+
+#[test]
+fn labels_replace_each_other(rt: HostRuntime) -> Result<(), Fail> {
+    let mut painter = FrontPainter::new(rt.alloc(), Theme::Dark);
+    for text in ["ours", "theirs", ""] {
+        let label = Label {
+            file: 0,
+            section: 1,
+            text: OwnedText::from(String::from_str(rt.alloc(), text)?),
+        };
+        assert!(rt; painter.label(label).is_ok());
+    }
     Ok(())
 }

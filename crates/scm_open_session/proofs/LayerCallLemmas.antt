@@ -1,13 +1,14 @@
 -- How a session begins with a layer, and how its looks and its keys change.
-use Rattle.std.proofs.Common.{◌≡◌, ℕ, min, List, [], false, IsTrue, option_and_then, Option, Some, None, Result, Ok, Err, IfSome, IfOk, IfErr, refl, sym, ap, ◌∙◌, subst}
+use Rattle.std.proofs.Common.{◌≡◌, ℕ, min, ◌&&◌, Bool, true, List, [], false, IsTrue, option_and_then, Option, Some, None, Result, Ok, Err, IfSome, IfOk, IfErr, refl, sym, ap, ◌∙◌, subst}
+use Rattle.std.specs.Prelude.{if◌then◌else◌}
+use Rattle.std.specs.Str.{is_utf8}
 use Rattle.scm_errors.specs.declared.error.RecordError.{RecordError}
 use Rattle.scm_errors.specs.declared.error.RecordError.TheVariants.{OutOfMemory}
+use Rattle.scm_types.specs.declared.keys.SelectionKey.{SelectionKey}
 use Rattle.scm_types.specs.declared.state.RecordState.{RecordState}
-use Rattle.scm_types.specs.Limits.{is_accepted_state}
+use Rattle.scm_types.specs.Limits.{is_accepted_state, is_short_text}
 use Rattle.scm_front.specs.declared.actions.OwnKey.{OwnKey}
 use Rattle.scm_front.specs.declared.layer.Front.{Front}
-use Rattle.scm_front.specs.Failing.{SessionFails}
-use Rattle.scm_front.specs.Fronts.{FrontFails}
 use Rattle.scm_terminal.specs.Decoders.{HasHeard}
 use Rattle.scm_json.specs.Form.{state_of}
 use Rattle.serde_json.specs.Read.{read}
@@ -23,8 +24,10 @@ use Rattle.scm_open_session.specs.declared.running.Running.{Running}
 use Rattle.scm_open_session.specs.declared.running.Running.TheVariants as running
 use Rattle.scm_open_session.specs.Building.{is_building}
 use Rattle.scm_open_session.specs.Layered.{ViewSets}
-use Rattle.scm_open_session.specs.LayerCalls.{BeginsLayer, ChangesPainters, HasTheme, IsNewView, SetsStart, StartsLayer, StartsView, changes_painters}
+use Rattle.scm_open_session.specs.LayerCalls.{BeginsLayer, ChangesPainters, HasTheme, IsNewView, SetsStart, StartsLayer, StartsView, changes_painters, has_layer}
 use Rattle.scm_open_session.specs.OwnKeys.{SetsKeys}
+use Rattle.scm_open_session.specs.Results.{code_where}
+use Rattle.scm_c_values.specs.Codes.{IsCode, code_of_message, done_code, is_message}
 use Rattle.scm_open_session.specs.Painters.{AreNew, HaveTheme}
 use Rattle.scm_open_session.specs.Stages.{or_ended, stage_of_view}
 
@@ -81,21 +84,49 @@ pub painters_change : (Goes : Painters → Painters → Type 0) (old new : Optio
 painters_change Goes old new h before k e f g goes s d =
     rw (e, g) (changes_painters (subst (λ (x : OpenSession). Goes x.painter k.painter) f goes) (s ∙ ap (λ (x : OpenSession). x.stage) f) (d ∙ ap (λ (x : OpenSession). x.decoder) f))
 
+-- labels
+
+-- a call that needs a layer and memory
+pub layer_code : (old : Option OpenSession) (h before : OpenSession) (answer : ℕ) → old ≡ Some h → before ≡ h
+    → IsCode true (done_code (has_layer before.stage)) answer → IsCode true (code_where has_layer old) answer
+layer_code old h before answer e f code = rw e (subst (λ (x : OpenSession). IsCode true (done_code (has_layer x.stage)) answer) f code)
+
+pub closed_layer_code : (old : Option OpenSession) → old ≡ None → IsCode true (code_where has_layer old) 1
+closed_layer_code old e = rw e IsCode.known
+
+pub no_layer_code : (due is_layered : Bool) → is_layered ≡ due → is_layered ≡ false → IsCode true (done_code due) 2
+no_layer_code due is_layered e f = rw (sym e ∙ f) IsCode.known
+
+pub memory_code : (due is_layered done : Bool) (answer : ℕ) → is_layered ≡ due → is_layered ≡ true → answer ≡ (if done then 0 else 8)
+    → IsCode true (done_code due) answer
+memory_code due is_layered true answer e f g = rw (sym e ∙ f, g) IsCode.known
+memory_code due is_layered false answer e f g = rw (sym e ∙ f, g) (IsCode.no_memory refl)
+
+-- the code of such a call with a text that can be a message
+pub label_code : (text : List ℕ) (code answer : ℕ) → IsTrue (is_message text) → IsCode true code answer → IsCode (is_message text) (code_of_message text code) answer
+label_code text code answer good is = go (is_short_text text) (is_utf8 text) good
+  where
+    go : (short utf8 : Bool) → IsTrue (short && utf8) → IsCode (short && utf8) (if short then if utf8 then code else 4 else 7) answer
+    go true true t = is
+    go true false t = absurd (cc t)
+    go false true t = absurd (cc t)
+    go false false t = absurd (cc t)
+
 pub has_theme : (given : Option Theme) (theme : Theme) (old new : Option OpenSession) → given ≡ Some theme → ChangesPainters (HaveTheme theme) old new → HasTheme given old new
 has_theme given theme old new e goes = rw e goes
 
 -- the start
 
-sets-by : (v : Seen) (r : Result ViewTurn RecordError) (o : Option Stage) → IfSome o (λ x. x ≡ stage_of_view r)
-    → IfOk r (λ turn. ViewSets v turn) → IfErr r (λ e. FrontFails v.front e) → SetsStart (Waiting (running.Layered v)) (or_ended o)
-sets-by v (Ok turn) (Some x) e h k = rw e (SetsStart.turned turn h)
-sets-by v (Err error) (Some x) e h k = rw e (SetsStart.failed k)
-sets-by v r None e h k = SetsStart.failed (SessionFails.refused refl)
+sets-by : (first : SelectionKey) (v : Seen) (r : Result ViewTurn RecordError) (o : Option Stage) → IfSome o (λ x. x ≡ stage_of_view r)
+    → IfOk r (λ turn. ViewSets first v turn) → IfErr r (λ e. e ≡ OutOfMemory) → SetsStart first (Waiting (running.Layered v)) (or_ended o)
+sets-by first v (Ok turn) (Some x) e h k = rw e (SetsStart.turned turn h)
+sets-by first v (Err error) (Some x) e h k = rw (e, k) SetsStart.failed
+sets-by first v r None e h k = SetsStart.failed
 
-pub sets : (v w : Seen) (r : Result ViewTurn RecordError) (o : Option Stage) (s : Running) (new : Stage) → s ≡ running.Layered v → w ≡ v
-    → IfSome o (λ x. x ≡ stage_of_view r) → new ≡ or_ended o → IfOk r (λ turn. ViewSets w turn) → IfErr r (λ e. FrontFails w.front e) → SetsStart (Waiting s) new
-sets v w r o s new e same is f h k =
-    rw (e, f) (subst (λ (x : Seen). SetsStart (Waiting (running.Layered x)) (or_ended o)) same (sets-by w r o is h k))
+pub sets : (first : SelectionKey) (v w : Seen) (r : Result ViewTurn RecordError) (o : Option Stage) (s : Running) (new : Stage) → s ≡ running.Layered v → w ≡ v
+    → IfSome o (λ x. x ≡ stage_of_view r) → new ≡ or_ended o → IfOk r (λ turn. ViewSets first w turn) → IfErr r (λ e. e ≡ OutOfMemory) → SetsStart first (Waiting s) new
+sets first v w r o s new e same is f h k =
+    rw (e, f) (subst (λ (x : Seen). SetsStart first (Waiting (running.Layered x)) (or_ended o)) same (sets-by first w r o is h k))
 
 -- keys
 

@@ -2,12 +2,14 @@
 use Rattle.std.proofs.Common.{◌≡◌, List, Result, IfOk, IfErr, Ok, Err, subst}
 use Rattle.scm_errors.specs.declared.error.RecordError.{RecordError}
 use Rattle.scm_errors.specs.declared.error.RecordError.TheVariants.{OutOfMemory}
+use Rattle.scm_types.specs.declared.keys.SelectionKey.{SelectionKey}
 use Rattle.scm_input.specs.declared.events.Event.{Event}
 use Rattle.scm_record.specs.LiveCalls.{BatchFails, BatchLeads, Call, EventFails, EventLeads, Path}
 use Rattle.scm_record.specs.declared.live.Turn.TheVariants as turns
 use Rattle.scm_front.specs.declared.layer.Front.{Front}
 use Rattle.scm_front.specs.declared.layer.FrontTurn.{FrontTurn}
-use Rattle.scm_front.specs.Fronts.{FrontFails, IsGiven, beneath_of}
+use Rattle.scm_front.specs.Fronts.{IsGiven, beneath_of, front_of}
+use Rattle.scm_front.specs.Starting.{Starts}
 use Rattle.scm_front_paint.specs.declared.pane.Pane.{Pane}
 use Rattle.scm_front_paint.specs.declared.view.ViewTurn.{ViewTurn}
 use Rattle.scm_front_paint.specs.Seen.{Seen}
@@ -38,16 +40,18 @@ pressed_all v list front pane middle (Ok turn) e f d g s = record {
 }
 pressed_all v list front pane middle (Err error) e f d g s = tt
 
-pub set_at : (v : Seen) (front : Front) (pane : Pane) (middle : FrontTurn) (calls : List Call) (r : Result ViewTurn RecordError)
-    → front ≡ v.front → pane ≡ v.pane → Path (turns.Waiting front.beneath) calls (beneath_of middle) → IfOk r (λ turn. IsShown pane middle turn)
-    → IfOk r (λ turn. ViewSets v turn)
-set_at v front pane middle calls (Ok turn) e f d s = record {
+pub set_at : (first : SelectionKey) (v : Seen) (front : Front) (pane : Pane) (middle : FrontTurn) (calls : List Call) (r : Result ViewTurn RecordError)
+    → front ≡ v.front → pane ≡ v.pane → Path (turns.Waiting front.beneath) calls (beneath_of middle) → Starts front.beneath first (beneath_of middle)
+    → middle ≡ front_of (beneath_of middle) front.query front.kept → IfOk r (λ turn. IsShown pane middle turn) → IfOk r (λ turn. ViewSets first v turn)
+set_at first v front pane middle calls (Ok turn) e f d begins keeps s = record {
   middle = middle;
   calls = calls;
   path = subst (λ (x : Front). Path (turns.Waiting x.beneath) calls (beneath_of middle)) e d;
+  starts = subst (λ (x : Front). Starts x.beneath first (beneath_of middle)) e begins;
+  kept = subst (λ (x : Front). middle ≡ front_of (beneath_of middle) x.query x.kept) e keeps;
   shown = subst (λ (p : Pane). IsShown p middle turn) f s;
 }
-set_at v front pane middle calls (Err error) e f d s = tt
+set_at first v front pane middle calls (Err error) e f d begins keeps s = tt
 
 -- errors
 
@@ -62,6 +66,3 @@ press_fails v event front error e h = OrRefused.failed (subst (λ (x : Front). E
 pub batch_fails : (v : Seen) (list : List Event) (front : Front) (error : RecordError) → front ≡ v.front → BatchFails front.beneath list error
     → OrRefused (BatchFails v.front.beneath list) error
 batch_fails v list front error e h = OrRefused.failed (subst (λ (x : Front). BatchFails x.beneath list error) e h)
-
-pub front_fails : (v : Seen) (front : Front) (error : RecordError) → front ≡ v.front → FrontFails front error → FrontFails v.front error
-front_fails v front error e h = subst (λ (x : Front). FrontFails x error) e h

@@ -28,12 +28,14 @@ plain_shown f l old new (Some x) shows painted layered theme accept =
     record { shows = shows; painted = painted; layered = layered; theme = theme; accept = accept }
 plain_shown f l old new None shows painted layered theme accept = tt
 
-pub forgets_all : (old middle new : Painters) → Forget middle new → middle.theme ≡ old.theme → middle.accept ≡ old.accept → Forget old new
-forgets_all old middle new f theme accept = record {
+pub forgets_all : (old middle new : Painters) → Forget middle new → middle.theme ≡ old.theme → middle.layered.labels ≡ old.layered.labels → middle.accept ≡ old.accept
+    → Forget old new
+forgets_all old middle new f theme labels accept = record {
   plain = f.plain;
   layered = f.layered;
   colours = f.colours ∙ theme;
   theme = f.theme ∙ theme;
+  labels = f.labels ∙ labels;
   accept = f.accept ∙ accept;
 }
 

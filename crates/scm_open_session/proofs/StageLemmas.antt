@@ -10,7 +10,7 @@ use Rattle.scm_record.specs.Typed.{BytesLead, BytesFail, SilenceLeads, SilenceFa
 use Rattle.scm_record.specs.declared.live.Turn.{Turn}
 use Rattle.scm_front_paint.specs.declared.view.ViewTurn.{ViewTurn}
 use Rattle.scm_front_paint.specs.Seen.{Seen, SeenEditing}
-use Rattle.scm_front_paint.specs.Views.{ViewBytes, ViewFails, ViewSayFails, ViewSays, ViewSilence}
+use Rattle.scm_front_paint.specs.Views.{ViewBytes, ViewBytesFail, ViewSilenceFails, ViewSayFails, ViewSays, ViewSilence}
 use Rattle.scm_open_session.specs.Layered.{OrRefused, ViewPresses, ViewResizes}
 use Rattle.scm_open_session.specs.declared.open_session.OpenSession.{OpenSession}
 use Rattle.scm_open_session.specs.declared.open_session.Stage.{Stage}
@@ -82,13 +82,13 @@ pub types : (bytes : List ℕ) (d e : Decoder) (l : Live) (r : Result Turn Recor
 types bytes d e l r s new f g h k = rw (f, g) (types-by bytes d e l r h k)
 
 view-types-by : (bytes : List ℕ) (c d : Decoder) (v : Seen) (r : Result ViewTurn RecordError) (o : Option Stage) → IfSome o (λ x. x ≡ stage_of_view r)
-    → IfOk r (λ turn. ViewBytes v c d bytes turn) → IfErr r (λ e. ViewFails v e) → Types bytes c d (Waiting (running.Layered v)) (or_ended o)
+    → IfOk r (λ turn. ViewBytes v c d bytes turn) → IfErr r (λ e. ViewBytesFail v c d bytes e) → Types bytes c d (Waiting (running.Layered v)) (or_ended o)
 view-types-by bytes c d v (Ok turn) (Some x) e h k = rw e (Types.layer_turned turn h)
 view-types-by bytes c d v (Err error) (Some x) e h k = rw e (Types.layer_failed k)
-view-types-by bytes c d v r None e h k = Types.layer_failed (ViewFails.refused refl)
+view-types-by bytes c d v r None e h k = Types.layer_failed (ViewBytesFail.bytes_refused refl)
 
 pub view-types : (bytes : List ℕ) (c d : Decoder) (v w : Seen) (r : Result ViewTurn RecordError) (o : Option Stage) (s : Running) (new : Stage) → s ≡ running.Layered v → w ≡ v
-    → IfSome o (λ x. x ≡ stage_of_view r) → new ≡ or_ended o → IfOk r (λ turn. ViewBytes w c d bytes turn) → IfErr r (λ e. ViewFails w e) → Types bytes c d (Waiting s) new
+    → IfSome o (λ x. x ≡ stage_of_view r) → new ≡ or_ended o → IfOk r (λ turn. ViewBytes w c d bytes turn) → IfErr r (λ e. ViewBytesFail w c d bytes e) → Types bytes c d (Waiting s) new
 view-types bytes c d v w r o s new e same is f h k =
     rw (e, f) (subst (λ (x : Seen). Types bytes c d (Waiting (running.Layered x)) (or_ended o)) same (view-types-by bytes c d w r o is h k))
 
@@ -103,13 +103,13 @@ pub idles : (d e : Decoder) (l : Live) (r : Result Turn RecordError) (s : Runnin
 idles d e l r s new f g h k = rw (f, g) (idles-by d e l r h k)
 
 view-idles-by : (c d : Decoder) (v : Seen) (r : Result ViewTurn RecordError) (o : Option Stage) → IfSome o (λ x. x ≡ stage_of_view r)
-    → IfOk r (λ turn. ViewSilence v c d turn) → IfErr r (λ e. ViewFails v e) → Idles c d (Waiting (running.Layered v)) (or_ended o)
+    → IfOk r (λ turn. ViewSilence v c d turn) → IfErr r (λ e. ViewSilenceFails v c d e) → Idles c d (Waiting (running.Layered v)) (or_ended o)
 view-idles-by c d v (Ok turn) (Some x) e h k = rw e (Idles.layer_turned turn h)
 view-idles-by c d v (Err error) (Some x) e h k = rw e (Idles.layer_failed k)
-view-idles-by c d v r None e h k = Idles.layer_failed (ViewFails.refused refl)
+view-idles-by c d v r None e h k = Idles.layer_failed (ViewSilenceFails.silence_refused refl)
 
 pub view-idles : (c d : Decoder) (v w : Seen) (r : Result ViewTurn RecordError) (o : Option Stage) (s : Running) (new : Stage) → s ≡ running.Layered v → w ≡ v
-    → IfSome o (λ x. x ≡ stage_of_view r) → new ≡ or_ended o → IfOk r (λ turn. ViewSilence w c d turn) → IfErr r (λ e. ViewFails w e) → Idles c d (Waiting s) new
+    → IfSome o (λ x. x ≡ stage_of_view r) → new ≡ or_ended o → IfOk r (λ turn. ViewSilence w c d turn) → IfErr r (λ e. ViewSilenceFails w c d e) → Idles c d (Waiting s) new
 view-idles c d v w r o s new e same is f h k =
     rw (e, f) (subst (λ (x : Seen). Idles c d (Waiting (running.Layered x)) (or_ended o)) same (view-idles-by c d w r o is h k))
 

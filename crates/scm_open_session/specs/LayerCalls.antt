@@ -1,7 +1,7 @@
 -- Calls of a layer: how a session begins with it, its theme, the words of what accepting does, and the start.
 use Rattle.std.specs.Prelude.{◌≡◌, ℕ, ◌-◌, min, Bool, false, List, [], Option, Some, None, Ok, IsTrue, option_and_then}
-use Rattle.scm_errors.specs.declared.error.RecordError.{RecordError}
 use Rattle.scm_errors.specs.declared.error.RecordError.TheVariants.{OutOfMemory}
+use Rattle.scm_types.specs.declared.keys.SelectionKey.{SelectionKey}
 use Rattle.scm_types.specs.declared.state.RecordState.{RecordState}
 use Rattle.scm_types.specs.Limits.{is_accepted_state}
 use Rattle.scm_input.specs.declared.inputs.TerminalKind.TheVariants.{Testing}
@@ -9,7 +9,6 @@ use Rattle.scm_terminal.specs.Decoders.{HasHeard}
 use Rattle.scm_record.specs.Session.{start}
 use Rattle.scm_front.specs.declared.layer.Front.{Front}
 use Rattle.scm_front.specs.Asking.{new_query}
-use Rattle.scm_front.specs.Fronts.{FrontFails}
 use Rattle.scm_front.specs.Keeping.{IsNew}
 use Rattle.scm_front_paint.specs.declared.themes.Theme.{Theme}
 use Rattle.scm_front_paint.specs.declared.view.ViewTurn.{ViewTurn}
@@ -108,7 +107,7 @@ is_view (Editing a) = false
 is_view (Accepted state) = false
 is_view (Ended error) = false
 
--- Folds and a selection are set by calls of the session beneath.
-pub data SetsStart : Stage → Stage → Type 0 where
-  turned : {v : Seen} (turn : ViewTurn) → ViewSets v turn → SetsStart (Waiting (running.Layered v)) (stage_of_view (Ok turn))
-  failed : {v : Seen} {error : RecordError} → FrontFails v.front error → SetsStart (Waiting (running.Layered v)) (Ended error)
+-- Folds and the selection `first` are set by calls of the session beneath, or an allocation failed.
+pub data SetsStart (first : SelectionKey) : Stage → Stage → Type 0 where
+  turned : {v : Seen} (turn : ViewTurn) → ViewSets first v turn → SetsStart first (Waiting (running.Layered v)) (stage_of_view (Ok turn))
+  failed : {v : Seen} → SetsStart first (Waiting (running.Layered v)) (Ended OutOfMemory)

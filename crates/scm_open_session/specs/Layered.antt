@@ -2,6 +2,7 @@
 use Rattle.std.specs.Prelude.{◌≡◌, ℕ, ◌==◌, List, Option, Some, None, if◌then◌else◌}
 use Rattle.scm_errors.specs.declared.error.RecordError.{RecordError}
 use Rattle.scm_errors.specs.declared.error.RecordError.TheVariants.{OutOfMemory}
+use Rattle.scm_types.specs.declared.keys.SelectionKey.{SelectionKey}
 use Rattle.scm_input.specs.declared.events.Event.{Event}
 use Rattle.scm_input.specs.declared.inputs.TerminalKind.{TerminalKind}
 use Rattle.scm_input.specs.declared.inputs.TerminalKind.TheVariants.{Testing}
@@ -10,7 +11,8 @@ use Rattle.scm_record.specs.declared.live.Turn.TheVariants as turns
 use Rattle.scm_front.specs.declared.layer.FrontTurn.{FrontTurn}
 use Rattle.scm_front.specs.declared.starting.Folds.{Folds}
 use Rattle.scm_front.specs.declared.starting.Folds.TheVariants as folds
-use Rattle.scm_front.specs.Fronts.{IsGiven, beneath_of}
+use Rattle.scm_front.specs.Fronts.{IsGiven, beneath_of, front_of}
+use Rattle.scm_front.specs.Starting.{Starts}
 use Rattle.scm_front_paint.specs.declared.themes.Theme.{Theme}
 use Rattle.scm_front_paint.specs.declared.themes.Theme.TheVariants as themes
 use Rattle.scm_front_paint.specs.declared.view.ViewTurn.{ViewTurn}
@@ -35,11 +37,14 @@ pub record ViewPressesAll (v : Seen) (events : List Event) (turn : ViewTurn) : T
   pub given : IsGiven v.front middle
   pub shown : IsShown v.pane middle turn
 
--- Folds and a selection are made by calls of the session beneath, and what comes of them is shown on the terminal.
-pub record ViewSets (v : Seen) (turn : ViewTurn) : Type 0 where
+-- Folds and a selection are made by calls of the session beneath, and what comes of them is shown on the terminal. Nothing else changes: the
+-- session has the same state, and the layer keeps what it kept.
+pub record ViewSets (first : SelectionKey) (v : Seen) (turn : ViewTurn) : Type 0 where
   pub middle : FrontTurn
   pub calls : List Call
   pub path : Path (turns.Waiting v.front.beneath) calls (beneath_of middle)
+  pub starts : Starts v.front.beneath first (beneath_of middle)
+  pub kept : middle ≡ front_of (beneath_of middle) v.front.query v.front.kept
   pub shown : IsShown v.pane middle turn
 
 -- An allocation failed, or the session beneath fails.

@@ -20,7 +20,7 @@ use Rattle.serde_json.specs.Read.{read}
 use Rattle.scm_front_paint.specs.declared.view.ViewTurn.{ViewTurn}
 use Rattle.scm_front_paint.specs.declared.view.ViewTurn.TheVariants as views
 use Rattle.scm_front_paint.specs.Seen.{Seen, SeenEditing}
-use Rattle.scm_front_paint.specs.Views.{ViewBytes, ViewFails, ViewSayFails, ViewSays, ViewSilence}
+use Rattle.scm_front_paint.specs.Views.{ViewBytes, ViewBytesFail, ViewSilenceFails, ViewSayFails, ViewSays, ViewSilence}
 use Rattle.scm_open_session.specs.declared.running.Running.TheVariants as running
 use Rattle.scm_open_session.specs.declared.running.MessageEdit.TheVariants as edits
 use Rattle.scm_open_session.specs.declared.open_session.OpenSession.{OpenSession}
@@ -140,7 +140,7 @@ pub data Types (bytes : List ℕ) (old new : Decoder) : Stage → Stage → Type
   failed : {l : Live} {error : RecordError} → BytesFail l old new bytes error → Types bytes old new (Waiting (running.Plain l)) (Ended error)
   layer_turned : {v : Seen} (turn : ViewTurn) → ViewBytes v old new bytes turn
       → Types bytes old new (Waiting (running.Layered v)) (stage_of_view (Ok turn))
-  layer_failed : {v : Seen} {error : RecordError} → ViewFails v error → Types bytes old new (Waiting (running.Layered v)) (Ended error)
+  layer_failed : {v : Seen} {error : RecordError} → ViewBytesFail v old new bytes error → Types bytes old new (Waiting (running.Layered v)) (Ended error)
 
 -- The silence of a terminal changes the stage, and the decoder from `old` to `new`.
 pub data Idles (old new : Decoder) : Stage → Stage → Type 0 where
@@ -148,7 +148,7 @@ pub data Idles (old new : Decoder) : Stage → Stage → Type 0 where
   failed : {l : Live} {error : RecordError} → SilenceFails l old new error → Idles old new (Waiting (running.Plain l)) (Ended error)
   layer_turned : {v : Seen} (turn : ViewTurn) → ViewSilence v old new turn
       → Idles old new (Waiting (running.Layered v)) (stage_of_view (Ok turn))
-  layer_failed : {v : Seen} {error : RecordError} → ViewFails v error → Idles old new (Waiting (running.Layered v)) (Ended error)
+  layer_failed : {v : Seen} {error : RecordError} → ViewSilenceFails v old new error → Idles old new (Waiting (running.Layered v)) (Ended error)
 
 -- ---- sessions
 

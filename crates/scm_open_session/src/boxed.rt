@@ -1,11 +1,12 @@
 //! What a layer takes, each in a box: so a session has the size of one without a layer.
-ghost use Rattle.std.specs.Prelude.{◌≡◌, IfSome, IsTrue, false, string_bytes};
+ghost use Rattle.std.specs.Prelude.{◌≡◌, [], IfSome, IsTrue, false, string_bytes};
 ghost use Rattle.scm_front_paint.specs.Below.{PaintsView, no_pictures, pictures_of};
 ghost use Rattle.scm_open_session.specs.Layered.{ViewResizes};
+ghost use Rattle.scm_open_session.specs.Painters.{IsLabelled};
 ghost use Rattle.scm_c_values.specs.Screens.{screen_of};
 
 use scm_front::OwnKey;
-use scm_front_paint::{FrontPainter, Theme, View, ViewEditing};
+use scm_front_paint::{FrontPainter, Label, Theme, View, ViewEditing};
 use scm_record::Items;
 use std::alloc::Global;
 use std::marker::Model;
@@ -162,6 +163,7 @@ impl BoxedPainter {
     pub fn new(alloc: Global, theme: Theme) -> Option<BoxedPainter>
         ensures unpainted { IfSome result (λ painter. pictures_of painter ≡ no_pictures) }
         ensures theme { IfSome result (λ painter. painter.theme ≡ theme) }
+        ensures labels { IfSome result (λ painter. painter.labels ≡ []) }
     {
         let inner = Box::new(alloc, FrontPainter::new(alloc, theme)).ok()?;
         Some(BoxedPainter { inner })
@@ -171,16 +173,36 @@ impl BoxedPainter {
     pub fn restart(&mut self, theme: Theme)
         ensures unpainted { pictures_of self.new ≡ no_pictures }
         ensures theme { self.new.theme ≡ theme }
+        ensures labels { self.new.labels ≡ self.old.labels }
     {
         self.inner.set_theme(theme);
+    }
+
+    /// Shows `label`, as `FrontPainter::label` does, and returns whether it does. If an allocation failed, this
+    /// is a no-op.
+    pub fn label(&mut self, label: Label) -> bool
+        ensures done { IsTrue result → IsLabelled label self.old self.new }
+        ensures kept { result ≡ false → self.new ≡ self.old }
+    {
+        try_label(&mut self.inner, label)
     }
 
     /// Returns the bytes that make the terminal show `view`, as `FrontPainter::paint` does. Returns `None` if an
     /// allocation failed.
     pub fn paint(&mut self, view: &View<'static>, accept: &str) -> Option<String>
-        ensures { IfSome result (λ text.
+        ensures shown { IfSome result (λ text.
             PaintsView self.old self.new view.now accept.now (string_bytes text)) }
+        ensures labels { self.new.labels ≡ self.old.labels }
     {
         self.inner.paint(view, accept).ok()
     }
+}
+
+/// Shows `label` in the paints of `painter`, and returns whether it does. If an allocation failed, this is a
+/// no-op.
+fn try_label(painter: &mut FrontPainter, label: Label) -> bool
+    ensures done { IsTrue result → IsLabelled label painter.old painter.new }
+    ensures kept { result ≡ false → painter.new ≡ painter.old }
+{
+    painter.label(label).is_ok()
 }

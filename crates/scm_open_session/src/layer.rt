@@ -1,7 +1,7 @@
 //! The view of a session with a layer: what calls do to it.
 ghost use Rattle.std.specs.Prelude.{◌≡◌, IfErr, IfOk};
 ghost use Rattle.scm_record.specs.LiveCalls.{BatchFails, EventFails};
-ghost use Rattle.scm_front.specs.Fronts.{FrontFails};
+ghost use Rattle.scm_errors.specs.declared.error.RecordError.TheVariants.{OutOfMemory};
 ghost use Rattle.scm_open_session.specs.Layered.{OrRefused, ViewPresses, ViewPressesAll, ViewSets, folds_of, theme_of};
 
 use scm_c_values::codes;
@@ -43,14 +43,16 @@ pub fn press_all(view: View<'static>, events: &[Event]) -> Result<ViewTurn<'stat
 ///
 /// # Errors
 ///
-/// An error ends the session: the errors are those of the events, or an allocation failed.
+/// An error ends the session.
+///
+/// - `OutOfMemory`: an allocation failed.
 pub fn set_start(
     view: View<'static>,
     folds: Folds,
     first: SelectionKey,
 ) -> Result<ViewTurn<'static>, RecordError>
-    ensures ok { IfOk result (λ turn. ViewSets view.entry turn) }
-    ensures err { IfErr result (λ e. FrontFails view.entry.front e) }
+    ensures ok { IfOk result (λ turn. ViewSets first view.entry turn) }
+    ensures err { IfErr result (λ e. e ≡ OutOfMemory) }
 {
     let (front, pane) = view.into_parts();
     let turn = front.begin(folds, first)?;

@@ -3,10 +3,11 @@ ghost use Rattle.std.specs.Prelude.{◌≡◌, ◌<◌, None, true};
 ghost use Rattle.std.specs.Str.{is_utf8};
 ghost use Rattle.scm_open_session.specs.Boxes.{box_value};
 ghost use Rattle.scm_open_session.specs.LayerCalls.{BeginsLayer, ChangesPainters, HasTheme, SetsStart, StartsLayer, code_of_layer, is_view};
+ghost use Rattle.scm_c_values.specs.Keys.{item_of_key};
 ghost use Rattle.scm_c_values.specs.Codes.{code_of_number, IsCode, code_of_json, code_of_message, is_message};
 ghost use Rattle.scm_open_session.specs.Layered.{folds_of, theme_of};
 ghost use Rattle.scm_open_session.specs.OwnKeys.{HasKeys, SetsKeys, code_of_keys, keys_of_bytes};
-ghost use Rattle.scm_open_session.specs.Painters.{HaveTheme, HaveWords};
+ghost use Rattle.scm_open_session.specs.Painters.{HaveLabel, HaveTheme, HaveWords, label_of};
 ghost use Rattle.scm_open_session.specs.Results.{code_where};
 ghost use Rattle.scm_open_session.specs.Stages.{ChangesStage, IsOpenAt};
 ghost use Rattle.scm_open_session.specs.Logging.{IsLogCode, IsLoggedCode, WritesScript};
@@ -20,7 +21,7 @@ use scm_c_values::codes::done_or_not_now;
 use scm_c_values::inputs::message_of;
 use scm_c_values::owners::{Key, item_of_key};
 use scm_front::{Folds, OwnKey};
-use scm_front_paint::Theme;
+use scm_front_paint::{Label, Theme};
 use scm_record::{Items, OwnedText, SelectionKey};
 use std::alloc::Global;
 
@@ -94,12 +95,48 @@ pub fn name_accepting(alloc: Global, session: &mut Session, text: &[u8]) -> u32
     }
 }
 
+/// Shows `text` in the header of section `section` of file `file`, both counted from 0, in place of its number.
+/// Returns the code of the call.
+pub fn label(alloc: Global, session: &mut Session, file: usize, section: usize, text: &[u8]) -> u32
+    ensures code { IsCode (is_message text.now)
+        (code_of_message text.now (code_of_layer (box_value session.old))) result }
+    ensures labelled { result ≡ 0 → ChangesPainters (HaveLabel (label_of file section text.now))
+        (box_value session.old) (box_value session.new) }
+    ensures kept { 0 < result → box_value session.new ≡ box_value session.old }
+{
+    let text = match message_of(alloc, text) {
+        Ok(text) => OwnedText::from(text),
+        Err(code) => return code,
+    };
+    put_label(
+        session,
+        Label {
+            file,
+            section,
+            text,
+        },
+    )
+}
+
+/// Shows `label` in the header of its section. Returns the code of the call.
+fn put_label(session: &mut Session, label: Label) -> u32
+    ensures code { IsCode true (code_of_layer (box_value session.old)) result }
+    ensures labelled { result ≡ 0 → ChangesPainters (HaveLabel label)
+        (box_value session.old) (box_value session.new) }
+    ensures kept { 0 < result → box_value session.new ≡ box_value session.old }
+{
+    match session {
+        Some(inner) => inner.label(label),
+        None => codes::CLOSED,
+    }
+}
+
 /// Unfolds what the number `code` says, and selects what `key` names. Returns the code of the call.
 pub fn start(session: &mut Session, code: u32, key: &Key) -> u32
     ensures code { result ≡ code_of_number (folds_of code)
         (code_where is_view (box_value session.old)) }
     ensures set { result ≡ 0
-        → ChangesStage SetsStart (box_value session.old) (box_value session.new) }
+        → ChangesStage (SetsStart (item_of_key key.now)) (box_value session.old) (box_value session.new) }
     ensures kept { 0 < result → box_value session.new ≡ box_value session.old }
 {
     match folds_of(code) {
@@ -112,7 +149,7 @@ pub fn start(session: &mut Session, code: u32, key: &Key) -> u32
 fn start_at(session: &mut Session, folds: Folds, first: SelectionKey) -> u32
     ensures code { result ≡ code_where is_view (box_value session.old) }
     ensures set { result ≡ 0
-        → ChangesStage SetsStart (box_value session.old) (box_value session.new) }
+        → ChangesStage (SetsStart first) (box_value session.old) (box_value session.new) }
     ensures kept { 0 < result → box_value session.new ≡ box_value session.old }
 {
     match session {

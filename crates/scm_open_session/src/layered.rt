@@ -1,23 +1,24 @@
 //! Stages with a layer: how a session begins with one, how it looks, and where it starts.
-ghost use Rattle.std.specs.Prelude.{◌≡◌, ◌-◌, ◌<◌, IfErr, IfOk, IsTrue, false};
+ghost use Rattle.std.specs.Prelude.{◌≡◌, ◌-◌, ◌<◌, IfErr, IfOk, IsTrue, false, true};
 ghost use Rattle.scm_errors.specs.declared.error.RecordError.TheVariants.{OutOfMemory};
 ghost use Rattle.scm_input.specs.declared.inputs.TerminalKind.TheVariants.{Testing};
 ghost use Rattle.scm_types.specs.Limits.{is_accepted_state};
 ghost use Rattle.scm_open_session.specs.declared.open_session.Stage.TheVariants.{Building};
 ghost use Rattle.scm_open_session.specs.LayerCalls.{BeginsLayer, IsNewView, SetsStart, StartsView, has_layer, is_view};
 ghost use Rattle.scm_open_session.specs.OwnKeys.{SetsKeys};
-ghost use Rattle.scm_open_session.specs.Painters.{HaveTheme, HaveWords};
-ghost use Rattle.scm_c_values.specs.Codes.{IsCode, code_of_json};
+ghost use Rattle.scm_open_session.specs.Painters.{HaveLabel, HaveTheme, HaveWords};
+ghost use Rattle.scm_c_values.specs.Codes.{IsCode, code_of_json, done_code};
 ghost use Rattle.std.specs.Str.{is_utf8};
 
 use crate::boxed::BoxedView;
 use crate::open_session::{OpenSession, Stage};
 use crate::running::{Running, after_start, set_keys};
 use scm_c_values::codes;
+use scm_c_values::codes::resize_code;
 use scm_c_values::json_state::state_of;
 use scm_embed::StateBuilder;
 use scm_front::{Folds, Front, OwnKey};
-use scm_front_paint::{Theme, View};
+use scm_front_paint::{Label, Theme, View};
 use scm_record::{Items, OwnedText, RecordError, RecordState, SelectionKey, TerminalKind};
 use std::alloc::Global;
 
@@ -106,7 +107,7 @@ fn begun_view(alloc: Global, stage: Stage, width: u16, height: u16) -> (Stage, u
 /// layer.
 fn started(stage: Stage, folds: Folds, first: SelectionKey) -> (Stage, bool)
     ensures is_view { result.1 ≡ is_view stage }
-    ensures set { IsTrue result.1 → SetsStart stage result.0 }
+    ensures set { IsTrue result.1 → SetsStart first stage result.0 }
     ensures kept { result.1 ≡ false → result.0 ≡ stage }
 {
     match stage {
@@ -211,11 +212,26 @@ impl OpenSession {
         is_due
     }
 
+    /// Shows `label` from the next update on, if there is a layer. Returns the code of the call.
+    pub fn label(&mut self, label: Label) -> u32
+        ensures code { IsCode true (done_code (has_layer self.old.stage)) result }
+        ensures labelled { result ≡ 0
+            → HaveLabel label self.old.painter self.new.painter }
+        ensures stage { self.new.stage ≡ self.old.stage }
+        ensures decoder { self.new.decoder ≡ self.old.decoder }
+        ensures kept { 0 < result → self.new ≡ self.old }
+    {
+        if !has_layer(&self.stage) {
+            return codes::NOT_NOW;
+        }
+        resize_code(self.painter.label(label))
+    }
+
     /// Unfolds what `folds` says, and selects `first`, if the session waits for an event with a layer, and
     /// returns whether it does.
     pub fn start(&mut self, folds: Folds, first: SelectionKey) -> bool
         ensures is_view { result ≡ is_view self.old.stage }
-        ensures set { IsTrue result → SetsStart self.old.stage self.new.stage }
+        ensures set { IsTrue result → SetsStart first self.old.stage self.new.stage }
         ensures decoder { self.new.decoder ≡ self.old.decoder }
         ensures painter { self.new.painter ≡ self.old.painter }
         ensures kept { result ≡ false → self.new ≡ self.old }

@@ -1,12 +1,12 @@
 //! What a session is painted with: its painters, and the words of what accepting does.
-ghost use Rattle.std.specs.Prelude.{◌≡◌, IfNone, IfSome, string_bytes};
-ghost use Rattle.scm_open_session.specs.Painters.{AreNew, Forget, HaveTheme, HaveWords};
+ghost use Rattle.std.specs.Prelude.{◌≡◌, IfNone, IfSome, IsTrue, false, string_bytes};
+ghost use Rattle.scm_open_session.specs.Painters.{AreNew, Forget, HaveLabel, HaveTheme, HaveWords};
 ghost use Rattle.scm_open_session.specs.Paint.{ShowsPlain, ShowsRunning, ShowsView};
 
 use crate::boxed::BoxedPainter;
 use crate::running::Running;
 use scm_c_values::updates::{update_of, update_of_session};
-use scm_front_paint::{Theme, View};
+use scm_front_paint::{Label, Theme, View};
 use scm_record::{LiveSession, OwnedText, Painter};
 use std::alloc::Global;
 
@@ -15,7 +15,7 @@ use std::alloc::Global;
 pub struct Painters {
     /// The painter of a session without a layer, which knows what the terminal shows.
     pub plain: Painter,
-    /// The painter of a session with a layer, which knows what the terminal shows.
+    /// The painter of a session with a layer, which knows what the terminal shows, and the labels of sections.
     pub layered: BoxedPainter,
     /// The colours of a layer.
     pub theme: Theme,
@@ -24,7 +24,7 @@ pub struct Painters {
 }
 
 impl Painters {
-    /// Returns the painters of a new session: dark, and without words of what accepting does.
+    /// Returns the painters of a new session: dark, without labels, and without words of what accepting does.
     /// Returns `None` if an allocation failed.
     pub fn new(alloc: Global) -> Option<Painters>
         ensures { IfSome result (λ painters. AreNew painters) }
@@ -53,6 +53,15 @@ impl Painters {
         self.accept = text;
     }
 
+    /// Shows `label` in a layer from the next update on, and returns whether it does. If an allocation failed,
+    /// this is a no-op.
+    pub fn label(&mut self, label: Label) -> bool
+        ensures done { IsTrue result → HaveLabel label self.old self.new }
+        ensures kept { result ≡ false → self.new ≡ self.old }
+    {
+        self.layered.label(label)
+    }
+
     /// Forgets what was painted, so that the next update has every row.
     pub fn forget(&mut self)
         ensures { Forget self.old self.new }
@@ -67,6 +76,7 @@ impl Painters {
         ensures shown { IfSome result (λ update.
             ShowsPlain session.now self.old self.new (string_bytes update)) }
         ensures theme { self.new.theme ≡ self.old.theme }
+        ensures labels { self.new.layered.labels ≡ self.old.layered.labels }
         ensures accept { self.new.accept ≡ self.old.accept }
     {
         update_of_session(alloc, session, &mut self.plain)
@@ -78,6 +88,7 @@ impl Painters {
         ensures shown { IfSome result (λ update.
             ShowsView view.now self.old self.new (string_bytes update)) }
         ensures theme { self.new.theme ≡ self.old.theme }
+        ensures labels { self.new.layered.labels ≡ self.old.layered.labels }
         ensures accept { self.new.accept ≡ self.old.accept }
     {
         let bytes = self.layered.paint(view, self.accept.as_str())?;
@@ -90,6 +101,7 @@ impl Painters {
         ensures shown { IfSome result (λ update.
             ShowsRunning session.now self.old self.new (string_bytes update)) }
         ensures theme { self.new.theme ≡ self.old.theme }
+        ensures labels { self.new.layered.labels ≡ self.old.layered.labels }
         ensures accept { self.new.accept ≡ self.old.accept }
     {
         match session {

@@ -7,13 +7,15 @@ use Rattle.scm_front_paint.proofs.painter.paint_part.Goals as goal
 pub returns-clause-ok : goal.returns-clause-ok
 returns-clause-ok c =
     let l = c.args.shown.now.session.now in
+    let source = c.args._source.now in
     IfOk-weaker c.paint.result _ _ (λ text p.
-    part-paints (style_in c.args.shown.now) c.args._grid.now l c.args.x (record { width = c.requires.width; rows = c.requires.rows })
+    part-paints (style_in c.args.shown.now) source.labels.now source.grid.now l c.args.x (record { width = c.requires.width; rows = c.requires.rows })
     c.args.cut.now c.requires.cut _ _ p) c.paint.ensures.ok
 
 pub returns-clause-painted : goal.returns-clause-painted
 returns-clause-painted c =
     let l = c.args.shown.now.session.now in
+    let source = c.args._source.now in
     on_ok_weaker c.paint.result (λ e.
-    e ∙ part-picture (style_in c.args.shown.now) c.args._grid.now l c.args.x (record { width = c.requires.width; rows = c.requires.rows })
+    e ∙ part-picture (style_in c.args.shown.now) source.labels.now source.grid.now l c.args.x (record { width = c.requires.width; rows = c.requires.rows })
     c.args.cut.now c.requires.cut) c.paint.ensures.painted

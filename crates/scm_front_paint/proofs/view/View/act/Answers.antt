@@ -11,4 +11,4 @@ returns-in-Hand-clause-ok c =
     IfOk-weaker c.hand.result _ _ (λ turn g. hands-at _ c.args.self c.args.heard c.in-Hand.event turn c.self.view_is c.in-Hand.is g) c.hand.ensures.ok
 
 pub returns-in-Hand-clause-err : goal.returns-in-Hand-clause-err
-returns-in-Hand-clause-err c = IfErr-weaker c.hand.result _ _ (λ error g. fails-at _ c.args.self error c.self.view_is g) c.hand.ensures.err
+returns-in-Hand-clause-err c = IfErr-weaker c.hand.result _ _ (λ error g. fails-at _ c.args.self c.args.heard c.in-Hand.event error c.self.view_is c.in-Hand.is g) c.hand.ensures.err

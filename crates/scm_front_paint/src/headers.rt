@@ -1,0 +1,142 @@
+//! Headers of a session's screen, and the labels that they show.
+ghost use Rattle.std.specs.Prelude.{◌≡◌, ℕ, IfErr, IfOk, List, None, Some, false, if◌then◌else◌, length};
+ghost use Rattle.scm_errors.specs.declared.error.RecordError.TheVariants.{OutOfMemory};
+ghost use Rattle.scm_cells.specs.Screen.{Screen};
+ghost use Rattle.scm_cells.specs.Symbols.{symbol_at};
+ghost use Rattle.scm_record.specs.Frames.{columns_of};
+ghost use Rattle.scm_record.specs.Live.{Live};
+ghost use Rattle.scm_record.specs.Painted.{screen_of};
+ghost use Rattle.scm_front_paint.specs.declared.labels.Label.{Label};
+ghost use Rattle.scm_front_paint.specs.Headers.{AreRows, IsLabelledHeader, folded_by, header_on, label_on, labelled, section_of_key, text_of_header};
+ghost use Rattle.scm_front_paint.specs.Labels.{is_of, is_title, text_of, with_label};
+
+use crate::labels::{Label, label_grid, text_of};
+use crate::source::has_title;
+use crate::status::with_replacements;
+use crate::words::is_bare;
+use scm_cells::Grid;
+use scm_record::{ComponentId, LiveSession, RecordError, SectionKey, SelectionKey};
+use std::alloc::Global;
+
+/// Returns the section that `key` names, if it names one.
+fn section_of_key(key: SelectionKey) -> Option<SectionKey>
+    ensures { result ≡ section_of_key key }
+{
+    match key {
+        SelectionKey::Section(key) => Some(key),
+        SelectionKey::None | SelectionKey::File(_) | SelectionKey::Line(_) => None,
+    }
+}
+
+/// Returns the section that the component `id` folds, if it is the fold box of one.
+fn folded_by(id: Option<ComponentId>) -> Option<SectionKey>
+    ensures { result ≡ folded_by id }
+{
+    match id {
+        Some(ComponentId::ExpandBox(key)) => section_of_key(key),
+        None
+        | Some(ComponentId::App)
+        | Some(ComponentId::AppFiles)
+        | Some(ComponentId::CommitMessageView)
+        | Some(ComponentId::CommitEditMessageButton(_))
+        | Some(ComponentId::MenuBar)
+        | Some(ComponentId::MenuHeader)
+        | Some(ComponentId::Menu(_))
+        | Some(ComponentId::MenuItem(_))
+        | Some(ComponentId::FileViewHeader(_))
+        | Some(ComponentId::SelectableItem(_))
+        | Some(ComponentId::ToggleBox(_))
+        | Some(ComponentId::HelpDialog)
+        | Some(ComponentId::HelpDialogQuitButton)
+        | Some(ComponentId::QuitDialog)
+        | Some(ComponentId::QuitDialogButton(_)) => None,
+    }
+}
+
+/// Returns the section whose header is on row `row` of the screen of `session`, if it is one and nothing
+/// lies over the rows.
+fn header_on(session: &LiveSession<'_>, row: usize) -> Option<SectionKey>
+    ensures { result ≡ header_on session.now row }
+{
+    let column = session.grid().width().saturating_sub(1);
+    if is_bare(session) {
+        folded_by(session.owner(row, column))
+    } else {
+        None
+    }
+}
+
+/// Returns the text of the label of `section`, or an empty text if it has none.
+fn text_of_header(labels: &[Label], section: Option<SectionKey>) -> &str
+    ensures { result.now ≡ text_of_header labels.now section }
+{
+    match section {
+        None => "",
+        Some(key) => text_of(labels, key.file_idx, key.section_idx),
+    }
+}
+
+/// Returns the row of the label that row `row` of the screen of `session` shows, if it is the header of a
+/// section that has one.
+fn label_on(
+    alloc: Global,
+    labels: &[Label],
+    session: &LiveSession<'_>,
+    row: usize,
+) -> Result<Option<Grid>, RecordError>
+    ensures ok { IfOk result (λ label. label ≡ label_on labels.now session.now row) }
+    ensures err { IfErr result (λ e. e ≡ OutOfMemory) }
+{
+    let text = text_of_header(labels, header_on(session, row));
+    let grid = session.grid();
+    if text.is_empty() || !has_title(grid, row) {
+        return Ok(None);
+    }
+    let shown = with_replacements(alloc, text)?;
+    let label = label_grid(alloc, grid.width() as u16, shown.as_str())?;
+    Ok(Some(label))
+}
+
+/// Returns the rows of the labels over the screen of `session`: none if there are no labels.
+pub(crate) fn label_rows(
+    alloc: Global,
+    labels: &[Label],
+    session: &LiveSession<'_>,
+) -> Result<Vec<Option<Grid>>, RecordError>
+    ensures ok { IfOk result (λ rows. AreRows labels.now session.now rows.items) }
+    ensures err { IfErr result (λ e. e ≡ OutOfMemory) }
+{
+    let mut rows = Vec::new(alloc);
+    if labels.is_empty() {
+        return Ok(rows);
+    }
+    for row in 0..session.grid().height() {
+        rows.push(label_on(alloc, labels, session, row)?)?;
+    }
+    Ok(rows)
+}
+
+/// Proves that labels change the texts of headers alone.
+///
+/// A row that shows a label is the header of a section that has one: a click at its end folds that section.
+/// The symbols of all other rows, and of all other columns of the row, are those of the session's screen. So
+/// checkboxes and fold boxes keep their columns. A label is no part of a session: who owns a place, and what
+/// a click there does, is as without labels.
+///
+/// This is a law: the function does nothing, and is there for its contract.
+pub fn labels_change_headers_alone()
+    ensures size { (labels : List Label) (l : Live)
+        → ((labelled labels l).width ≡ (screen_of l).width)
+        × ((labelled labels l).height ≡ length (screen_of l).rows) }
+    ensures rows { (labels : List Label) (l : Live) (row c : ℕ) → label_on labels l row ≡ None
+        → (labelled labels l).at row c ≡ symbol_at (screen_of l).rows row c }
+    ensures columns { (labels : List Label) (l : Live) (row c : ℕ)
+        → is_title (columns_of l.kind) c ≡ false
+        → (labelled labels l).at row c ≡ symbol_at (screen_of l).rows row c }
+    ensures headers { (labels : List Label) (l : Live) (row : ℕ) (label : Screen)
+        → label_on labels l row ≡ Some label → IsLabelledHeader labels l row label }
+    // the label that was set last is that of its section, and all others stay
+    ensures last { (label : Label) (labels : List Label) (file section : ℕ)
+        → text_of (with_label label labels) file section
+        ≡ (if is_of file section label then label.text else text_of labels file section) }
+{}

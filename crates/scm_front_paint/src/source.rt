@@ -1,0 +1,71 @@
+//! What a terminal shows of a session's screen: its symbols, with labels over its headers.
+ghost use Rattle.std.specs.Prelude.{◌≡◌, None, option_map, slice_index_or};
+ghost use Rattle.scm_cells.specs.Screen.{IsScreen};
+ghost use Rattle.scm_front_paint.specs.Labels.{has_title, is_title, symbol_under};
+ghost use Rattle.scm_front_paint.specs.Source.{symbols_in};
+ghost use Rattle.scm_front_paint.specs.Symbols.{symbols_of};
+
+use scm_cells::Grid;
+
+/// A screen, and the labels over its rows.
+#[derive(Clone, Copy)]
+pub(crate) struct Source<'a> {
+    /// The screen.
+    pub(crate) grid: &'a Grid,
+    /// For each row the row of its label, if it has one. None has one behind the end of the list.
+    pub(crate) labels: &'a [Option<Grid>],
+}
+
+/// Returns whether `column` is one of a header's text, on a screen of `width` columns.
+fn is_title(width: usize, column: usize) -> bool
+    ensures { result ≡ is_title width column }
+{
+    6 <= column && column < width.saturating_sub(3)
+}
+
+/// Returns whether symbols of row `row` of `grid` begin where the text of a header begins, and behind its
+/// end.
+pub(crate) fn has_title(grid: &Grid, row: usize) -> bool
+    ensures { result ≡ has_title (symbols_of grid.now) row }
+{
+    let end = grid.width().saturating_sub(3);
+    grid.symbol(row, 6).is_some() && grid.symbol(row, end).is_some()
+}
+
+/// Returns the row of the label on row `row`, if there is one.
+fn label_at(labels: &[Option<Grid>], row: usize) -> Option<&Grid>
+    ensures { option_map (λ g. g.now) result ≡ slice_index_or labels.now row None }
+{
+    match labels.get(row) {
+        Some(Some(label)) => Some(label),
+        Some(None) | None => None,
+    }
+}
+
+impl<'a> Source<'a> {
+    /// Returns the number of columns.
+    pub(crate) fn width(&self) -> usize
+        ensures value { result ≡ (symbols_in self.now).width }
+        ensures sizes { IsScreen self.now.grid.now }
+    {
+        self.grid.width()
+    }
+
+    /// Returns the number of rows.
+    pub(crate) fn height(&self) -> usize
+        ensures value { result ≡ (symbols_in self.now).height }
+        ensures sizes { IsScreen self.now.grid.now }
+    {
+        self.grid.height()
+    }
+
+    /// Returns the symbol that begins at `row` and `column`, if one does.
+    pub(crate) fn symbol(&self, row: usize, column: usize) -> Option<&'a str>
+        ensures { option_map (λ s. s.now) result ≡ (symbols_in self.now).at row column }
+    {
+        match label_at(self.labels, row) {
+            Some(label) if is_title(self.grid.width(), column) => label.symbol(0, column),
+            Some(_) | None => self.grid.symbol(row, column),
+        }
+    }
+}
