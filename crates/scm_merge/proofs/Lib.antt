@@ -12,6 +12,10 @@ pub mod LawLemmas
 pub mod MarkLemmas
 -- the merge of three texts, from bytes to bytes
 pub mod MergeLemmas
+-- how many equal bytes a line begins with
+pub mod StyleLemmas
+-- the merge with markers around each open conflict
+pub mod MarkerLemmas
 -- where the lines of a merge come from
 pub mod OriginLemmas
 -- worked examples of the definitions

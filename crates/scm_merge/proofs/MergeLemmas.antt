@@ -135,7 +135,7 @@ binary-with-texts (Changed lines) = refl
 binary-with-texts (FileMode c m) = refl
 binary-with-texts (Binary c old new) = refl
 
-any-with-texts : (ss : List Section) → list_any is_binary (map section_with_texts ss) ≡ list_any is_binary ss
+pub any-with-texts : (ss : List Section) → list_any is_binary (map section_with_texts ss) ≡ list_any is_binary ss
 any-with-texts [] = refl
 any-with-texts (s ∷ ss) = ap (λ b. b || list_any is_binary (map section_with_texts ss)) (binary-with-texts s) ∙ ap (λ b. is_binary s || b) (any-with-texts ss)
 

@@ -1,14 +1,19 @@
 -- Laws of the merge of three lists of lines.
-use Rattle.std.specs.Prelude.{◌≡◌, ◌≢◌, ◌+◌, ◌==◌, ℕ, true, false, if◌then◌else◌, List, [], ◌∷◌, ◌++◌, drop, length, slice_range}
+use Rattle.std.specs.Prelude.{◌≡◌, ◌≢◌, ◌≤◌, ◌<◌, ◌+◌, ◌==◌, ℕ, true, false, if◌then◌else◌, List, [], ◌∷◌, ◌++◌, drop, length, slice_range}
 use Rattle.std.specs.List.{AllByRecursion}
 use Rattle.scm_types.specs.declared.file.File.{File}
+use Rattle.scm_types.specs.declared.section.Section.{Section}
 use Rattle.scm_embed.specs.Lines.{lines_of}
 use Rattle.scm_diff.specs.Bytes.{bytes_of_text}
 use Rattle.scm_diff.specs.Sides.{text_of}
+use Rattle.scm_merge.specs.Markers.{bytes_with_markers, marker, opened}
 use Rattle.scm_merge.specs.Merge.{merged_bytes}
+use Rattle.scm_merge.specs.declared.labels.Labels.{Labels}
+use Rattle.scm_merge.specs.declared.style.Style.{Style}
 use Rattle.scm_merge.specs.declared.region.Region.{Region}
 use Rattle.scm_merge.specs.Parts.{Agreed, AreMerged, Choice, Conflict, Outcome, Part, conflict_of, has_conflict, lines_by, outcomes_from, outcomes_of, part_at, same_lines, shared_end, shared_start}
 use Rattle.scm_merge.specs.Sections.{sections_from}
+use Rattle.scm_merge.specs.Style.{all_texts, marker_run, style_of}
 
 -- the region with the sides exchanged
 abbrev pub exchanged_region : Region → Region
@@ -100,3 +105,33 @@ pub record GivesBytesByChoice (base ours theirs : List ℕ) (file : File) : Type
   pub bytes : (c : Choice)
       → merged_bytes (file_by file c (outcomes_from (lines_of base) (lines_of ours) (lines_of theirs) 0 regions))
       ≡ bytes_of_text (text_of (lines_by c (outcomes_from (lines_of base) (lines_of ours) (lines_of theirs) 0 regions)))
+
+-- a conflict of which nothing is taken, as it is written: each version behind its marker
+abbrev pub conflict_lines : Style → Labels → List (List ℕ) → List (List ℕ) → List (List ℕ) → List (List ℕ)
+conflict_lines style labels base ours theirs =
+    opened style (60 ∷ []) labels.ours.now ours
+    ++ (opened style (124 ∷ []) labels.base.now base
+    ++ (opened style (61 ∷ []) [] theirs ++ marker style (62 ∷ []) labels.theirs.now ∷ []))
+
+-- the lines of a merge with markers around each conflict
+abbrev pub lines_with_markers : Style → Labels → List Outcome → List (List ℕ)
+lines_with_markers style labels [] = []
+lines_with_markers style labels (Agreed ls ∷ os) = ls ++ lines_with_markers style labels os
+lines_with_markers style labels (Conflict b o t ∷ os) = conflict_lines style labels b o t ++ lines_with_markers style labels os
+
+-- The bytes of a merge of which nothing is chosen show each conflict between markers.
+pub record ShowsConflicts (labels : Labels) (base ours theirs : List ℕ) (file : File) : Type 0 where
+  pub regions : List Region
+  pub are_merged : AreMerged (lines_of base) (lines_of ours) (lines_of theirs) regions
+  pub bytes : bytes_with_markers labels file
+      ≡ bytes_of_text (text_of (lines_with_markers (style_of file.sections) labels
+      (outcomes_from (lines_of base) (lines_of ours) (lines_of theirs) 0 regions)))
+
+-- the line begins with fewer equal signs than a marker of `len` signs
+abbrev pub IsShorter : ℕ → List ℕ → Type 0
+IsShorter len line = marker_run line < len
+
+-- No line of the file can be taken for a marker.
+pub record AreToldApart (sections : List Section) : Type 0 where
+  pub least : 7 ≤ (style_of sections).len
+  pub shorter : AllByRecursion (IsShorter (style_of sections).len) (all_texts sections)

@@ -10,6 +10,12 @@ pub mod Sections
 pub mod Merge
 -- conflicts of which nothing is chosen
 pub mod Open
+-- what is written of each section
+pub mod Roles
+-- how long markers are, and how their lines end
+pub mod Style
+-- the bytes of a merge with markers around each open conflict
+pub mod Markers
 -- where the lines of a merge come from
 pub mod Origins
 -- laws of the merge

@@ -1,12 +1,13 @@
 //! Laws of the merge, each as the contract of a function that does nothing.
 ghost use Rattle.std.specs.Prelude.{◌≡◌, filter, map, true};
 ghost use Rattle.std.specs.List.{AllByRecursion, flat_map};
-ghost use Rattle.scm_merge.specs.Laws.{GivesBytesByChoice, HasBytes, IsClean, IsConflictOfThree, IsTrimmed, all_ours, all_theirs, conflict_count, exchanged, exchanged_region, file_by, ours_first, parts_from, theirs_first};
+ghost use Rattle.scm_merge.specs.Laws.{AreToldApart, GivesBytesByChoice, HasBytes, IsClean, IsConflictOfThree, IsTrimmed, ShowsConflicts, all_ours, all_theirs, conflict_count, exchanged, exchanged_region, file_by, ours_first, parts_from, theirs_first};
 ghost use Rattle.scm_merge.specs.Parts.{AreMerged, Choice, Part, lines_by, outcomes_from};
 ghost use Rattle.scm_embed.specs.Lines.{lines_of};
 ghost use Rattle.scm_diff.specs.Bytes.{text_of_bytes};
 ghost use Rattle.scm_diff.specs.Change.{unchecked};
 ghost use Rattle.scm_types.specs.Laws.{is_in_side, line_text, lines_of_file};
+ghost use Rattle.scm_merge.specs.Markers.{bytes_with_markers};
 ghost use Rattle.scm_merge.specs.Merge.{IsMerge, merged_bytes};
 ghost use Rattle.scm_merge.specs.Open.{open_conflicts};
 ghost use Rattle.scm_merge.specs.Origins.{IsWoven};
@@ -14,6 +15,7 @@ ghost use Rattle.scm_merge.specs.Regions.{AreRegions};
 ghost use Rattle.scm_merge.specs.Sections.{file_with_texts, nothing_chosen};
 ghost use Rattle.scm_types.specs.Split.{side_lines};
 
+use crate::labels::Labels;
 use crate::region::Region;
 use scm_types::{File, FileMode, Text};
 
@@ -170,4 +172,31 @@ pub fn choice_gives_its_bytes(
 )
     requires { IsMerge path.now mode base.now ours.now theirs.now file.now }
     ensures { GivesBytesByChoice base.now ours.now theirs.now file.now }
+{}
+
+/// Proves that a merge with markers has none if no conflict is open: it is the merge by the marks.
+pub fn settled_merges_have_no_markers(file: &File<'_>, labels: Labels<'_>)
+    requires { open_conflicts file.now ≡ 0 }
+    ensures { bytes_with_markers labels.entry file.now ≡ merged_bytes file.now }
+{}
+
+/// Proves that a merge of which nothing is chosen has the lines of each conflict between its markers,
+/// and no other marker.
+pub fn markers_show_the_conflicts(
+    path: &str,
+    mode: FileMode,
+    base: &str,
+    ours: &str,
+    theirs: &str,
+    file: &File<'_>,
+    labels: Labels<'_>,
+)
+    requires { IsMerge path.now mode base.now ours.now theirs.now file.now }
+    ensures { ShowsConflicts labels.entry base.now ours.now theirs.now file.now }
+{}
+
+/// Proves that no line of the file begins with as many equal signs as a marker has, and that a marker
+/// has 7 at least.
+pub fn markers_are_told_apart(file: &File<'_>)
+    ensures { AreToldApart file.now.sections }
 {}

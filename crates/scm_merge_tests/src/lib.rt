@@ -2,6 +2,8 @@
 #![tactic(auto)]
 
 #[cfg(test)]
+mod markers;
+#[cfg(test)]
 mod memory;
 #[cfg(test)]
 mod table;

@@ -80,7 +80,7 @@ const MERGES: &[Merge] = &[
 ];
 
 /// Marks the items by the bits of `marks`, the lowest one first.
-fn mark(file: &mut File<'_>, marks: usize) {
+pub(crate) fn mark(file: &mut File<'_>, marks: usize) {
     let mut left = marks;
     for section in file.sections.iter_mut() {
         if let Section::Changed { lines } = section {

@@ -1,0 +1,238 @@
+//! The bytes of a merge with markers around each open conflict.
+ghost use Rattle.std.specs.Prelude.{◌≡◌, ◌++◌, ◌∷◌, [], IfOk, OnOk, length, string_bytes};
+ghost use Rattle.std.specs.List.{list_any};
+ghost use Rattle.scm_merge.specs.Markers.{bytes_with_markers, ended, file_with_markers, is_left_out, is_line, is_line_end, label_part, line_end, marked_section, marked_sections, marker, opened, sections_with_markers, version_lines};
+ghost use Rattle.scm_merge.specs.Style.{texts_of};
+
+use crate::labels::Labels;
+use crate::result::{file_with_sections, section_with_texts};
+use crate::roles::{Role, roles_of};
+use crate::style::{Style, has_end, push_texts, style_of};
+use scm_diff::side_bytes;
+use scm_types::{File, Items, Section, Text};
+use std::alloc::{AllocError, Global};
+
+/// Returns the line end.
+fn line_end(is_crlf: bool) -> &'static str
+    ensures { result.now ≡ line_end is_crlf }
+{
+    if is_crlf { "\r\n" } else { "\n" }
+}
+
+/// Returns whether the byte is LF or CR.
+fn is_line_end(byte: u8) -> bool
+    ensures { result ≡ is_line_end byte }
+{
+    // `|`: one branch for the prover
+    (byte == b'\n') | (byte == b'\r')
+}
+
+/// Returns whether one of the bytes is LF or CR.
+fn has_line_end(bytes: &[u8]) -> bool
+    ensures { result ≡ list_any is_line_end bytes.now }
+{
+    bytes.iter().any(|byte| is_line_end(*byte))
+}
+
+/// Returns whether the label is left out.
+fn is_left_out(label: &str) -> bool
+    ensures { result ≡ is_left_out label.now }
+{
+    let breaks_line = has_line_end(label.as_bytes());
+    // `|`: one branch for the prover
+    label.is_empty() | breaks_line
+}
+
+/// Adds a space and the label at the end of `text`, unless the label is left out.
+fn push_label(text: &mut String, label: &str) -> Result<(), AllocError>
+    ensures { OnOk result (string_bytes text.new ≡ string_bytes text.old ++ label_part label.now) }
+{
+    if is_left_out(label) {
+        return Ok(());
+    }
+    text.push_str(" ")?;
+    text.push_str(label)?;
+    Ok(())
+}
+
+/// Returns the line of a marker.
+fn marker<'a>(alloc: Global, style: Style, sign: &str, label: &str) -> Result<Text<'a>, AllocError>
+    ensures { IfOk result (λ line. line ≡ marker style sign.now label.now) }
+{
+    let mut text = sign.repeat(alloc, style.len)?;
+    push_label(&mut text, label)?;
+    text.push_str(line_end(style.is_crlf))?;
+    Ok(Text::from(text))
+}
+
+/// Returns a copy of the line with its line end, which is added if it has none.
+fn ended<'a>(alloc: Global, is_crlf: bool, line: &Text<'a>) -> Result<Text<'a>, AllocError>
+    ensures { IfOk result (λ copy. copy ≡ ended is_crlf line.now) }
+{
+    if has_end(line) {
+        let copy = line.clone()?;
+        return Ok(copy);
+    }
+    let mut text = String::from_str(alloc, line.as_str())?;
+    text.push_str(line_end(is_crlf))?;
+    Ok(Text::from(text))
+}
+
+/// Adds a line of a version at the end of `lines`, unless it only stands for a version without lines.
+fn push_version_line<'a>(
+    alloc: Global,
+    lines: &mut Vec<Text<'a>>,
+    is_crlf: bool,
+    text: &Text<'a>,
+) -> Result<(), AllocError>
+    ensures { OnOk result (lines.new.items
+        ≡ lines.old.items ++ version_lines is_crlf (text.now ∷ [])) }
+{
+    if text.is_empty() {
+        return Ok(());
+    }
+    lines.push(ended(alloc, is_crlf, text)?)?;
+    Ok(())
+}
+
+/// Adds the lines of a version of an open conflict at the end of `lines`, each with its line end.
+fn push_version<'a>(
+    alloc: Global,
+    lines: &mut Vec<Text<'a>>,
+    is_crlf: bool,
+    texts: &[Text<'a>],
+) -> Result<(), AllocError>
+    ensures { OnOk result (lines.new.items
+        ≡ lines.old.items ++ version_lines is_crlf texts.now) }
+{
+    for text in texts {
+        push_version_line(alloc, lines, is_crlf, text)?;
+    }
+    Ok(())
+}
+
+/// Returns a version of an open conflict behind its marker.
+fn opened<'a>(
+    alloc: Global,
+    style: Style,
+    sign: &str,
+    label: &str,
+    section: &Section<'a>,
+) -> Result<Vec<Text<'a>>, AllocError>
+    ensures { IfOk result (λ lines.
+        lines.items ≡ opened style sign.now label.now (texts_of section.now)) }
+{
+    let mut texts = Vec::new(alloc);
+    push_texts(&mut texts, section)?;
+    let mut lines = Vec::new(alloc);
+    lines.push(marker(alloc, style, sign, label)?)?;
+    push_version(alloc, &mut lines, style.is_crlf, texts.as_slice())?;
+    Ok(lines)
+}
+
+/// Returns their lines of an open conflict between their marker and the last one.
+fn closed<'a>(
+    alloc: Global,
+    style: Style,
+    label: &str,
+    section: &Section<'a>,
+) -> Result<Vec<Text<'a>>, AllocError>
+    ensures { IfOk result (λ lines. lines.items
+        ≡ opened style (61 ∷ []) [] (texts_of section.now) ++ marker style (62 ∷ []) label.now ∷ []) }
+{
+    let mut lines = opened(alloc, style, "=", "", section)?;
+    lines.push(marker(alloc, style, ">", label)?)?;
+    Ok(lines)
+}
+
+/// Returns the section as it is written.
+fn marked_section<'a>(
+    alloc: Global,
+    style: Style,
+    labels: Labels<'_>,
+    role: Role,
+    section: &Section<'a>,
+) -> Result<Section<'a>, AllocError>
+    ensures { IfOk result (λ copy. copy ≡ marked_section style labels.entry role section.now) }
+{
+    let lines = match role {
+        Role::Settled => return section_with_texts(alloc, section),
+        Role::Ours => opened(alloc, style, "<", labels.ours, section)?,
+        Role::Base => opened(alloc, style, "|", labels.base, section)?,
+        Role::Theirs => closed(alloc, style, labels.theirs, section)?,
+    };
+    Ok(Section::Unchanged {
+        lines: Items::from(lines),
+    })
+}
+
+/// Returns the sections as they are written, each by its role.
+fn marked_sections<'a>(
+    alloc: Global,
+    style: Style,
+    labels: Labels<'_>,
+    roles: &[Role],
+    sections: &[Section<'a>],
+) -> Result<Vec<Section<'a>>, AllocError>
+    requires { length roles.now ≡ length sections.now }
+    ensures { IfOk result (λ copies.
+        copies.items ≡ marked_sections style labels.entry roles.now sections.now) }
+{
+    let mut copies = Vec::with_capacity(alloc, sections.len())?;
+    for index in 0..sections.len() {
+        copies.push(marked_section(alloc, style, labels, roles[index], &sections[index])?)?;
+    }
+    Ok(copies)
+}
+
+/// Returns the sections with markers around each open conflict.
+#[tactic(auto, using(crate::proofs::MarkerLemmas::roles_fit))]
+fn sections_with_markers<'a>(
+    alloc: Global,
+    labels: Labels<'_>,
+    sections: &[Section<'a>],
+) -> Result<Vec<Section<'a>>, AllocError>
+    ensures { IfOk result (λ copies.
+        copies.items ≡ sections_with_markers labels.entry sections.now) }
+{
+    let style = style_of(alloc, sections)?;
+    let roles = roles_of(alloc, sections)?;
+    let copies = marked_sections(alloc, style, labels, roles.as_slice(), sections)?;
+    Ok(copies)
+}
+
+/// Returns a copy of the file with markers around each open conflict.
+fn file_with_markers<'a>(
+    alloc: Global,
+    file: &File<'a>,
+    labels: Labels<'_>,
+) -> Result<File<'a>, AllocError>
+    ensures { IfOk result (λ copy. copy ≡ file_with_markers labels.entry file.now) }
+{
+    let sections = sections_with_markers(alloc, labels, file.sections.as_slice())?;
+    let copy = file_with_sections(file, sections)?;
+    Ok(copy)
+}
+
+/// Returns the bytes of the merge by the marks of `file`, which [`merged_file`](crate::merged_file)
+/// made, with markers around each conflict that is open. If none is open, these are the bytes of
+/// [`merged_bytes`](crate::merged_bytes).
+///
+/// An open conflict is written in the style `diff3` of git: `<<<<<<<`, our lines, `|||||||`, the lines
+/// of the base, `=======`, their lines and `>>>>>>>`, each marker on a line of its own. A marker has 7
+/// signs, or one more than any line of the file begins with. Its line ends with CR LF if the first line
+/// end of the file is CR LF, else with LF. A last line without a line end gets one before a marker.
+///
+/// # Errors
+/// `AllocError`: an allocation failed.
+pub fn bytes_with_markers(
+    alloc: Global,
+    file: &File<'_>,
+    labels: Labels<'_>,
+) -> Result<Vec<u8>, AllocError>
+    ensures { IfOk result (λ bytes. bytes.items ≡ bytes_with_markers labels.entry file.now) }
+{
+    let copy = file_with_markers(alloc, file, labels)?;
+    let bytes = side_bytes(alloc, &copy, true)?;
+    Ok(bytes)
+}
