@@ -1,0 +1,2 @@
+-- what marks do not change
+pub mod MarkedLemmas

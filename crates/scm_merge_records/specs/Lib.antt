@@ -1,0 +1,8 @@
+-- The definitions that contracts cite, in reading order.
+
+-- the merge of three files, as records of bytes
+pub mod Records
+-- the marks of a merge, and what they make of it
+pub mod Marked
+-- the same, with markers around each conflict that is open
+pub mod WithMarkers

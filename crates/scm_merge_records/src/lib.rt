@@ -1,0 +1,13 @@
+//! The merge of three files as records of bytes, and what marks make of it.
+#![tactic(auto)]
+
+pub mod laws;
+mod marked;
+pub mod markers;
+mod merge;
+mod records;
+mod result;
+
+pub use markers::{LabelBytes, merge_with_markers};
+pub use records::merge_records;
+pub use result::{Merged, merge_by_marks};

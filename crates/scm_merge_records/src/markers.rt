@@ -1,0 +1,92 @@
+//! What marks make of a merge, with markers around each conflict that is open.
+ghost use Rattle.std.specs.Prelude.{◌≡◌, IfOk, false, true};
+ghost use Rattle.scm_merge_records.specs.Marked.{is_fit};
+ghost use Rattle.scm_merge_records.specs.WithMarkers.{IsLabelled, IsMergedWithMarkers, IsWithMarkers};
+
+use crate::marked::{is_fit, marked_file};
+use crate::merge::file_of_texts;
+use scm_diff::text_of_bytes;
+use scm_merge::{Labels, bytes_with_markers};
+use scm_types::File;
+use std::alloc::{AllocError, Global};
+
+/// The labels of the three versions, as bytes. An empty one, or one with a line end, is left out.
+#[derive(Clone, Copy, Debug)]
+pub struct LabelBytes<'a> {
+    /// The label of our version.
+    pub ours: &'a [u8],
+
+    /// The label of the base.
+    pub base: &'a [u8],
+
+    /// The label of their version.
+    pub theirs: &'a [u8],
+}
+
+/// Returns what the marks make of `file`, with markers, if they are as many as its items.
+fn marked_bytes(
+    alloc: Global,
+    file: &File<'_>,
+    marks: &[u8],
+    labels: Labels<'_>,
+) -> Result<Option<Vec<u8>>, AllocError>
+    ensures { IfOk result (IsWithMarkers labels.entry marks.now file.now) }
+{
+    if !is_fit(file.sections.as_slice(), marks) {
+        return Ok(None);
+    }
+    let marked = marked_file(alloc, file, marks)?;
+    let bytes = bytes_with_markers(alloc, &marked, labels)?;
+    Ok(Some(bytes))
+}
+
+/// Returns what `marks` make of a file with these labels, as bytes.
+fn labelled_bytes(
+    alloc: Global,
+    file: &File<'_>,
+    marks: &[u8],
+    labels: LabelBytes<'_>,
+) -> Result<Option<Vec<u8>>, AllocError>
+    ensures { IfOk result (λ bytes. IsLabelled labels.entry marks.now file.now bytes) }
+{
+    let our_label = text_of_bytes(alloc, labels.ours)?;
+    let base_label = text_of_bytes(alloc, labels.base)?;
+    let their_label = text_of_bytes(alloc, labels.theirs)?;
+    let texts = Labels {
+        ours: our_label.as_str(),
+        base: base_label.as_str(),
+        theirs: their_label.as_str(),
+    };
+    let bytes = marked_bytes(alloc, file, marks, texts)?;
+    Ok(bytes)
+}
+
+/// Returns what `marks` make of the merge of three files, as [`merge_by_marks`](crate::merge_by_marks)
+/// takes them, with markers around each conflict that is open; or `None` if they are not as many as the
+/// items of the conflicts. `scm_merge::bytes_with_markers` has the form of the markers.
+///
+/// # Errors
+/// `AllocError`: an allocation failed.
+pub fn merge_with_markers(
+    alloc: Global,
+    base: &[u8],
+    ours: &[u8],
+    theirs: &[u8],
+    marks: &[u8],
+    labels: LabelBytes<'_>,
+) -> Result<Option<Vec<u8>>, AllocError>
+    ensures { IfOk result
+        (IsMergedWithMarkers labels.entry base.now ours.now theirs.now marks.now) }
+{
+    let base_text = text_of_bytes(alloc, base)?;
+    let our_text = text_of_bytes(alloc, ours)?;
+    let their_text = text_of_bytes(alloc, theirs)?;
+    let file = file_of_texts(
+        alloc,
+        base_text.as_str(),
+        our_text.as_str(),
+        their_text.as_str(),
+    )?;
+    let bytes = labelled_bytes(alloc, &file, marks, labels)?;
+    Ok(bytes)
+}
