@@ -1,5 +1,5 @@
 -- What becomes of each path.
-use Rattle.std.proofs.Common.{◌≡◌, ℕ, ◌+◌, ◌<◌, ◌≤◌, List, [], ◌∷◌, ◌++◌, length, get_or, Bool, true, false, ◌&&◌, cond, eqb, eqb-true, Option, Some, None, refl, arith, sym, subst, ◌∙◌, ap, ◌⊎◌, inl, inr}
+use Rattle.std.proofs.Common.{◌≡◌, ℕ, ◌+◌, ◌<◌, List, [], ◌∷◌, ◌++◌, length, get_or, Bool, true, false, ◌&&◌, cond, eqb, eqb-true, Option, refl, arith, sym, subst, ◌∙◌, ap, inl, inr}
 use Rattle.std.specs.Prelude.{is_some}
 use Rattle.std.specs.List.{All}
 use Rattle.std.proofs.Math.ListN.{get_or-append}
@@ -14,7 +14,6 @@ use Rattle.scm_tree.specs.Refusals.{is_refused}
 use Rattle.scm_tree.proofs.LawLemmas.{is-result, its-own}
 use Rattle.scm_decide.specs.declared.place.Entry.{Entry}
 use Rattle.scm_decide.specs.declared.place.Mark.{Mark}
-use Rattle.scm_decide.specs.declared.rename.Rename.{Rename}
 use Rattle.scm_decide.specs.declared.decision.Moved.{Moved}
 use Rattle.scm_decide.specs.declared.decision.Outcome.{Outcome}
 use Rattle.scm_decide.specs.declared.decision.Decision.{Decision}
@@ -23,7 +22,7 @@ use Rattle.scm_decide.specs.Places.{entry_path, entry_version}
 use Rattle.scm_decide.specs.Merge.{row_current, row_goal, row_path}
 use Rattle.scm_decide.specs.Renames.{is_one, is_one_of}
 use Rattle.scm_decide.specs.Decisions.{AreOutcomes, IsAtOne, IsDecision, IsMoved, IsOutcome, IsPromise, outcome_after, outcome_path}
-use Rattle.scm_decide.proofs.HoldsLemmas.{same_each, same_trans, some_of}
+use Rattle.scm_decide.proofs.HoldsLemmas.{same_each, same_trans}
 
 -- ---- an outcome more
 

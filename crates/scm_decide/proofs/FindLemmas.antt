@@ -1,10 +1,10 @@
 -- The row of a path.
-use Rattle.std.proofs.Common.{◌≡◌, ℕ, ◌+◌, ◌<◌, ◌≤◌, List, length, get_or, Bool, true, false, refl, arith, sym, ◌∙◌, ap, ◌⊎◌, inl, inr}
+use Rattle.std.proofs.Common.{◌≡◌, ℕ, ◌+◌, ◌<◌, ◌≤◌, List, length, get_or, true, false, arith, sym, ◌∙◌, ap, inl, inr}
 use Rattle.std.proofs.lemmas.Bool.{false≢true, cases_lt, false_from_ne_true}
 use Rattle.scm_tree.specs.declared.row.Row.{Row}
 use Rattle.scm_tree.specs.Paths.{is_before}
 use Rattle.scm_tree.specs.Rows.{AreInOrder}
-use Rattle.scm_tree.proofs.PathLemmas.{before_one_way, before_self, before_total, before_trans}
+use Rattle.scm_tree.proofs.PathLemmas.{before_self, before_total, before_trans}
 use Rattle.scm_decide.specs.declared.find.Span.{Span}
 use Rattle.scm_decide.specs.Find.{HasNoRow, IsRowFor, IsWithin, starts_before}
 

@@ -1,21 +1,31 @@
 -- Places that are gathered path by path.
-use Rattle.std.proofs.Common.{◌≡◌, ℕ, zero, suc, ◌+◌, ◌-◌, ◌<◌, ◌≤◌, List, [], ◌∷◌, ◌++◌, length, take, get_or, Bool, true, false, ◌||◌, Option, eqb, refl, arith, sym, subst, ◌∙◌, ap, ◌⊎◌, inl, inr}
+use Rattle.std.proofs.Common.{◌≡◌, ℕ, zero, suc, ◌+◌, ◌-◌, ◌<◌, ◌≤◌, List, [], ◌∷◌, ◌++◌, length, take, get_or, Bool, true, false, ◌||◌, Option, Some, None, eqb, refl, arith, sym, subst, ◌∙◌, ap, inl, inr}
 use Rattle.std.proofs.Math.ListN.{get_or-append}
 use Rattle.std.proofs.Math.Seq.{get_or-append_seam}
-use Rattle.std.proofs.lemmas.Bool.{false≢true, true≢false, cases_lt}
+use Rattle.std.proofs.lemmas.Bool.{false≢true, true≢false, cases_lt, or_cases}
+use Rattle.std.specs.Prelude.{is_some}
+use Rattle.std.specs.Option.{option_or}
+use Rattle.std.specs.List.{All}
 use Rattle.std.proofs.lemmas.List.{length-append, take_all, take_more}
+use Rattle.std.proofs.lemmas.List.Elements.{All-push}
 use Rattle.scm_tree.specs.Paths.{is_before}
 use Rattle.scm_tree.proofs.PathLemmas.{before_total, before_trans}
+use Rattle.scm_tree.specs.declared.row.Version.{Version}
+use Rattle.scm_decide.specs.declared.place.Wish.{Wish}
 use Rattle.scm_decide.specs.declared.place.Place.{Place}
-use Rattle.scm_decide.specs.Holds.{HaveSame}
-use Rattle.scm_decide.specs.Places.{AreGathered, ArePlacesInOrder, AreSorted, HaveSameFiles, IsAdded, IsJoined, is_twice, place_current, place_goal, place_path, place_wish}
-use Rattle.scm_decide.proofs.HoldsLemmas.{same_joined, same_nothing, same_push, same_refl, same_trans}
+use Rattle.scm_decide.specs.declared.rows.GatherError.{GatherError}
+use Rattle.scm_decide.specs.declared.rows.GatherError.TheVariants.{Twice, Unknown, OutOfMemory}
+use Rattle.scm_decide.specs.GatherFaults.{IsAddFault, IsPlaceFault}
+use Rattle.scm_decide.specs.Places.{AreGathered, ArePlacesInOrder, AreSorted, HaveSameFiles, IsAdded, IsFilled, IsJoined, is_twice, place_current, place_goal, place_path, place_wish}
+use Rattle.scm_decide.proofs.TimesLemmas.{two_there}
+use Rattle.scm_decide.proofs.HoldsLemmas.{all_first, all_last, same_joined, same_push, same_refl, same_trans}
 
 files_refl : (xs : List Place) → HaveSameFiles xs xs
 files_refl xs = record {
   current = same_refl place_path place_current xs;
   goal = same_refl place_path place_goal xs;
   wish = same_refl place_path place_wish xs;
+  filled = λ h. h;
 }
 
 files_trans : (xs ys zs : List Place) → HaveSameFiles xs ys → HaveSameFiles ys zs → HaveSameFiles xs zs
@@ -23,6 +33,7 @@ files_trans xs ys zs s t = record {
   current = same_trans place_path place_current xs place_path place_current ys place_path place_current zs s.current t.current;
   goal = same_trans place_path place_goal xs place_path place_goal ys place_path place_goal zs s.goal t.goal;
   wish = same_trans place_path place_wish xs place_path place_wish ys place_path place_wish zs s.wish t.wish;
+  filled = λ h. t.filled (s.filled h);
 }
 
 files_push : (xs ys : List Place) (y : Place) → HaveSameFiles xs ys → HaveSameFiles (xs ++ y ∷ []) (ys ++ y ∷ [])
@@ -30,6 +41,7 @@ files_push xs ys y s = record {
   current = same_push place_path place_current xs place_path place_current ys y y refl refl s.current;
   goal = same_push place_path place_goal xs place_path place_goal ys y y refl refl s.goal;
   wish = same_push place_path place_wish xs place_path place_wish ys y y refl refl s.wish;
+  filled = λ h. All-push IsFilled ys y (s.filled (all_first IsFilled xs y h)) (all_last IsFilled xs y h);
 }
 
 -- ---- the order
@@ -92,6 +104,23 @@ added_after done last y o b = record {
   same = files_refl ((done ++ last ∷ []) ++ y ∷ []);
 }
 
+-- a place that is joined of a filled one is filled
+or_filled : {A B C : Type 0} (a d : Option A) (b e : Option B) (c f : Option C) → (is_some a || is_some b || is_some c) ≡ true → (is_some (option_or a d) || is_some (option_or b e) || is_some (option_or c f)) ≡ true
+or_filled (Some x) d b e c f h = refl
+or_filled None None (Some y) e c f h = refl
+or_filled None (Some x) (Some y) e c f h = refl
+or_filled None None None None (Some z) f h = refl
+or_filled None None None (Some y) (Some z) f h = refl
+or_filled None (Some x) None e (Some z) f h = refl
+or_filled None d None e None f h = absurd (false≢true h)
+
+filled_joined : (x y z : Place) → IsJoined x y z → IsFilled x → IsFilled z
+filled_joined x y z j h =
+    ap (λ (o : Option Version). is_some o || is_some z.goal || is_some z.wish) j.current
+    ∙ ap (λ (o : Option Version). is_some (option_or x.current y.current) || is_some o || is_some z.wish) j.goal
+    ∙ ap (λ (o : Option Wish). is_some (option_or x.current y.current) || is_some (option_or x.goal y.goal) || is_some o) j.wish
+    ∙ or_filled x.current y.current x.goal y.goal x.wish y.wish h
+
 none_of : (a b : Bool) → (a || b) ≡ false → (a ≡ false) × (b ≡ false)
 none_of true b e = absurd (true≢false e)
 none_of false b e = (refl, e)
@@ -108,6 +137,9 @@ added_joined done last y z o a b n j =
         current = same_joined place_path place_current done last y z j.path same_path j.current both.0;
         goal = same_joined place_path place_goal done last y z j.path same_path j.goal both.1;
         wish = same_joined place_path place_wish done last y z j.path same_path j.wish third.1;
+        filled = λ h.
+            let g : All IsFilled (done ++ last ∷ []) = all_first IsFilled (done ++ last ∷ []) y h in
+            All-push IsFilled done z (all_first IsFilled done last g) (filled_joined last y z j (all_last IsFilled done last g));
       };
     }
 
@@ -152,6 +184,21 @@ gathered_next xs i done last y after next g h is a = record {
   where
     taken : (xs : List Place) (i : ℕ) (y : Place) → i < length xs → ((d : Place) → get_or xs i d ≡ y) → take (i + 1) xs ≡ take i xs ++ y ∷ []
     taken xs i y h is = take_more xs i y h ∙ ap (λ (x : Place). take i xs ++ x ∷ []) (is y)
+
+-- a place that cannot be added: one tree has two files of its path, or two marks have it
+pub gathered_fault : (xs : List Place) (i : ℕ) (done : List Place) (last y : Place) (e : GatherError) → AreGathered xs i done last → i < length xs → ((d : Place) → get_or xs i d ≡ y) → IsAddFault last y e → IsPlaceFault xs e
+gathered_fault xs i done last y OutOfMemory g h is f = tt
+gathered_fault xs i done last y (Unknown p) g h is f = absurd f
+gathered_fault xs i done last y (Twice p) g h is f =
+    let t : take (i + 1) xs ≡ take i xs ++ y ∷ [] = take_more xs i y h ∙ ap (λ (x : Place). take i xs ++ x ∷ []) (is y) in
+    let other : p.now ≡ y.path.now = f.0 ∙ f.1.0 in
+    elim (or_cases _ _ f.1.1) [
+      | inl third ↦ (elim (or_cases _ _ third) [
+        | inl both ↦ inl (inl (two_there place_path place_current xs done last y i p.now t (g.same.current.as_often p.now) f.0 other both))
+        | inr both ↦ inl (inr (two_there place_path place_goal xs done last y i p.now t (g.same.goal.as_often p.now) f.0 other both))
+      ])
+      | inr both ↦ inr (two_there place_path place_wish xs done last y i p.now t (g.same.wish.as_often p.now) f.0 other both)
+    ]
 
 pub gathered_all : (xs : List Place) (i : ℕ) (done : List Place) (last : Place) → AreGathered xs i done last → length xs ≤ i → HaveSameFiles xs (done ++ last ∷ [])
 gathered_all xs i done last g h = subst (λ (ys : List Place). HaveSameFiles ys (done ++ last ∷ [])) (take_all i xs h) g.same

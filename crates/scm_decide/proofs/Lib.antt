@@ -1,5 +1,7 @@
 -- lists that have the same values at each path
 pub mod HoldsLemmas
+-- how often a path is in a list
+pub mod TimesLemmas
 -- the places of two trees and marks
 pub mod PlaceLemmas
 -- places that are gathered path by path
@@ -10,3 +12,5 @@ pub mod MergeLemmas
 pub mod FindLemmas
 -- what becomes of each path
 pub mod DecisionLemmas
+-- why nothing is decided
+pub mod ReasonLemmas

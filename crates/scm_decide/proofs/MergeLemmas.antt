@@ -1,5 +1,6 @@
 -- The rows of two trees and marks.
-use Rattle.std.proofs.Common.{◌≡◌, ℕ, ◌+◌, ◌<◌, ◌≤◌, List, [], ◌∷◌, ◌++◌, length, get_or, Bool, true, false, Option, Some, None, refl, arith, sym, subst, ◌∙◌, ap, ◌⊎◌, inl, inr}
+use Rattle.std.proofs.Common.{◌≡◌, ℕ, ◌+◌, ◌<◌, ◌≤◌, List, [], ◌∷◌, ◌++◌, length, get_or, true, ◌||◌, Option, Some, None, refl, arith, sym, subst, ◌∙◌, ap, ◌⊎◌, inl, inr}
+use Rattle.std.specs.Prelude.{is_some}
 use Rattle.std.proofs.Math.ListN.{get_or-append}
 use Rattle.std.proofs.Math.Seq.{get_or-append_seam}
 use Rattle.std.proofs.lemmas.Bool.{false≢true, cases_lt, cases_order}
@@ -14,9 +15,13 @@ use Rattle.scm_decide.specs.declared.place.Entry.{Entry}
 use Rattle.scm_decide.specs.declared.place.Mark.{Mark}
 use Rattle.scm_decide.specs.declared.place.Wish.{Wish}
 use Rattle.scm_decide.specs.declared.place.Place.{Place}
-use Rattle.scm_decide.specs.Holds.{HaveSame, Holds}
+use Rattle.scm_decide.specs.declared.rows.GatherError.{GatherError}
+use Rattle.scm_decide.specs.declared.rows.GatherError.TheVariants.{Twice, Unknown, OutOfMemory}
+use Rattle.scm_decide.specs.Holds.{HaveSame, Holds, times}
+use Rattle.scm_decide.specs.GatherFaults.{IsGatherFault, IsInNoTree, IsPlaceFault, IsRowsFault, IsTwice, IsUnknown}
 use Rattle.scm_decide.specs.Places.{AreListed, ArePlacesInOrder, entry_path, entry_version, mark_path, mark_wish, place_current, place_goal, place_path, place_wish}
 use Rattle.scm_decide.specs.Merge.{AreMerged, AreRowsBelow, IsMarked, IsRowOf, IsUnmarked, file_by, row_current, row_goal, row_path, wanted_by}
+use Rattle.scm_decide.proofs.TimesLemmas.{times_in_order}
 use Rattle.scm_decide.proofs.HoldsLemmas.{none_some, same_each, same_trans, some_of}
 
 -- ---- a row more
@@ -104,9 +109,66 @@ marked_row count old new marks places k d r (Some w) order s h is e = inl (recor
   file = is.file d ∙ ap (λ (o : Option Wish). file_by o count) e;
 })
 
+-- places in order have what the trees and the marks have, so no list has a path twice
+listed_once : (old new : List Entry) (marks : List Mark) (places : List Place) (p : List ℕ) → ArePlacesInOrder places → AreListed old new marks places → IsTwice old new marks p → ⊥
+listed_once old new marks places p o s t = elim t [
+  | inl u ↦ (elim u [
+    | inl v ↦ not_more (times entry_path entry_version old p) (times place_path place_current places p) (s.current.as_often p) (times_in_order place_path place_current places p o) v
+    | inr v ↦ not_more (times entry_path entry_version new p) (times place_path place_goal places p) (s.goal.as_often p) (times_in_order place_path place_goal places p o) v
+  ])
+  | inr v ↦ not_more (times mark_path mark_wish marks p) (times place_path place_wish places p) (s.wish.as_often p) (times_in_order place_path place_wish places p o) v
+]
+  where
+    not_more : (a b : ℕ) → b ≡ a → b ≤ 1 → 1 < a → ⊥
+    not_more a b e h k = omega arith
+
+-- a place that is in neither tree is one that a mark has
+wished : (a b : Option Version) (o : Option Wish) → a ≡ None → b ≡ None → (is_some a || is_some b || is_some o) ≡ true → (w : Wish) × (o ≡ Some w)
+wished None None (Some w) e f h = (w, refl)
+wished None None None e f h = absurd (false≢true h)
+wished (Some v) b o e f h = absurd (none_some v (sym e))
+wished None (Some v) o e f h = absurd (none_some v (sym f))
+
+in_no_tree : (places : List Place) (i : ℕ) (p : List ℕ) (at : Place → Option Version) (v : Version) → ArePlacesInOrder places → i < length places → ((d : Place) → (get_or places i d).path.now ≡ p) → ((d : Place) → at (get_or places i d) ≡ None) → Holds place_path at places p v → ⊥
+in_no_tree places i p at v o h path none held =
+    let k : ℕ = held.1.0.0 in
+    let m : k < length places = held.1.0.1 in
+    let is : get_or places k held.0 ≡ held.0 = held.1.0.2 in
+    let e : k ≡ i = one_place places k i held.0 o m h (ap (λ (x : Place). x.path.now) is ∙ held.1.1 ∙ sym (path held.0)) in
+    none_some v (sym (none held.0) ∙ ap (λ (n : ℕ). at (get_or places n held.0)) (sym e) ∙ ap at is ∙ held.1.2)
+
+pub unknown_path : (old new : List Entry) (marks : List Mark) (places : List Place) (i : ℕ) (p : List ℕ) → ArePlacesInOrder places → AreListed old new marks places → i < length places → IsInNoTree places i p → IsUnknown old new marks p
+unknown_path old new marks places i p o s h is =
+    let d : Place = some_of places i h in
+    let x : Place = get_or places i d in
+    let w = wished x.current x.goal x.wish (is.current d) (is.goal d) (s.filled i d h) in
+    record {
+      wish = w.0;
+      is_marked = s.wish.known p w.0 (x, (Contains-get_or places i d h, is.path d, w.1));
+      not_old = λ v held. in_no_tree places i p place_current v o h is.path is.current (s.current.kept p v held);
+      not_new = λ v held. in_no_tree places i p place_goal v o h is.path is.goal (s.goal.kept p v held);
+    }
+
+pub rows_fault : (old new : List Entry) (marks : List Mark) (places : List Place) (e : GatherError) → ArePlacesInOrder places → AreListed old new marks places → IsRowsFault places e → IsGatherFault old new marks e
+rows_fault old new marks places OutOfMemory o s f = tt
+rows_fault old new marks places (Twice p) o s f = absurd f
+rows_fault old new marks places (Unknown p) o s f = unknown_path old new marks places f.0 p.now o s f.1.0 f.1.1
+
+pub places_fault : (old new : List Entry) (marks : List Mark) (places : List Place) (e : GatherError) → AreListed old new marks places → IsPlaceFault places e → IsGatherFault old new marks e
+places_fault old new marks places OutOfMemory s f = tt
+places_fault old new marks places (Unknown p) s f = absurd f
+places_fault old new marks places (Twice p) s f = elim f [
+  | inl t ↦ (elim t [
+    | inl u ↦ inl (inl (subst (λ (n : ℕ). 1 < n) (s.current.as_often p.now) u))
+    | inr u ↦ inl (inr (subst (λ (n : ℕ). 1 < n) (s.goal.as_often p.now) u))
+  ])
+  | inr u ↦ inr (subst (λ (n : ℕ). 1 < n) (s.wish.as_often p.now) u)
+]
+
 pub rows_merged : (count : ℕ) (old new : List Entry) (marks : List Mark) (places : List Place) (rows : List Row) → ArePlacesInOrder places → AreListed old new marks places → AreRowsBelow count places (length places) rows → AreMerged count old new marks rows
 rows_merged count old new marks places rows o s below = record {
   in_order = order_rows count places rows o below;
+  once = λ p t. listed_once old new marks places p o s t;
   current = same_trans entry_path entry_version old place_path place_current places row_path row_current rows s.current (same_row_current count places rows below);
   goal = same_trans entry_path entry_version new place_path place_goal places row_path row_goal rows s.goal (same_row_goal count places rows below);
   there = λ k d h. let l = below.long in (below.each k d (omega arith)).there;

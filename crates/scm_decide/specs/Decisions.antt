@@ -1,5 +1,5 @@
 -- What becomes of each path.
-use Rattle.std.specs.Prelude.{◌≡◌, ℕ, ◌+◌, ◌<◌, List, Bool, true, false, Option, Some, None, is_some, length, slice_index_or}
+use Rattle.std.specs.Prelude.{◌≡◌, ℕ, ◌+◌, ◌<◌, List, true, false, Option, Some, None, is_some, length, slice_index_or}
 use Rattle.std.specs.List.{All}
 use Rattle.scm_paths.specs.declared.names.PathFault.{PathFault}
 use Rattle.scm_paths.specs.Names.{fault_of}
@@ -11,7 +11,6 @@ use Rattle.scm_tree.specs.Refusals.{AreRefusals, is_refused}
 use Rattle.scm_tree.specs.Laws.{IsTree, result_of}
 use Rattle.scm_decide.specs.declared.place.Entry.{Entry}
 use Rattle.scm_decide.specs.declared.place.Mark.{Mark}
-use Rattle.scm_decide.specs.declared.rename.Rename.{Rename}
 use Rattle.scm_decide.specs.declared.decision.Moved.{Moved}
 use Rattle.scm_decide.specs.declared.decision.Outcome.{Outcome}
 use Rattle.scm_decide.specs.declared.decision.Decision.{Decision}

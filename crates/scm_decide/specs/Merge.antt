@@ -1,5 +1,5 @@
 -- The rows of two trees and marks.
-use Rattle.std.specs.Prelude.{◌≡◌, ℕ, ◌<◌, List, Bool, true, ◌||◌, Option, Some, None, is_some, length, slice_index_or, ◌⊎◌}
+use Rattle.std.specs.Prelude.{◌≡◌, ℕ, ◌<◌, List, true, ◌||◌, Option, Some, None, is_some, length, slice_index_or, ◌⊎◌}
 use Rattle.std.specs.List.{All}
 use Rattle.scm_tree.specs.declared.row.Version.{Version}
 use Rattle.scm_tree.specs.declared.row.Row.{Row}
@@ -10,6 +10,7 @@ use Rattle.scm_decide.specs.declared.place.Wish.{Wish}
 use Rattle.scm_decide.specs.declared.place.Place.{Place}
 use Rattle.scm_decide.specs.Holds.{HaveSame, Holds}
 use Rattle.scm_decide.specs.Places.{entry_path, entry_version, mark_path, mark_wish}
+use Rattle.scm_decide.specs.GatherFaults.{IsTwice}
 
 abbrev pub row_path : Row → List ℕ
 row_path r = r.path.now
@@ -61,6 +62,8 @@ pub record IsUnmarked (count : ℕ) (marks : List Mark) (r : Row) : Type 0 where
 pub record AreMerged (count : ℕ) (old new : List Entry) (marks : List Mark) (rows : List Row) : Type 0 where
   -- each path is there once
   pub in_order : AreInOrder rows
+  -- no list has a path twice
+  pub once : (p : List ℕ) → IsTwice old new marks p → ⊥
   -- no file of either tree is lost, and none is made up
   pub current : HaveSame entry_path entry_version old row_path row_current rows
   pub goal : HaveSame entry_path entry_version new row_path row_goal rows

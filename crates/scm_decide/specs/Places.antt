@@ -1,7 +1,7 @@
 -- The files of two trees and what marks ask for, path by path.
 use Rattle.std.specs.Prelude.{◌≡◌, ℕ, ◌+◌, ◌<◌, List, [], ◌∷◌, ◌++◌, Bool, true, false, ◌||◌, ◌&&◌, Option, Some, None, is_some, length, slice_index_or, take}
 use Rattle.std.specs.Option.{option_or}
-use Rattle.std.specs.List.{AllPairs}
+use Rattle.std.specs.List.{All, AllPairs}
 use Rattle.scm_tree.specs.declared.row.Version.{Version}
 use Rattle.scm_tree.specs.Paths.{is_before}
 use Rattle.scm_decide.specs.declared.place.Entry.{Entry}
@@ -55,17 +55,23 @@ pub record IsOfMark (marks : List Mark) (i : ℕ) (x : Place) : Type 0 where
   pub goal : x.goal ≡ None
   pub wish : (d : Mark) → x.wish ≡ Some (slice_index_or marks i d).wish
 
+-- a tree or a mark has the place's path
+abbrev pub IsFilled : Place → Type 0
+IsFilled x = (is_some x.current || is_some x.goal || is_some x.wish) ≡ true
+
 -- The places have what the trees and the marks have.
 pub record AreListed (old new : List Entry) (marks : List Mark) (xs : List Place) : Type 0 where
   pub current : HaveSame entry_path entry_version old place_path place_current xs
   pub goal : HaveSame entry_path entry_version new place_path place_goal xs
   pub wish : HaveSame mark_path mark_wish marks place_path place_wish xs
+  pub filled : All IsFilled xs
 
--- The second places have what the first ones have.
+-- The second places have what the first ones have, and none of them is empty if none of the first ones is.
 pub record HaveSameFiles (xs ys : List Place) : Type 0 where
   pub current : HaveSame place_path place_current xs place_path place_current ys
   pub goal : HaveSame place_path place_goal xs place_path place_goal ys
   pub wish : HaveSame place_path place_wish xs place_path place_wish ys
+  pub filled : All IsFilled xs → All IsFilled ys
 
 -- no path comes before the one in front of it
 pub record AreSorted (xs : List Place) : Type 0 where

@@ -1,11 +1,12 @@
 //! What becomes of each path.
-ghost use Rattle.std.specs.Prelude.{◌≡◌, ◌<◌, ℕ, IfOk, None, length, slice_index_or, true};
+ghost use Rattle.std.specs.Prelude.{◌≡◌, ◌<◌, ℕ, IfOk, MatchResult, None, false, length, slice_index_or, true};
 ghost use Rattle.std.specs.List.{All};
 ghost use Rattle.scm_tree.specs.declared.row.Row.{Row};
 ghost use Rattle.scm_tree.specs.Rows.{AreInOrder, AreRows};
 ghost use Rattle.scm_decide.specs.declared.decision.DecideError.TheVariants.{OutOfMemory};
 ghost use Rattle.scm_decide.specs.declared.decision.Moved.{Moved};
 ghost use Rattle.scm_decide.specs.Decisions.{AreOutcomes, IsDecision, IsMoved, IsOutcome, IsPromise, row_fault};
+ghost use Rattle.scm_decide.specs.DecideFaults.{IsDecideFault, IsMovedReason, IsPathReason, IsTreesReason, PathsFit, decide_error};
 
 use crate::find::row_number;
 use crate::place::{Entry, Mark};
@@ -90,6 +91,8 @@ impl<T: Drop> From<AllocFailed<T>> for DecideError<'_> {
 }
 
 impl<'a> From<GatherError<'a>> for DecideError<'a> {
+    ghost from_gives = { λ error e. e ≡ decide_error error };
+
     fn from(error: GatherError<'a>) -> Self {
         match error {
             GatherError::Twice(path) => DecideError::Twice(path),
@@ -124,7 +127,7 @@ fn path_at<'a>(rows: &[Row<'a>], i: usize) -> &'a [u8]
 /// # Errors
 /// `Path`: a path, and what is wrong with it.
 fn check_paths<'a>(rows: &[Row<'a>]) -> Result<(), DecideError<'a>>
-    ensures { IfOk result (λ _. All (λ (r : Row). row_fault r ≡ None) rows.now) }
+    ensures { MatchResult result (λ _. PathsFit rows.now) (IsPathReason rows.now) }
 {
     for i in 0..rows.len() {
         if let Some(fault) = path_fault_at(rows, i) {
@@ -138,7 +141,10 @@ fn check_paths<'a>(rows: &[Row<'a>]) -> Result<(), DecideError<'a>>
 fn is_moved(rows: &[Row<'_>], moved: &[Moved<'_>], i: usize) -> bool
     requires order { AreInOrder rows.now }
     requires within { i < length moved.now }
-    ensures { result ≡ true → (d : Moved) → IsMoved rows.now (slice_index_or moved.now i d) }
+    ensures yes { result ≡ true
+        → (d : Moved) → IsMoved rows.now (slice_index_or moved.now i d) }
+    ensures no { result ≡ false
+        → (d : Moved) → IsMoved rows.now (slice_index_or moved.now i d) → ⊥ }
 {
     let Some(old) = row_number(rows, moved[i].old) else {
         return false;
@@ -155,7 +161,8 @@ fn is_moved(rows: &[Row<'_>], moved: &[Moved<'_>], i: usize) -> bool
 /// `Rename`: the first renamed file of which that is not so.
 fn check_moved<'a>(rows: &[Row<'_>], moved: &[Moved<'_>]) -> Result<(), DecideError<'a>>
     requires { AreInOrder rows.now }
-    ensures { IfOk result (λ _. All (λ (m : Moved). IsMoved rows.now m) moved.now) }
+    ensures { MatchResult result (λ _. All (λ (m : Moved). IsMoved rows.now m) moved.now)
+        (IsMovedReason rows.now moved.now) }
 {
     for i in 0..moved.len() {
         if !is_moved(rows, moved, i) {
@@ -202,7 +209,7 @@ fn outcomes_of<'a>(
 /// # Errors
 /// `Rows`: what is wrong.
 fn check_trees<'a>(count: usize, rows: &[Row<'_>]) -> Result<(), DecideError<'a>>
-    ensures { IfOk result (λ _. AreRows count rows.now) }
+    ensures { MatchResult result (λ _. AreRows count rows.now) (IsTreesReason count rows.now) }
 {
     match check_rows(count, rows) {
         Ok(()) => Ok(()),
@@ -230,7 +237,8 @@ pub fn decide<'a>(
     moved: &[Moved<'a>],
     count: usize,
 ) -> Result<Decision<'a>, DecideError<'a>>
-    ensures { IfOk result (IsDecision count old.now new.now marks.now moved.now) }
+    ensures { MatchResult result (IsDecision count old.now new.now marks.now moved.now)
+        (IsDecideFault count old.now new.now marks.now moved.now) }
 {
     let Some(files) = count.checked_add(1) else {
         return Err(DecideError::OutOfMemory);

@@ -1,8 +1,9 @@
 //! Places that are gathered path by path.
-ghost use Rattle.std.specs.Prelude.{◌≡◌, ◌+◌, ◌<◌, ◌++◌, ◌∷◌, [], IfOk, false, length, slice_index_or, true};
+ghost use Rattle.std.specs.Prelude.{◌≡◌, ◌+◌, ◌<◌, ◌++◌, ◌∷◌, [], IfErr, IfOk, false, length, slice_index_or, true};
 ghost use Rattle.std.specs.List.{All};
 ghost use Rattle.std.specs.Option.{option_or};
 ghost use Rattle.scm_tree.specs.Paths.{is_before};
+ghost use Rattle.scm_decide.specs.GatherFaults.{IsAddFault, IsPlaceFault};
 ghost use Rattle.scm_decide.specs.Places.{AreGathered, ArePlacesInOrder, AreSorted, HaveSameFiles, IsAdded, IsJoined, is_twice};
 
 use crate::place::Place;
@@ -44,7 +45,8 @@ fn add_place<'a>(
 ) -> Result<Place<'a>, GatherError<'a>>
     requires in_order { ArePlacesInOrder (done.old.items ++ last ∷ []) }
     requires after { is_before place.path.now last.path.now ≡ false }
-    ensures { IfOk result (IsAdded done.old.items last.entry place.entry done.new.items) }
+    ensures added { IfOk result (IsAdded done.old.items last.entry place.entry done.new.items) }
+    ensures fault { IfErr result (IsAddFault last.entry place.entry) }
 {
     if is_before(last.path, place.path) {
         done.push(last)?;
@@ -76,6 +78,7 @@ pub(crate) fn gathered<'a>(
     requires { AreSorted places.now }
     ensures in_order { IfOk result (λ done. ArePlacesInOrder done.items) }
     ensures same { IfOk result (λ done. HaveSameFiles places.now done.items) }
+    ensures fault { IfErr result (IsPlaceFault places.now) }
 {
     let mut done = Vec::new(alloc);
     if places.is_empty() {

@@ -1,6 +1,7 @@
 //! Two trees and marks as rows.
-ghost use Rattle.std.specs.Prelude.{◌≡◌, ◌<◌, IfOk, length};
+ghost use Rattle.std.specs.Prelude.{◌≡◌, ◌<◌, IfErr, IfOk, MatchResult, length};
 ghost use Rattle.scm_decide.specs.declared.rows.GatherError.TheVariants.{OutOfMemory};
+ghost use Rattle.scm_decide.specs.GatherFaults.{IsGatherFault, IsRowFaultAt, IsRowsFault};
 ghost use Rattle.scm_decide.specs.Places.{AreListed, ArePlacesInOrder, AreSorted, HaveSameFiles};
 ghost use Rattle.scm_decide.specs.Merge.{AreMerged, AreRowsBelow, IsRowOf};
 
@@ -52,6 +53,7 @@ fn places_in_order<'a>(
 ) -> Result<Vec<Place<'a>>, GatherError<'a>>
     ensures in_order { IfOk result (λ places. ArePlacesInOrder places.items) }
     ensures listed { IfOk result (λ places. AreListed old.now new.now marks.now places.items) }
+    ensures fault { IfErr result (IsGatherFault old.now new.now marks.now) }
 {
     let mut places = places_of(alloc, old, new, marks)?;
     sort_places(&mut places)?;
@@ -65,7 +67,7 @@ fn places_in_order<'a>(
 /// `Unknown`: a mark has the path, and neither tree has it.
 fn row_at<'a>(count: usize, places: &[Place<'a>], i: usize) -> Result<Row<'a>, GatherError<'a>>
     requires { i < length places.now }
-    ensures { IfOk result (IsRowOf count places.now i) }
+    ensures { MatchResult result (IsRowOf count places.now i) (IsRowFaultAt places.now i) }
 {
     let place = &places[i];
     if place.current.is_none() & place.goal.is_none() {
@@ -94,7 +96,9 @@ fn rows_of_places<'a>(
     count: usize,
     places: &[Place<'a>],
 ) -> Result<Vec<Row<'a>>, GatherError<'a>>
-    ensures { IfOk result (λ rows. AreRowsBelow count places.now (length places.now) rows.items) }
+    ensures { MatchResult result
+        (λ rows. AreRowsBelow count places.now (length places.now) rows.items)
+        (IsRowsFault places.now) }
 {
     let mut rows = Vec::with_capacity(alloc, places.len())?;
     for i in 0..places.len() {
@@ -117,7 +121,9 @@ pub fn rows_of<'a>(
     marks: &[Mark<'a>],
     count: usize,
 ) -> Result<Vec<Row<'a>>, GatherError<'a>>
-    ensures { IfOk result (λ rows. AreMerged count old.now new.now marks.now rows.items) }
+    ensures { MatchResult result
+        (λ rows. AreMerged count old.now new.now marks.now rows.items)
+        (IsGatherFault old.now new.now marks.now) }
 {
     let places = places_in_order(alloc, old, new, marks)?;
     let rows = rows_of_places(alloc, count, places.as_slice())?;

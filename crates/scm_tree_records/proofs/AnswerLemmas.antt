@@ -1,9 +1,17 @@
 -- What becomes of paths, as records of bytes.
-use Rattle.std.proofs.Common.{◌≡◌, ℕ, ◌+◌, ◌<◌, List, [], ◌∷◌, ◌++◌, length, take, get_or, Option, refl, sym, ◌∙◌, ap}
+use Rattle.std.proofs.Common.{◌≡◌, ℕ, ◌+◌, ◌<◌, List, [], ◌∷◌, ◌++◌, length, take, get_or, Option, Some, refl, sym, subst, ◌∙◌, ap}
 use Rattle.std.proofs.lemmas.List.{append-nil, append_assoc, take_more}
 use Rattle.scm_tree.specs.declared.row.Row.{Row}
 use Rattle.scm_tree.specs.declared.scan.Refusal.{Refusal}
-use Rattle.scm_tree_records.specs.Answers.{refusal_answer, refusals_answer, row_answer, rows_answer}
+use Rattle.scm_decide.specs.declared.place.Entry.{Entry}
+use Rattle.scm_decide.specs.declared.place.Mark.{Mark}
+use Rattle.scm_decide.specs.declared.decision.Moved.{Moved}
+use Rattle.scm_decide.specs.declared.decision.Decision.{Decision}
+use Rattle.scm_decide.specs.declared.decision.DecideError.{DecideError}
+use Rattle.scm_decide.specs.Decisions.{IsDecision}
+use Rattle.scm_decide.specs.DecideFaults.{IsDecideFault}
+use Rattle.scm_tree_records.specs.declared.asked.Asked.{Asked}
+use Rattle.scm_tree_records.specs.Answers.{IsAnswerTo, answer_of, decided, reason_answer, undecided, refusal_answer, refusals_answer, row_answer, rows_answer}
 
 rows_push : (count : ℕ) (refused : List (Option Refusal)) (rows : List Row) (r : Row) → rows_answer count refused (rows ++ r ∷ []) ≡ rows_answer count refused rows ++ row_answer count refused r
 unfolding rows_answer
@@ -49,3 +57,21 @@ rows_added count refused rows i d start before after h begun added =
 pub refusals_added : (rows : List Row) (refused : List (Option Refusal)) (i : ℕ) (d : Option Refusal) (start before after : List ℕ) → i < length refused → before ≡ start ++ refusals_answer rows (take i refused) → after ≡ before ++ refusal_answer rows (get_or refused i d) → after ≡ start ++ refusals_answer rows (take (i + 1) refused)
 refusals_added rows refused i d start before after h begun added =
     step start before after (refusal_answer rows (get_or refused i d)) (refusals_answer rows (take i refused)) (refusals_answer rows (take (i + 1) refused)) begun added (refusals_more rows refused i d h)
+
+-- ---- what is decided of the lists that are asked
+
+pub decided_of : (asked : Asked) (old new : List Entry) (marks : List Mark) (moved : List Moved) (d : Decision) (answer : List ℕ) → old ≡ asked.old.items → new ≡ asked.new.items → marks ≡ asked.marks.items → moved ≡ asked.moved.items → IsDecision asked.count old new marks moved d → answer ≡ answer_of asked.count d → IsAnswerTo asked answer
+decided_of asked old new marks moved d answer a b m v s e =
+    decided d
+    (subst (λ (xs : List Entry). IsDecision asked.count xs asked.new.items asked.marks.items asked.moved.items d) a
+    (subst (λ (xs : List Entry). IsDecision asked.count old xs asked.marks.items asked.moved.items d) b
+    (subst (λ (xs : List Mark). IsDecision asked.count old new xs asked.moved.items d) m (subst (λ (xs : List Moved). IsDecision asked.count old new marks xs d) v s))))
+    e
+
+pub undecided_of : (asked : Asked) (old new : List Entry) (marks : List Mark) (moved named : List Moved) (error : DecideError) (answer : List ℕ) → old ≡ asked.old.items → new ≡ asked.new.items → marks ≡ asked.marks.items → moved ≡ asked.moved.items → named ≡ asked.moved.items → IsDecideFault asked.count old new marks moved error → reason_answer named error ≡ Some answer → IsAnswerTo asked answer
+undecided_of asked old new marks moved named error answer a b m v w s e =
+    undecided error
+    (subst (λ (xs : List Entry). IsDecideFault asked.count xs asked.new.items asked.marks.items asked.moved.items error) a
+    (subst (λ (xs : List Entry). IsDecideFault asked.count old xs asked.marks.items asked.moved.items error) b
+    (subst (λ (xs : List Mark). IsDecideFault asked.count old new xs asked.moved.items error) m (subst (λ (xs : List Moved). IsDecideFault asked.count old new marks xs error) v s))))
+    (subst (λ (xs : List Moved). reason_answer xs error ≡ Some answer) w e)

@@ -1,20 +1,18 @@
 -- What becomes of paths, as records of bytes.
-use Rattle.std.specs.Prelude.{◌≡◌, ℕ, ◌==◌, nat_lt, List, [], ◌∷◌, ◌++◌, Bool, true, ◌||◌, length, Option, Some, None, slice_get, if◌then◌else◌}
-use Rattle.scm_c_values.specs.Buffers.{over}
+use Rattle.std.specs.Prelude.{◌≡◌, ℕ, ◌==◌, nat_lt, List, [], ◌∷◌, ◌++◌, Option, Some, None, Ok, Err, slice_get, if◌then◌else◌}
 use Rattle.scm_tree.specs.declared.row.Version.{Version}
 use Rattle.scm_tree.specs.declared.row.Row.{Row}
 use Rattle.scm_tree.specs.declared.scan.Refusal.{Refusal}
 use Rattle.scm_tree.specs.Rows.{chosen}
 use Rattle.scm_tree.specs.Refusals.{is_refused}
-use Rattle.scm_decide.specs.declared.place.Entry.{Entry}
-use Rattle.scm_decide.specs.declared.place.Mark.{Mark}
 use Rattle.scm_decide.specs.declared.decision.Moved.{Moved}
 use Rattle.scm_decide.specs.declared.decision.Decision.{Decision}
+use Rattle.scm_decide.specs.declared.decision.DecideError.{DecideError}
+use Rattle.scm_decide.specs.declared.decision.DecideError.TheVariants.{Twice, Unknown, Path, Rows, Rename, OutOfMemory}
 use Rattle.scm_decide.specs.Decisions.{IsDecision}
-
--- whether the byte is a NUL
-abbrev pub is_nul : ℕ → Bool
-is_nul b = b == 0
+use Rattle.scm_decide.specs.DecideFaults.{IsDecideFault}
+use Rattle.scm_tree_records.specs.declared.asked.Asked.{Asked}
+use Rattle.scm_tree_records.specs.Records.{held_by, rows_in}
 
 -- a record: a letter, a blank, a path, and a NUL
 abbrev pub record_bytes : ℕ → List ℕ → List ℕ
@@ -54,19 +52,27 @@ refusals_answer rows (o ∷ refused) = refusal_answer rows o ++ refusals_answer 
 abbrev pub answer_of : ℕ → Decision → List ℕ
 answer_of count d = rows_answer count d.refused.items d.rows.items ++ refusals_answer d.rows.items d.refused.items
 
--- the letters of what is wrong: a path twice, an unknown one, a path that is refused, two trees that are none, a file that is not
--- renamed, and what is no record
-abbrev pub is_fault_letter : ℕ → Bool
-is_fault_letter l = l == 50 || l == 63 || l == 33 || l == 47 || l == 43 || l == 35
+-- the new path of a renamed file, if there is one with this number
+abbrev pub moved_to : Option Moved → List ℕ
+moved_to None = []
+moved_to (Some m) = m.new.now
 
--- The answer is what is decided of two trees and of the marks of some shown files, or the one record that says why nothing is.
-pub data IsAnswer (answer : List ℕ) : Type 0 where
-  decided : (count : ℕ) (old new : List Entry) (marks : List Mark) (moved : List Moved) (d : Decision) → IsDecision count old new marks moved d → answer ≡ answer_of count d → IsAnswer answer
-  fault : (letter : ℕ) (path : List ℕ) → is_fault_letter letter ≡ true → answer ≡ record_bytes letter path → IsAnswer answer
+-- the one record that says why nothing is decided: `2` a path twice, `?` an unknown one, `!` a path that is refused, `/` two trees that
+-- are none, `+` a renamed file that is none
+abbrev pub reason_answer : List Moved → DecideError → Option (List ℕ)
+reason_answer moved (Twice p) = Some (record_bytes 50 p.now)
+reason_answer moved (Unknown p) = Some (record_bytes 63 p.now)
+reason_answer moved (Path p fault) = Some (record_bytes 33 p.now)
+reason_answer moved (Rows fault) = Some (record_bytes 47 [])
+reason_answer moved (Rename i) = Some (record_bytes 43 (moved_to (slice_get moved i)))
+reason_answer moved OutOfMemory = None
 
--- The answer is written over the buffer, clipped to the buffer's length, and its whole length is told.
-pub record TellsAnswer (old new : List ℕ) (told : ℕ) : Type 0 where
-  pub answer : List ℕ
-  pub is : IsAnswer answer
-  pub long : told ≡ length answer
-  pub written : new ≡ over answer old
+-- The answer is what is decided of the rows that records hold, or the reason for which nothing is.
+pub data IsAnswerTo (asked : Asked) (answer : List ℕ) : Type 0 where
+  decided : (d : Decision) → IsDecision asked.count asked.old.items asked.new.items asked.marks.items asked.moved.items d → answer ≡ answer_of asked.count d → IsAnswerTo asked answer
+  undecided : (error : DecideError) → IsDecideFault asked.count asked.old.items asked.new.items asked.marks.items asked.moved.items error → reason_answer asked.moved.items error ≡ Some answer → IsAnswerTo asked answer
+
+-- The answer is that to the rows that the bytes hold, or the record `#` with the first part of the bytes that is no record.
+pub data IsAnswer (bytes answer : List ℕ) : Type 0 where
+  of_rows : (asked : Asked) → rows_in bytes ≡ Ok (held_by asked) → IsAnswerTo asked answer → IsAnswer bytes answer
+  no_rows : (part : List ℕ) → rows_in bytes ≡ Err part → answer ≡ record_bytes 35 part → IsAnswer bytes answer

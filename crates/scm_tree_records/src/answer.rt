@@ -1,9 +1,10 @@
 //! What becomes of paths, as records.
-ghost use Rattle.std.specs.Prelude.{◌≡◌, ◌++◌, IfOk, IfSome, OnOk, true};
-ghost use Rattle.scm_tree_records.specs.Answers.{IsAnswer, answer_of, is_fault_letter, letter_of, path_or, record_bytes, refusal_answer, refusals_answer, row_answer, rows_answer};
+ghost use Rattle.std.specs.Prelude.{◌≡◌, ◌++◌, IfOk, OnOk, Some, slice_get};
+ghost use Rattle.std.specs.Option.{option_map};
+ghost use Rattle.scm_tree_records.specs.Answers.{IsAnswer, IsAnswerTo, answer_of, letter_of, moved_to, path_or, reason_answer, record_bytes, refusal_answer, refusals_answer, row_answer, rows_answer};
 
 use crate::asked::{Asked, ReadError, read_records};
-use scm_decide::{DecideError, Decision, decide};
+use scm_decide::{DecideError, Decision, Moved, decide};
 use scm_tree::{Refusal, Row, Version, result_at};
 use std::alloc::{AllocError, Global};
 
@@ -133,26 +134,49 @@ fn fault_of(alloc: Global, letter: u8, path: &[u8]) -> Result<Vec<u8>, AllocErro
     Ok(answer)
 }
 
+/// Returns the new path of renamed file `i`, or none.
+fn moved_to<'a>(moved: &[Moved<'a>], i: usize) -> &'a [u8]
+    ensures { result.now ≡ moved_to (slice_get moved.now i) }
+{
+    match moved.get(i) {
+        None => b"",
+        Some(moved) => moved.new,
+    }
+}
+
 /// Returns the letter and the path of the record that says of `error` what is wrong, or `None` if an allocation failed.
-fn fault_parts<'a>(asked: &Asked<'a>, error: DecideError<'a>) -> Option<(u8, &'a [u8])>
-    ensures { IfSome result (λ parts. is_fault_letter parts.0 ≡ true) }
+fn reason_parts<'a>(moved: &[Moved<'a>], error: DecideError<'a>) -> Option<(u8, &'a [u8])>
+    ensures { option_map (λ parts. record_bytes parts.0 parts.1.now) result
+        ≡ reason_answer moved.now error.entry }
 {
     match error {
         DecideError::Twice(path) => Some((b'2', path)),
         DecideError::Unknown(path) => Some((b'?', path)),
         DecideError::Path(path, _) => Some((b'!', path)),
         DecideError::Rows(_) => Some((b'/', b"")),
-        DecideError::Rename(i) => match asked.moved.get(i) {
-            None => Some((b'+', b"")),
-            Some(moved) => Some((b'+', moved.new)),
-        },
+        DecideError::Rename(i) => Some((b'+', moved_to(moved, i))),
         DecideError::OutOfMemory => None,
     }
 }
 
+/// Returns the one record that says why nothing is decided.
+fn reason_of<'a>(
+    alloc: Global,
+    moved: &[Moved<'a>],
+    error: DecideError<'a>,
+) -> Result<Vec<u8>, AllocError>
+    ensures { IfOk result (λ answer. reason_answer moved.now error.entry ≡ Some answer.items) }
+{
+    let Some((letter, path)) = reason_parts(moved, error) else {
+        return Err(AllocError);
+    };
+    let answer = fault_of(alloc, letter, path)?;
+    Ok(answer)
+}
+
 /// Decides what becomes of the paths that records have.
 fn decide_asked(alloc: Global, asked: &Asked<'_>) -> Result<Vec<u8>, AllocError>
-    ensures { IfOk result (λ answer. IsAnswer answer.items) }
+    ensures { IfOk result (λ answer. IsAnswerTo asked.now answer.items) }
 {
     let decided = decide(
         alloc,
@@ -168,21 +192,10 @@ fn decide_asked(alloc: Global, asked: &Asked<'_>) -> Result<Vec<u8>, AllocError>
             Ok(answer)
         }
         Err(error) => {
-            let Some((letter, path)) = fault_parts(asked, error) else {
-                return Err(AllocError);
-            };
-            let answer = fault_of(alloc, letter, path)?;
+            let answer = reason_of(alloc, asked.moved.as_slice(), error)?;
             Ok(answer)
         }
     }
-}
-
-/// Returns the one record that says that `record` is none.
-fn no_record(alloc: Global, record: &[u8]) -> Result<Vec<u8>, AllocError>
-    ensures { IfOk result (λ answer. IsAnswer answer.items) }
-{
-    let answer = fault_of(alloc, b'#', record)?;
-    Ok(answer)
 }
 
 /// Returns the records of what becomes of the paths that the records `bytes` have, or the one record that says why
@@ -191,11 +204,17 @@ fn no_record(alloc: Global, record: &[u8]) -> Result<Vec<u8>, AllocError>
 /// # Errors
 /// `AllocError`: an allocation failed.
 pub(crate) fn decide_records(alloc: Global, bytes: &[u8]) -> Result<Vec<u8>, AllocError>
-    ensures { IfOk result (λ answer. IsAnswer answer.items) }
+    ensures { IfOk result (λ answer. IsAnswer bytes.now answer.items) }
 {
     match read_records(alloc, bytes) {
-        Ok(asked) => decide_asked(alloc, &asked),
-        Err(ReadError::NoRecord(record)) => no_record(alloc, record),
+        Ok(asked) => {
+            let answer = decide_asked(alloc, &asked)?;
+            Ok(answer)
+        }
+        Err(ReadError::NoRecord(record)) => {
+            let answer = fault_of(alloc, b'#', record)?;
+            Ok(answer)
+        }
         Err(ReadError::OutOfMemory) => Err(AllocError),
     }
 }

@@ -1,11 +1,13 @@
 //! The files of two trees, the marks and the renamed files that records have.
-ghost use Rattle.std.specs.Prelude.{◌≡◌, ◌+◌, ◌<◌, IfSome, drop, length, take};
+ghost use Rattle.std.specs.Prelude.{◌≡◌, ◌+◌, ◌-◌, ◌<◌, IfOk, IfSome, MatchResult, Ok, OnOk, Some, drop, length, slice_get, take};
 ghost use Rattle.std.specs.List.{position};
-ghost use Rattle.scm_tree_records.specs.Answers.{is_nul};
+ghost use Rattle.scm_tree_records.specs.declared.asked.ReadError.TheVariants.{OutOfMemory};
+ghost use Rattle.scm_tree_records.specs.Records.{held_by, is_nul, record_of, rows_in, seen_record, with_asked, with_files, with_first, with_record, with_second, last_shown, nothing_held, seen_mark, shown_path, with_shown};
+ghost use Rattle.scm_tree_records.specs.Reading.{IsReadFault, held_if};
 
 use crate::record::{Ask, Record, asked_version, new_version, old_version, record_of};
 use scm_decide::{Entry, Mark, Moved, Wish};
-use std::alloc::{AllocError, AllocFailed, Global};
+use std::alloc::{AllocError, Global};
 
 /// What records have. Each shown file has a number, in the order of the records.
 #[derive(Drop)]
@@ -30,100 +32,117 @@ pub(crate) enum ReadError<'a> {
 }
 
 impl From<AllocError> for ReadError<'_> {
+    ghost from_gives = { λ _ e. e ≡ OutOfMemory };
+
     fn from(_error: AllocError) -> Self {
         ReadError::OutOfMemory
     }
 }
 
-impl<T: Drop> From<AllocFailed<T>> for ReadError<'_> {
-    fn from(_error: AllocFailed<T>) -> Self {
-        ReadError::OutOfMemory
-    }
-}
-
 /// Adds the files that the two trees have at the record's path.
-fn add_entries<'a>(asked: &mut Asked<'a>, record: &Record<'a>) -> Result<(), ReadError<'a>> {
-    if record.is_old {
+fn add_entries<'a>(asked: &mut Asked<'a>, row: &Record<'a>) -> Result<(), AllocError>
+    ensures { OnOk result
+        (held_by asked.exit.now ≡ with_files (seen_record row.now) (held_by asked.entry.now)) }
+{
+    if row.is_old {
         asked.old.push(Entry {
-            path: record.path,
+            path: row.path,
             version: old_version(),
         })?;
     }
-    if record.is_new {
+    if row.is_new {
         asked.new.push(Entry {
-            path: record.path,
+            path: row.path,
             version: new_version(),
         })?;
     }
     Ok(())
 }
 
-/// Adds what the marks of file `file` ask for at the record's path.
-fn add_wish<'a>(
-    asked: &mut Asked<'a>,
-    record: &Record<'a>,
-    file: usize,
-) -> Result<(), ReadError<'a>> {
-    asked.marks.push(Mark {
-        path: record.path,
+/// Returns what the marks of file `file` ask for at the record's path.
+fn mark_of<'a>(row: &Record<'a>, file: usize) -> Mark<'a>
+    ensures { seen_mark result ≡ shown_path (seen_record row.now) file }
+{
+    Mark {
+        path: row.path,
         wish: Wish {
             file,
-            wanted: asked_version(record.ask),
+            wanted: asked_version(row.ask),
         },
-    })?;
-    Ok(())
+    }
+}
+
+/// Returns the last mark.
+fn last_mark<'a>(marks: &[Mark<'a>]) -> Option<Mark<'a>>
+    ensures { result ≡ slice_get marks.now (length marks.now - 1) }
+{
+    marks.last().copied()
 }
 
 /// Adds the other path of the renamed file to which the last mark belongs. Returns whether there is one.
-fn add_second<'a>(asked: &mut Asked<'a>, record: &Record<'a>) -> Result<bool, ReadError<'a>> {
-    let Some(first) = asked.marks.last() else {
+fn add_second<'a>(asked: &mut Asked<'a>, row: &Record<'a>) -> Result<bool, AllocError>
+    ensures { IfOk result (λ done.
+        with_second (seen_record row.now) (last_shown (held_by asked.entry.now)) (held_by asked.entry.now)
+        ≡ held_if done asked.exit.now) }
+{
+    let Some(first) = last_mark(asked.marks.as_slice()) else {
         return Ok(false);
     };
-    let (old, file) = (first.path, first.wish.file);
     asked.moved.push(Moved {
-        old,
-        new: record.path,
+        old: first.path,
+        new: row.path,
     })?;
-    add_wish(asked, record, file)?;
+    asked.marks.push(mark_of(row, first.wish.file))?;
     Ok(true)
 }
 
 /// Adds the first path of a file.
-fn add_first<'a>(asked: &mut Asked<'a>, record: &Record<'a>) -> Result<bool, ReadError<'a>> {
-    let file = asked.count;
-    let Some(count) = file.checked_add(1) else {
-        return Err(ReadError::OutOfMemory);
+fn add_first<'a>(asked: &mut Asked<'a>, row: &Record<'a>) -> Result<(), AllocError>
+    ensures { OnOk result
+        (held_by asked.exit.now ≡ with_first (seen_record row.now) (held_by asked.entry.now)) }
+{
+    let Some(count) = asked.count.checked_add(1) else {
+        return Err(AllocError);
     };
+    asked.marks.push(mark_of(row, asked.count))?;
     asked.count = count;
-    add_wish(asked, record, file)?;
-    Ok(true)
+    Ok(())
 }
 
 /// Adds what the record's marks ask for, if its path is shown. Returns whether that goes.
-fn add_mark<'a>(asked: &mut Asked<'a>, record: &Record<'a>) -> Result<bool, ReadError<'a>> {
-    match record.ask {
+fn add_shown<'a>(asked: &mut Asked<'a>, row: &Record<'a>) -> Result<bool, AllocError>
+    ensures { IfOk result (λ done.
+        with_shown (seen_record row.now) (held_by asked.entry.now) ≡ held_if done asked.exit.now) }
+{
+    if row.is_second {
+        return add_second(asked, row);
+    }
+    add_first(asked, row)?;
+    Ok(true)
+}
+
+/// Adds what the record asks for: a path that keeps what is there is not shown. Returns whether that goes.
+fn add_asked<'a>(asked: &mut Asked<'a>, row: &Record<'a>) -> Result<bool, AllocError>
+    ensures { IfOk result (λ done.
+        with_asked row.now.ask (seen_record row.now) (held_by asked.entry.now)
+        ≡ held_if done asked.exit.now) }
+{
+    match row.ask {
         Ask::Keep => Ok(true),
-        _ => {
-            if record.is_second {
-                add_second(asked, record)
-            } else {
-                add_first(asked, record)
-            }
-        }
+        Ask::Nothing | Ask::Old | Ask::New | Ask::Chosen => add_shown(asked, row),
     }
 }
 
-/// Adds what the record that `bytes` are has.
-fn add_record<'a>(asked: &mut Asked<'a>, bytes: &'a [u8]) -> Result<(), ReadError<'a>> {
+/// Adds what the record has that `bytes` are. Returns whether they are one, and what it asks for goes.
+fn add_record<'a>(asked: &mut Asked<'a>, bytes: &'a [u8]) -> Result<bool, AllocError>
+    ensures { IfOk result (λ done.
+        with_record (record_of bytes.now) (held_by asked.entry.now) ≡ held_if done asked.exit.now) }
+{
     let Some(record) = record_of(bytes) else {
-        return Err(ReadError::NoRecord(bytes));
+        return Ok(false);
     };
     add_entries(asked, &record)?;
-    if add_mark(asked, &record)? {
-        Ok(())
-    } else {
-        Err(ReadError::NoRecord(bytes))
-    }
+    add_asked(asked, &record)
 }
 
 /// Returns the place of the first NUL.
@@ -150,22 +169,35 @@ fn after(bytes: &[u8], end: usize) -> &[u8]
     &bytes[end + 1..]
 }
 
-/// Returns what `bytes` have, records that each end with a NUL.
-///
-/// # Errors
-/// - `NoRecord`: a part of the bytes is no record.
-/// - `OutOfMemory`: an allocation failed.
-pub(crate) fn read_records<'a>(alloc: Global, bytes: &'a [u8]) -> Result<Asked<'a>, ReadError<'a>> {
-    let mut asked = Asked {
+/// Returns nothing, to which records are added.
+fn nothing_asked<'a>(alloc: Global) -> Asked<'a>
+    ensures { held_by result ≡ nothing_held }
+{
+    Asked {
         old: Vec::new(alloc),
         new: Vec::new(alloc),
         marks: Vec::new(alloc),
         moved: Vec::new(alloc),
         count: 0,
-    };
+    }
+}
+
+/// Returns what `bytes` have, records that each end with a NUL.
+///
+/// # Errors
+/// - `NoRecord`: a part of the bytes is no record.
+/// - `OutOfMemory`: an allocation failed.
+pub(crate) fn read_records<'a>(alloc: Global, bytes: &'a [u8]) -> Result<Asked<'a>, ReadError<'a>>
+    ensures { MatchResult result (λ asked. rows_in bytes.now ≡ Ok (held_by asked))
+        (IsReadFault bytes.now) }
+{
+    let mut asked = nothing_asked(alloc);
     let mut rest = bytes;
     'records: while let Some(end) = first_nul(rest) {
-        add_record(&mut asked, before(rest, end))?;
+        let part = before(rest, end);
+        if !add_record(&mut asked, part)? {
+            return Err(ReadError::NoRecord(part));
+        }
         rest = after(rest, end);
     }
     if rest.is_empty() {

@@ -5,7 +5,9 @@ mod answer;
 mod asked;
 mod call;
 pub mod faults;
+mod laws;
 mod record;
 
 pub use call::decide_rows;
 pub use faults::path_fault_number;
+pub use laws::answers_are_told_apart;

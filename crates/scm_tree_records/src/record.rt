@@ -1,5 +1,9 @@
 //! A record of a path: four bytes that say which trees have it and what the marks ask for, and the path.
 
+ghost use Rattle.std.specs.Prelude.{◌≡◌};
+ghost use Rattle.std.specs.Option.{option_map};
+ghost use Rattle.scm_tree_records.specs.Records.{ask_of, is_second, is_sound, is_there, record_of, seen_record, version_of, wanted_by};
+
 use scm_tree::Version;
 
 /// What marks ask for at a path.
@@ -41,7 +45,9 @@ pub(crate) struct Record<'a> {
 }
 
 /// Returns whether `byte` is `letter`, or `None` if it is neither that nor a `-`.
-fn is_there(byte: u8, letter: u8) -> Option<bool> {
+fn is_there(byte: u8, letter: u8) -> Option<bool>
+    ensures { result ≡ is_there byte letter }
+{
     if byte == letter {
         Some(true)
     } else if byte == b'-' {
@@ -52,47 +58,67 @@ fn is_there(byte: u8, letter: u8) -> Option<bool> {
 }
 
 /// Returns whether the fourth byte of a record says that the path is the other one of a renamed file.
-fn is_second(byte: u8) -> Option<bool> {
-    match byte {
-        b' ' => Some(false),
-        b'+' => Some(true),
-        _ => None,
+fn is_second(byte: u8) -> Option<bool>
+    ensures { result ≡ is_second byte }
+{
+    if byte == b' ' {
+        Some(false)
+    } else if byte == b'+' {
+        Some(true)
+    } else {
+        None
     }
 }
 
 /// Returns what a byte asks for.
-fn ask_of(byte: u8) -> Option<Ask> {
-    match byte {
-        b'=' => Some(Ask::Keep),
-        b'-' => Some(Ask::Nothing),
-        b'o' => Some(Ask::Old),
-        b'n' => Some(Ask::New),
-        b'c' => Some(Ask::Chosen),
-        _ => None,
+fn ask_of(byte: u8) -> Option<Ask>
+    ensures { result ≡ ask_of byte }
+{
+    if byte == b'=' {
+        Some(Ask::Keep)
+    } else if byte == b'-' {
+        Some(Ask::Nothing)
+    } else if byte == b'o' {
+        Some(Ask::Old)
+    } else if byte == b'n' {
+        Some(Ask::New)
+    } else if byte == b'c' {
+        Some(Ask::Chosen)
+    } else {
+        None
     }
 }
 
 /// Returns whether a record's bytes go together: a tree has the path, and the version that is asked for is there.
-fn is_sound(record: &Record<'_>) -> bool {
-    match record.ask {
-        Ask::Keep => !record.is_second & (record.is_old | record.is_new),
-        Ask::Old => record.is_old,
-        Ask::New => record.is_new,
-        Ask::Nothing | Ask::Chosen => record.is_old | record.is_new,
+fn is_sound(row: &Record<'_>) -> bool
+    ensures { result ≡ is_sound row.now.ask row.now.is_old row.now.is_new
+        row.now.is_second }
+{
+    match row.ask {
+        Ask::Keep => !row.is_second & (row.is_old | row.is_new),
+        Ask::Old => row.is_old,
+        Ask::New => row.is_new,
+        Ask::Nothing | Ask::Chosen => row.is_old | row.is_new,
     }
 }
 
 /// Returns the record that `bytes` are, if they are one.
-pub(crate) fn record_of<'a>(bytes: &'a [u8]) -> Option<Record<'a>> {
+pub(crate) fn record_of<'a>(bytes: &'a [u8]) -> Option<Record<'a>>
+    ensures { option_map seen_record result ≡ record_of bytes.now }
+{
     if bytes.len() < 4 {
         return None;
     }
+    let is_old = is_there(bytes[0], b'o')?;
+    let is_new = is_there(bytes[1], b'n')?;
+    let ask = ask_of(bytes[2])?;
+    let is_second = is_second(bytes[3])?;
     let record = Record {
         path: &bytes[4..],
-        is_old: is_there(bytes[0], b'o')?,
-        is_new: is_there(bytes[1], b'n')?,
-        ask: ask_of(bytes[2])?,
-        is_second: is_second(bytes[3])?,
+        is_old,
+        is_new,
+        ask,
+        is_second,
     };
     if is_sound(&record) {
         Some(record)
@@ -111,22 +137,30 @@ const NEW: usize = 1;
 const CHOSEN: usize = 2;
 
 /// Returns the version with this number.
-fn version_of(contents: usize) -> Version {
+fn version_of(contents: usize) -> Version
+    ensures { result ≡ version_of contents }
+{
     Version { mode: 0, contents }
 }
 
 /// Returns the version of a path that the old tree has.
-pub(crate) fn old_version() -> Version {
+pub(crate) fn old_version() -> Version
+    ensures { result ≡ version_of 0 }
+{
     version_of(OLD)
 }
 
 /// Returns the version of a path that the new tree has.
-pub(crate) fn new_version() -> Version {
+pub(crate) fn new_version() -> Version
+    ensures { result ≡ version_of 1 }
+{
     version_of(NEW)
 }
 
 /// Returns the version that marks ask for.
-pub(crate) fn asked_version(ask: Ask) -> Option<Version> {
+pub(crate) fn asked_version(ask: Ask) -> Option<Version>
+    ensures { result ≡ wanted_by ask }
+{
     match ask {
         Ask::Keep | Ask::Nothing => None,
         Ask::Old => Some(version_of(OLD)),

@@ -1,7 +1,8 @@
 use Rattle.std.proofs.Common.{◌<◌, List, length, arith, sym, subst}
+use Rattle.std.proofs.lemmas.Result.{err_from_is_err_and}
 use Rattle.scm_decide.specs.declared.place.Place.{Place}
 use Rattle.scm_decide.specs.Places.{AreGathered}
-use Rattle.scm_decide.proofs.GatherLemmas.{filled, gathered_after, gathered_first, gathered_next}
+use Rattle.scm_decide.proofs.GatherLemmas.{filled, gathered_after, gathered_fault, gathered_first, gathered_next}
 use Rattle.scm_decide.proofs.gather.gathered.Goals as goal
 
 pub loop-i-init : goal.loop-i-init
@@ -21,6 +22,12 @@ loop-i-preserved c =
     let h : c.loop-i.i < length c.args.places.now = omega arith in
     record {
       gathered = gathered_next c.args.places.now c.loop-i.i c.loop-i.done.items c.loop-i.last c.place_at.result c.add_place.new.done.items c.in_ok-last.last
-          c.loop-i.invariant.gathered h c.place_at.ensures c.in_ok-last.ensures;
+          c.loop-i.invariant.gathered h c.place_at.ensures c.in_ok-last.ensures.added;
       begun = omega arith;
     }
+
+pub returns-in_err-last-clause-fault : goal.returns-in_err-last-clause-fault
+returns-in_err-last-clause-fault c =
+    let h : c.loop-i.i < length c.args.places.now = omega arith in
+    let error = err_from_is_err_and c.from_residual.result c.from_residual.ensures.1 in
+    rw (error.1, error.2) (gathered_fault c.args.places.now c.loop-i.i c.loop-i.done.items c.loop-i.last c.place_at.result _ c.loop-i.invariant.gathered h c.place_at.ensures c.in_err-last.ensures.fault)

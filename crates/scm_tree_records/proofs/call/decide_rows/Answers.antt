@@ -12,7 +12,7 @@ returns-clause-code c = IsCode.known
 pub returns-clause-answer : goal.returns-clause-answer
 returns-clause-answer c = λ _. record {
   answer = c.as_slice.result.now;
-  is = subst (λ (bytes : List ℕ). IsAnswer bytes) (sym c.as_slice.ensures.value) c.in-Ok.ensures;
+  is = subst (λ (bytes : List ℕ). IsAnswer c.args.rows.now bytes) (sym c.as_slice.ensures.value) c.in-Ok.ensures;
   long = c.write_text.ensures.len;
   written = c.write_text.ensures.written;
 }
