@@ -375,6 +375,68 @@ static uint32_t decide(void) {
     return code;
 }
 
+/* Random lines of a file, at most 40 bytes. Returns how many bytes they have. */
+static size_t random_file(char *bytes) {
+    size_t length = 0;
+    for (uint32_t i = random_below(13); i > 0; i--) {
+        bytes[length++] = "abc\xff\0"[random_below(random_below(8) == 0 ? 5 : 3)];
+        bytes[length++] = '\n';
+    }
+    return length - (length > 0 && random_below(4) == 0);
+}
+
+/* Looks that records have the letters that scm.h says, in their order. Returns how many are of a conflict, and sets `conflicts`. */
+static size_t check_merge(const char *records, size_t length, size_t *conflicts) {
+    size_t items = 0;
+    char last = ' ';
+    *conflicts = 0;
+    for (size_t at = 0; at < length; at += 9 + (unsigned char)records[at + 1]) {
+        char letter = records[at];
+        const char *next = letter == 'o' ? " o" : letter == 'b' ? "ob" : letter == 't' ? "bt" : " t";
+        assert(length - at >= 9 && (unsigned char)records[at + 1] <= length - at - 9 && strchr(" obt", letter) && strchr(next, last));
+        *conflicts += letter == 'o' && last != 'o';
+        items += letter != ' ';
+        last = letter;
+    }
+    assert(last == ' ' || last == 't');
+    return items;
+}
+
+/* Merges random files by random marks, in buffers that may be too short. */
+static uint32_t merge(void) {
+    static char records[ROOM], out[ROOM];
+    char files[3][40], marks[200];
+    size_t sizes[3], count = random_below(20), room = random_below(4) ? ROOM : random_below(20), length = 77, conflicts = 0, open = 77;
+    for (int i = 0; i < 3; i++) {
+        sizes[i] = random_file(files[i]);
+    }
+    memset(records, GUARD, sizeof records);
+    memset(out, GUARD, sizeof out);
+    uint32_t code = one_of(scm_merge_texts(files[0], sizes[0], files[1], sizes[1], files[2], sizes[2], records, ROOM, &length), SCM_DONE, SCM_DONE,
+                           SCM_DONE);
+    check_buffer(records, ROOM, length, code == SCM_DONE);
+    if (code != SCM_DONE) {
+        assert(length == 77);
+        return code;
+    }
+    size_t items = check_merge(records, length, &conflicts);
+    count = random_below(4) ? items : count;
+    for (size_t i = 0; i < count; i++) {
+        marks[i] = (char)random_below(2);
+    }
+    uint32_t wanted = count == items ? SCM_DONE : SCM_NO_ITEM;
+    length = 77;
+    code = one_of(scm_merged_bytes(files[0], sizes[0], files[1], sizes[1], files[2], sizes[2], marks, count, out, room, &length), wanted, wanted,
+                  wanted);
+    check_buffer(out, room, length, code == SCM_DONE);
+    assert(code == SCM_DONE ? length <= sizes[0] + sizes[1] + sizes[2] + 3 : length == 77);
+    if (code == wanted) {
+        code = one_of(scm_open_conflicts(files[0], sizes[0], files[1], sizes[1], files[2], sizes[2], marks, count, &open), wanted, wanted, wanted);
+        assert(code == SCM_DONE ? open <= conflicts : open == 77);
+    }
+    return code;
+}
+
 /* A call that opens or closes a session. Returns whether what was asked before still counts. */
 static void open_or_close(void) {
     static const char json[] = "{\"is_read_only\":false,\"commits\":[{\"message\":\"m\"}],\"files\":[{\"old_path\":null,\"path\":\"p\","
@@ -408,7 +470,7 @@ static void random_call(void) {
     bool is_building = stage_before == SCM_BUILDING;
     bool is_begin = kind < (is_building ? 8 : 4);
     uint32_t code = is_begin ? begin() : kind < (is_building ? 55 : 10) ? add_lines() : kind < (is_building ? 90 : 14) ? add_other()
-        : kind < (is_building ? 92 : 70) ? input() : kind < 94 ? read_out() : kind < 96 ? decide() : answer();
+        : kind < (is_building ? 92 : 70) ? input() : kind < 93 ? read_out() : kind < 95 ? decide() : kind < 97 ? merge() : answer();
     refused_after = 0;
     if (code != SCM_DONE) {
         assert(is_begin && code == SCM_NO_MEMORY ? scm_stage(&session) == SCM_ENDED : asked() == before);

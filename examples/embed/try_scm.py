@@ -147,6 +147,48 @@ def drive_a_layer():
         assert session.end == "cancelled"
 
 
+def owners_of(session):
+    """Returns the owner of each place of a terminal of 30 columns and 12 rows."""
+    return [session.owner(row, column) for row in range(12) for column in range(30)]
+
+
+def label_sections():
+    with scm.Session() as session:
+        session.add_file("f", 0o100644)
+        session.add_context("one\n")
+        session.add_changes("two\n", True)
+        session.add_context("three\n")
+        session.add_changes("four\n", True)
+        assert refused(session.label, 0, 1, "ours") == "not_now"
+        session.begin_layer(30, 12)
+        session.start("all_open")
+        before, rows, owners = session.paint(), session.text(), owners_of(session)
+        assert b"Section 1/2" in before and b"Section 2/2" in before
+        session.label(0, 1, "ours (main)")
+        # one row is painted anew, and nothing else is another
+        after = session.paint()
+        assert b"ours (main)" in after and b"Section" not in after and len(after) < len(before) // 3
+        assert session.text() == rows and owners_of(session) == owners
+        # the last label of a section counts, and those of no header show nothing
+        for file, section in ((0, 0), (0, 9), (7, 1)):
+            session.label(file, section, "none")
+        session.label(0, 1, "theirs")
+        session.label(0, 3, "\x1b[31mred\x07 and of more columns than the header has")
+        session.repaint()
+        painted = session.paint()
+        assert b"theirs" in painted and b"ours" not in painted and b"none" not in painted and b"Section" not in painted
+        assert b"[31mred" in painted and b"\x1b[31mred" not in painted and b"\x07" not in painted and "\u2026".encode() in painted and b"has" not in painted
+        # to the right, the label moves with its row
+        session.type(">")
+        assert b"theirs" not in session.paint()
+        session.type("<")
+        # a menu lies over the headers, and without a label they have their numbers
+        session.label(0, 3, "")
+        painted = session.paint()
+        assert b"theirs" in painted and b"Section 2/2" in painted
+        assert refused(session.label, 0, 1, b"\xff") == "not_text"
+
+
 def log_a_layer():
     with scm.Session() as session:
         session.add_commit("first\n")
@@ -249,6 +291,36 @@ def check_paths():
         assert paths == [("old", "new/caf\u00e9"), ("h", "g"), (None, "i")], paths
 
 
+def sides_of(session):
+    """Returns both sides of each file, and their bytes."""
+    places = [(file, is_selected) for file in range(len(session)) for is_selected in (True, False)]
+    return [(session.side(*place), session.side_bytes(*place), session.marks(place[0])) for place in places]
+
+
+def check_previews():
+    """At each moment the sides are those that accepting gives, also with a layer and beneath its range."""
+    words = "space j a shift-F l space l space j space A k".split()
+    for has_layer in (False, True):
+        for count in range(len(words) + 1):
+            with scm.Session() as session:
+                fill(session)
+                (session.begin_layer if has_layer else session.begin)(80, 24)
+                session.press(*words[:count])
+                session.type("v" if has_layer else "")
+                preview = sides_of(session)
+                session.press("c")
+                assert session.stage == scm.ACCEPTED and sides_of(session) == preview, (has_layer, count)
+    with scm.Session() as session:
+        fill(session)
+        session.begin(80, 24)
+        session.press("e")
+        assert session.stage == scm.EDITING and refused(session.side, 0) == refused(session.side_bytes, 0) == "not_now"
+        session.answer("other\n")
+        before = sides_of(session)
+        session.press("?", "c")  # the help is open: c closes it
+        assert session.stage == scm.WAITING and sides_of(session) == before
+
+
 def check_trees():
     """What becomes of paths, also of so many that the answer has to be asked for again. And which paths are refused."""
     assert scm.decide(b"-nn a/b\0o-o a\0") == b"o a\0- a/b\0x a/b\0y a\0" and scm.decide(b"") == b""
@@ -256,6 +328,30 @@ def check_trees():
     found = scm.decide(b"".join(b"onn %s\0" % path for path in many))
     assert sorted(found.split(b"\0")[:-1]) == sorted(b"n " + path for path in many)
     assert [scm.path_fault(path) for path in (b"a/b", b"a/../b", b".Git", b"a\0b")] == ["", "dot_dot", "of_git", "with_nul"]
+
+
+def check_merges():
+    """The merge of three files: its lines, what marks make of it, and a session that shows it."""
+    base, ours, theirs = b"a\nb\nc\n", b"a\nO\nc\n", b"A\nT\xff\nc\nd"
+    lines = [("ours", "a\n"), ("ours", "O\n"), ("base", "a\n"), ("base", "b\n"), ("theirs", "A\n"), ("theirs", "T\U000e00ff\n")]
+    lines += [("agreed", "c\n"), ("agreed", "d")]
+    assert scm.merge_texts(base, ours, theirs) == lines and scm.merge_texts(b"", b"", b"") == []
+    assert scm.merge_texts("", "", "x") == [scm.MergeLine("agreed", "x")] and scm.merged_bytes("", "", "x", []) == b"x"
+    many = b"".join(b"%d\n" % number for number in range(5000))
+    assert len(scm.merge_texts(b"", many, b"y")) == 5002
+    with scm.Session() as session:
+        session.add_merge("f", base, ours, theirs)
+        session.begin(80, 24)
+        marks = session.marks(0)
+        assert marks == [False, False, True, True, False, False] and scm.open_conflicts(base, ours, theirs, marks) == 1
+        assert scm.merged_bytes(base, ours, theirs, marks) == b"c\nd"
+        # from the file to the section of theirs, whose two lines are marked at once
+        session.press("l", "pagedown", "pagedown", "space", "c")
+        marks = session.marks(0)
+        assert session.stage == scm.ACCEPTED and marks == [False, False, True, True, True, True]
+        assert scm.open_conflicts(base, ours, theirs, marks) == 0 and scm.merged_bytes(base, ours, theirs, marks) == theirs
+    for call in (scm.merged_bytes, scm.open_conflicts):
+        assert refused(call, base, ours, theirs, marks[1:]) == "no_item"
 
 
 def check_docstrings():
@@ -319,10 +415,13 @@ def main():
     check_numbers()
     check_values()
     check_paths()
+    check_previews()
     check_trees()
+    check_merges()
     check_docstrings()
     run_in_threads()
     drive_a_layer()
+    label_sections()
     log_a_layer()
     with scm.Session() as session:
         assert session.stage == scm.BUILDING and len(session) == 0

@@ -1,4 +1,4 @@
-//! The library for C, as its header `scm.h` declares it. Only `session.rs` and `trees.rs` call it.
+//! The library for C, as its header `scm.h` declares it. Only `session.rs`, `trees.rs` and `merges.rs` call it.
 use std::os::raw::{c_char, c_int, c_void};
 
 /// Stands for no file in a mode, and for nothing in a key.
@@ -69,6 +69,7 @@ extern "C" {
     pub fn scm_new_layer(session: Session, json: Bytes, length: usize, width: u16, height: u16) -> u32;
     pub fn scm_theme(session: Session, theme: u32) -> u32;
     pub fn scm_accept_text(session: Session, text: Bytes, length: usize) -> u32;
+    pub fn scm_label(session: Session, file: usize, section: usize, text: Bytes, length: usize) -> u32;
     pub fn scm_start(session: Session, folds: u32, first: *const Key) -> u32;
     pub fn scm_keys(session: Session, text: Bytes, length: usize) -> u32;
     pub fn scm_log(session: Session) -> u32;
@@ -101,6 +102,12 @@ extern "C" {
     pub fn scm_run(session: Session, terminal: c_int, title: Bytes) -> c_int;
     pub fn scm_decide_rows(rows: Bytes, length: usize, out: Room, room: usize, written: *mut usize) -> u32;
     pub fn scm_path_fault(path: Bytes, length: usize) -> u32;
+    pub fn scm_merge_texts(base: Bytes, base_length: usize, ours: Bytes, our_length: usize, theirs: Bytes, their_length: usize, out: Room, room: usize, written: *mut usize) -> u32;
+    pub fn scm_merged_bytes(base: Bytes, base_length: usize, ours: Bytes, our_length: usize, theirs: Bytes, their_length: usize, marks: Bytes, count: usize, out: Room, room: usize, written: *mut usize) -> u32;
+    pub fn scm_open_conflicts(base: Bytes, base_length: usize, ours: Bytes, our_length: usize, theirs: Bytes, their_length: usize, marks: Bytes, count: usize, open: *mut usize) -> u32;
+    // the crate has no function for it yet
+    #[allow(dead_code)]
+    pub fn scm_marked_bytes(base: Bytes, base_length: usize, ours: Bytes, our_length: usize, theirs: Bytes, their_length: usize, marks: Bytes, count: usize, base_label: Bytes, base_label_length: usize, our_label: Bytes, our_label_length: usize, their_label: Bytes, their_label_length: usize, out: Room, room: usize, written: *mut usize) -> u32;
     pub fn scm_words(code: u32, out: Room, length: usize) -> usize;
     pub fn scm_version() -> u32;
     pub fn scm_free(session: Session);

@@ -70,6 +70,7 @@ mod typed;
 
 pub mod consts;
 pub mod helpers;
+pub mod merges;
 pub mod session;
 pub mod trees;
 

@@ -314,7 +314,7 @@ pub fn version() -> u32 {
 }
 
 /// Returns the error with the code `code`, if that is one.
-fn done(code: u32) -> Result<(), Error> {
+pub(crate) fn done(code: u32) -> Result<(), Error> {
     match code.checked_sub(1) {
         None => Ok(()),
         Some(index) => Err(ERRORS[index as usize]),
@@ -637,6 +637,17 @@ impl Session {
     pub fn set_accept_text(&mut self, text: &str) -> Result<(), Error> {
         let (text, length) = sized(text);
         done(unsafe { ffi::scm_accept_text(self.at(), text, length) })
+    }
+
+    /// Shows `text` in the header of section `section` of file `file`, both counted from 0, in place of its number, or the number
+    /// again for an empty text.
+    ///
+    /// # Errors
+    ///
+    /// `TooLong`, `NotNow` if there is no layer, or `NoMemory`.
+    pub fn set_label(&mut self, file: usize, section: usize, text: &str) -> Result<(), Error> {
+        let (text, length) = sized(text);
+        done(unsafe { ffi::scm_label(self.at(), file, section, text, length) })
     }
 
     /// Unfolds what `folds` says, and selects the item that `first` names, if there is one.

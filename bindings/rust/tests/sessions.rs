@@ -82,6 +82,7 @@ fn a_layer_hears_the_terminal_first() {
     session.add_file("f", None, MODE).unwrap();
     session.add_lines(ADDED, "one\ntwo\nthree\n").unwrap();
     assert_eq!(session.set_theme(Theme::Light), Err(Error::NotNow));
+    assert_eq!(session.set_label(0, 0, "ours"), Err(Error::NotNow));
     session.begin_layer(60, 10).unwrap();
     assert_eq!(session.begin_layer(60, 10), Err(Error::NotNow));
     assert_eq!(session.set_keys("x=undo x"), Err(Error::NoKey));
@@ -95,7 +96,10 @@ fn a_layer_hears_the_terminal_first() {
     session.start(Folds::Open, first).unwrap();
     assert_eq!(session.selected(), Ok(first));
     let painted = String::from_utf8(session.paint().unwrap()).unwrap();
-    assert!(painted.contains("c stages"));
+    assert!(painted.contains("c stages") && painted.contains("Section 1/1"));
+    session.set_label(0, 0, "ours (main)").unwrap();
+    let painted = String::from_utf8(session.paint().unwrap()).unwrap();
+    assert!(painted.contains("ours (main)") && !painted.contains("c stages"));
     session.type_bytes(b"v\x0e ").unwrap();
     assert_eq!(session.marks(0), Ok(vec![true, true, false]));
     session.type_bytes(b"x").unwrap();
@@ -299,6 +303,48 @@ fn lines_and_versions() {
         session.side(1, Side::Unselected).unwrap().mode,
         FileMode::Absent
     );
+}
+
+/// A renamed file with a change of its mode, and one that is created.
+fn two_files() -> Session {
+    let mut session = Session::new(false).unwrap();
+    session.add_file("new", Some("old"), MODE).unwrap();
+    session.add_mode(FileMode::Unix(0o100755), false).unwrap();
+    session.add_lines(LineKind::Context, "same\n").unwrap();
+    let removed = LineKind::changed(ChangeType::Removed);
+    session.add_lines(removed, "one\n").unwrap();
+    session.add_lines(ADDED, "two\n").unwrap();
+    let (mode, bytes) = (MODE, "a\nb\n".as_bytes());
+    let absent = Version {
+        mode: FileMode::Absent,
+        bytes: b"",
+    };
+    session
+        .add_versions("made", None, absent, Version { mode, bytes })
+        .unwrap();
+    session
+}
+
+#[test]
+fn a_side_is_a_preview() {
+    let words = ["space", "j", "a", "shift-F", "j", "j", "space", "A", "k"];
+    for count in 0..=words.len() {
+        let mut session = two_files();
+        session.begin(80, 24).unwrap();
+        let press = |word: &&str| session.press(word).unwrap();
+        words[..count].iter().for_each(press);
+        let sides = |session: &Session| {
+            let of_file = |file| {
+                let side = |side| (session.side(file, side), session.side_bytes(file, side));
+                (side(Side::Selected), side(Side::Unselected))
+            };
+            [of_file(0), of_file(1)]
+        };
+        let preview = sides(&session);
+        session.press("c").unwrap();
+        assert_eq!(session.stage(), Stage::Accepted);
+        assert_eq!(sides(&session), preview, "after {count} words");
+    }
 }
 
 #[test]

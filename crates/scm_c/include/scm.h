@@ -351,6 +351,16 @@ uint32_t scm_theme(scm_session *session, uint32_t theme);
  * more. May return SCM_NO_MEMORY instead, if the text is short enough and UTF-8. */
 uint32_t scm_accept_text(scm_session *session, const char *text, size_t length);
 
+/* Has the layer show `length` bytes of `text` in the header of section `section` of file `file`, both counted from 0, in place of
+ * its number, "Section 1/6": with replacements for what a screen cannot show, and cut off as a number is. The checkbox and the fold
+ * sign keep their columns, and no other row changes. The next `scm_paint` shows it; `scm_symbol` stays as it was. While a menu or a
+ * dialog is open, or two commits are shown, headers have their numbers. "" takes the label away. A section that the state has not, or
+ * that has no such header, shows nothing.
+ *
+ * Returns SCM_DONE, or the first of SCM_TOO_LONG, SCM_NOT_TEXT, SCM_CLOSED, and SCM_NOT_NOW if there is no layer, or none any
+ * more. May return SCM_NO_MEMORY instead, if the text is short enough and UTF-8. */
+uint32_t scm_label(scm_session *session, size_t file, size_t section, const char *text, size_t length);
+
 /* What is unfolded at the start. */
 enum {
     SCM_AS_IT_IS = 0,  /* what is unfolded already */
@@ -360,8 +370,8 @@ enum {
 };
 
 /* Unfolds what `folds` says, SCM_AS_IT_IS to SCM_OPEN_IF_IT_FITS, and selects the item that `first` names, which unfolds what it
- * lies in. If there is no such item, as with each index SCM_NO_INDEX, the selection stays. The commit of the key is 0 as long as
- * one commit is shown. Call this on the terminal's size, before the user types.
+ * lies in. If there is no such item, as with each index SCM_NO_INDEX, the selection stays. Nothing else changes, and no mark. The
+ * commit of the key is 0 as long as one commit is shown. Call this on the terminal's size, before the user types.
  *
  * Returns SCM_DONE, or the first of SCM_NO_NUMBER, SCM_CLOSED, and SCM_NOT_NOW if the session has no layer or waits for no event.
  * If an allocation fails, it returns SCM_DONE and the session has ended, as with `scm_press`. */
@@ -541,7 +551,10 @@ SCM_USE_CODE uint32_t scm_text(const scm_session *session, char *out, size_t len
 /* ---- The answer ----
  *
  * These calls ask for the state: the one that is made (SCM_BUILDING), shown (SCM_WAITING) or accepted (SCM_ACCEPTED). They
- * return SCM_DONE, or the first of SCM_CLOSED, SCM_NOT_NOW (at any other stage) and SCM_NO_ITEM that applies. */
+ * return SCM_DONE, or the first of SCM_CLOSED, SCM_NOT_NOW (at any other stage) and SCM_NO_ITEM that applies.
+ *
+ * While the session waits for an event, they are a preview: what they write is what they write once it is accepted, byte for byte, if
+ * the next event is "c" and no dialog is open. While the user edits a message (SCM_EDITING) they do not answer. */
 
 /* Writes the number of files to `count`. */
 SCM_USE_CODE uint32_t scm_files(const scm_session *session, size_t *count);
@@ -628,6 +641,64 @@ SCM_USE_CODE uint32_t scm_decide_rows(const char *rows, size_t length, char *out
 /* Returns what is wrong with the first name of a path, which has `length` bytes, with which something is, or SCM_PATH_FINE if it
  * names a file below the top folder on each file system. */
 uint32_t scm_path_fault(const char *path, size_t length);
+
+/* ---- The merge of two changed files ----
+ *
+ * These calls need no session either, and have no state. Two files `ours` and `theirs` came from a file `base`, which may be empty.
+ * Lines that all three have, that one side alone changed, or that both sides changed in the same way are taken without asking. Each
+ * other part is a conflict of three versions: ours, the base's and theirs. Each conflict has at least one line between it and the next
+ * one, and begins and ends where ours and theirs differ. Bytes that are not UTF-8 come back, as with `scm_state_texts`; a caller who
+ * takes no binary files looks for a NUL. */
+
+/* Writes a record for each line of the merge of three files to `out`, clipped to `room` bytes, and the whole length of all records to
+ * `written`. A record is a letter, the number of bytes of a text (eight bytes, the lowest one first), and the text, which is UTF-8. The
+ * letter is
+ *
+ *   a blank   of a line that is taken without asking
+ *   o         of a line of ours, in a conflict
+ *   b         of a line of the base, in a conflict
+ *   t         of a line of theirs, in a conflict
+ *
+ * Each conflict has all of ours, then all of the base, and then all of theirs. A version without lines has one record with the empty
+ * text, which stands for it. To show the merge, add a file (scm_state_file) and hand each text to scm_state_line: that of a blank as a
+ * context line; that of an `o` or a `t` as an added line that is not checked; and that of a `b` as a removed line that is checked. Begin
+ * a section where the letter changes (scm_state_section). Then no conflict has anything chosen, and a checkbox on a section takes a
+ * whole version: that of the base by taking its mark away.
+ *
+ * Returns SCM_DONE or SCM_NO_MEMORY. */
+SCM_USE_CODE uint32_t scm_merge_texts(const char *base, size_t base_length, const char *ours, size_t our_length,
+                                      const char *theirs, size_t their_length, char *out, size_t room, size_t *written);
+
+/* Writes the bytes of the merge of three files by `marks` to `out`, clipped to `room` bytes, and their number to `written`. There are
+ * `count` marks, a byte for each record of a conflict, in order, as `scm_marks` writes them: 1 if the item is checked, and 0 if not.
+ * An item of ours or theirs is taken if it is checked, and one of the base if it is not. The merge has all lines that are taken, and
+ * all that are taken without asking, in order. A line without a line end gets one where another line follows. At most all bytes of the
+ * three files and three more are written.
+ *
+ * Returns SCM_DONE, SCM_NO_ITEM if there are more or fewer marks than items, or SCM_NO_MEMORY. */
+SCM_USE_CODE uint32_t scm_merged_bytes(const char *base, size_t base_length, const char *ours, size_t our_length,
+                                       const char *theirs, size_t their_length, const char *marks, size_t count, char *out,
+                                       size_t room, size_t *written);
+
+/* Writes how many conflicts of the merge of three files are open by `marks`, as scm_merged_bytes takes them, to `open`: those of which
+ * no item is taken.
+ *
+ * Returns SCM_DONE, SCM_NO_ITEM if there are more or fewer marks than items, or SCM_NO_MEMORY. */
+SCM_USE_CODE uint32_t scm_open_conflicts(const char *base, size_t base_length, const char *ours, size_t our_length,
+                                         const char *theirs, size_t their_length, const char *marks, size_t count,
+                                         size_t *open);
+
+/* Writes the bytes of the merge of three files by `marks`, as scm_merged_bytes does, but with conflict markers for each conflict that is
+ * open: `<<<<<<<` and ours, `|||||||` and the base's lines, `=======` and theirs, and `>>>>>>>`, with the labels behind the first, the
+ * second and the last. A label without bytes, or with a line end, is left out. The markers are longer than seven signs if a line of the
+ * file begins like one. If no conflict is open, the bytes are those of scm_merged_bytes.
+ *
+ * Returns SCM_DONE, SCM_NO_ITEM if there are more or fewer marks than items, or SCM_NO_MEMORY. */
+SCM_USE_CODE uint32_t scm_marked_bytes(const char *base, size_t base_length, const char *ours, size_t our_length,
+                                       const char *theirs, size_t their_length, const char *marks, size_t count,
+                                       const char *base_label, size_t base_label_length, const char *our_label,
+                                       size_t our_label_length, const char *their_label, size_t their_label_length, char *out,
+                                       size_t room, size_t *written);
 
 /* ---- Codes ---- */
 

@@ -1,11 +1,12 @@
-//! Calls of the layer: search, ranges, undo, columns to the right, themes. `include/scm.h` documents each function.
+//! Calls of the layer: search, ranges, undo, columns to the right, themes, labels. `include/scm.h` documents each function.
 ghost use Rattle.std.specs.Prelude.{◌≡◌, ◌<◌, None, true};
 ghost use Rattle.std.specs.Str.{is_utf8};
 ghost use Rattle.scm_open_session.specs.LayerCalls.{BeginsLayer, ChangesPainters, HasTheme, SetsStart, StartsLayer, code_of_layer, is_view};
+ghost use Rattle.scm_c_values.specs.Keys.{item_of_key};
 ghost use Rattle.scm_c_values.specs.Codes.{code_of_number, IsCode, code_of_json, code_of_message, is_message};
 ghost use Rattle.scm_open_session.specs.Layered.{folds_of, theme_of};
 ghost use Rattle.scm_open_session.specs.OwnKeys.{HasKeys, code_of_keys, keys_of_bytes};
-ghost use Rattle.scm_open_session.specs.Painters.{HaveWords};
+ghost use Rattle.scm_open_session.specs.Painters.{HaveLabel, HaveWords, label_of};
 ghost use Rattle.scm_open_session.specs.Results.{code_where};
 ghost use Rattle.scm_open_session.specs.Stages.{ChangesStage, IsOpenAt};
 ghost use Rattle.scm_open_session.specs.Logging.{IsLogCode, IsLoggedCode, WritesScript};
@@ -85,13 +86,35 @@ pub extern "C" fn scm_accept_text(alloc: Global, session: &mut CSession, text: &
     code
 }
 
+/// Shows `text` in the header of section `section` of file `file` in place of its number. Returns the code of
+/// the call.
+#[unsafe(no_mangle)]
+pub extern "C" fn scm_label(
+    alloc: Global,
+    session: &mut CSession,
+    file: usize,
+    section: usize,
+    text: &[u8],
+) -> u32
+    ensures code { IsCode (is_message text.now)
+        (code_of_message text.now (code_of_layer session.old.pointer.value)) result }
+    ensures labelled { result ≡ 0 → ChangesPainters (HaveLabel (label_of file section text.now))
+        session.old.pointer.value session.new.pointer.value }
+    ensures kept { 0 < result → session.new.pointer.value ≡ session.old.pointer.value }
+{
+    let mut inner = take(alloc, session);
+    let code = layer_calls::label(alloc, &mut inner, file, section, text);
+    give_back(alloc, session, inner);
+    code
+}
+
 /// Unfolds what the number `folds` says, and selects what `first` names. Returns the code of the call.
 #[unsafe(no_mangle)]
 pub extern "C" fn scm_start(alloc: Global, session: &mut CSession, folds: u32, first: &Key) -> u32
     ensures code { result ≡ code_of_number (folds_of folds)
         (code_where is_view session.old.pointer.value) }
     ensures set { result ≡ 0
-        → ChangesStage SetsStart session.old.pointer.value session.new.pointer.value }
+        → ChangesStage (SetsStart (item_of_key first.now)) session.old.pointer.value session.new.pointer.value }
     ensures kept { 0 < result → session.new.pointer.value ≡ session.old.pointer.value }
 {
     let mut inner = take(alloc, session);

@@ -20,6 +20,7 @@ ghost use Rattle.scm_open_session.specs.FrontKeys.{ChangesToKey};
 
 pub mod c_session;
 pub mod layer_calls;
+pub mod merge_calls;
 pub mod question_calls;
 mod raw_box;
 pub mod state_calls;

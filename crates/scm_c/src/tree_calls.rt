@@ -2,7 +2,7 @@
 ghost use Rattle.std.specs.Prelude.{◌≡◌, ◌<◌, true};
 ghost use Rattle.scm_c_values.specs.Codes.{IsCode};
 ghost use Rattle.scm_paths.specs.Names.{fault_of};
-ghost use Rattle.scm_tree_records.specs.Answers.{TellsAnswer};
+ghost use Rattle.scm_tree_records.specs.Calls.{TellsAnswer};
 ghost use Rattle.scm_tree_records.specs.Faults.{fault_number};
 
 use scm_tree_records::{decide_rows, path_fault_number};
@@ -18,7 +18,7 @@ pub extern "C" fn scm_decide_rows(
     written: &mut usize,
 ) -> u32
     ensures code { IsCode true 0 result }
-    ensures answer { result ≡ 0 → TellsAnswer out.old out.new written.new }
+    ensures answer { result ≡ 0 → TellsAnswer rows.now out.old out.new written.new }
     ensures unwritten { 0 < result → (out.new ≡ out.old) × (written.new ≡ written.old) }
 {
     decide_rows(alloc, rows, out, written)

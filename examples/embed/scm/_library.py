@@ -37,7 +37,7 @@ CALLS = dict(call.split(":") for call in """
     state_mode:BN state_binary:BTNTN state_texts:TNTNTNNTNN begin:HH new:TNHH stage: end: type:TN type_to_key:TNPP idle: press:TN press_all:TN
     decode:TNTNP decode_idle:TNP click:HH answer:TN resize:HH paint:TNP repaint: owner:HHP selected:P symbol:HHTN text:TNP files:P
     side:NBTNP side_bytes:NBTNP mark:PP marks:NTNP line:PTNP message:NTNP run:IT free: begin_layer:HH new_layer:TNHH theme:U
-    accept_text:TN start:UP keys:TN log: logged:TNP""".split())
+    accept_text:TN label:NNTN start:UP keys:TN log: logged:TNP""".split())
 TYPES = {"B": ctypes.c_bool, "T": ctypes.c_char_p, "N": ctypes.c_size_t, "H": ctypes.c_uint16, "U": ctypes.c_uint32, "I": ctypes.c_int, "P": ctypes.c_void_p}
 # the greatest number of each type of numbers; the least one is 0
 GREATEST = {"N": NO_INDEX, "H": 0xFFFF, "U": 0xFFFFFFFF, "I": 0x7FFFFFFF}
@@ -78,6 +78,10 @@ def declare() -> None:
     library.scm_decide_rows.argtypes = [ctypes.c_char_p, ctypes.c_size_t, ctypes.c_char_p, ctypes.c_size_t, ctypes.POINTER(ctypes.c_size_t)]
     library.scm_decide_rows.restype = ctypes.c_uint32
     library.scm_path_fault.argtypes, library.scm_path_fault.restype = [ctypes.c_char_p, ctypes.c_size_t], ctypes.c_uint32
+    sized, told = [ctypes.c_char_p, ctypes.c_size_t], ctypes.POINTER(ctypes.c_size_t)
+    for name, others in (("merge_texts", [*sized, told]), ("merged_bytes", [*sized, *sized, told]), ("open_conflicts", [*sized, told])):
+        function = getattr(library, "scm_" + name)
+        function.argtypes, function.restype = [*sized, *sized, *sized, *others], ctypes.c_uint32
 
 
 declare()

@@ -8,6 +8,7 @@ import threading
 from typing import Iterator, List, Optional, Tuple, Union
 
 from ._library import NO_INDEX, Error, Handle, KeyOfC, SideInfo, call, check
+from ._merge import merge_texts
 from ._values import ENDS, OWNERS, Contents, Folds, Key, Mark, Path, Side, Stage, Text, Theme, bytes_of, bytes_of_path, member_of
 
 # held from before a run until its signal has acted: the library hears the signals of the process meanwhile
@@ -130,6 +131,18 @@ class Session:
         versions = (*sized(old), old_mode, *sized(new), new_mode)
         self._call("state_texts", *sized(bytes_of_path(path)), *sized(bytes_of_path(old_path)), *versions)
 
+    def add_merge(self, path: Path, base: Text, ours: Text, theirs: Text) -> None:
+        """Adds a file that shows the merge of two files that both came from `base`, with nothing chosen. Each conflict is three
+        sections: ours, the base's and theirs. The marks of the file are those of `scm.merged_bytes`."""
+        self.add_file(path, 0o100644)
+        before = ""
+        for version, text in merge_texts(base, ours, theirs):
+            if version != before:
+                self.add_section(version != "agreed")
+            # the lines of the base are removed, unless they are taken
+            self.add_line(text, None if version == "agreed" else version != "base", version == "base")
+            before = version
+
     def add_section(self, is_changed: bool) -> None:
         """Adds a section without lines, of changes or of context. The lines that follow are its lines."""
         self._call("state_section", is_changed)
@@ -159,6 +172,10 @@ class Session:
     def say_of_accepting(self, text: Text) -> None:
         """Sets the words by which the status row says what accepting does, as "c commits"."""
         self._call("accept_text", *sized(text))
+
+    def label(self, file: int, section: int, text: Text) -> None:
+        """Shows `text` in the header of a section in place of its number, or the number again for an empty text."""
+        self._call("label", file, section, *sized(text))
 
     def start(self, folds: Union[Folds, str] = Folds.AS_IT_IS, first: Optional[Key] = None) -> None:
         """Unfolds what `folds` says, or the name of it, and selects the item `first`."""

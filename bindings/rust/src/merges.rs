@@ -1,0 +1,187 @@
+//! The merge of two changed versions of a file: which lines are taken without asking, which are in conflict, and what marks make of them.
+//!
+//! ```
+//! use scm_record::merges::{MergeVersion, Versions};
+//!
+//! let versions = Versions {
+//!     base: b"a\nold\nz\n",
+//!     ours: b"a\nours\nz\n",
+//!     theirs: b"a\ntheirs\nz\nmore\n",
+//! };
+//! let lines = versions.lines()?;
+//! let found: Vec<_> = lines.iter().map(|line| (line.version, line.text.as_str())).collect();
+//! let wanted = [
+//!     (MergeVersion::Agreed, "a\n"),
+//!     (MergeVersion::Ours, "ours\n"),
+//!     (MergeVersion::Base, "old\n"),
+//!     (MergeVersion::Theirs, "theirs\n"),
+//!     (MergeVersion::Agreed, "z\n"),
+//!     (MergeVersion::Agreed, "more\n"),
+//! ];
+//! assert_eq!(found, wanted);
+//! // nothing is taken: our line and theirs are not checked, and the removal of the base's line is
+//! assert_eq!(versions.open_conflicts(&[false, true, false])?, 1);
+//! assert_eq!(versions.merged_bytes(&[true, true, false])?, b"a\nours\nz\nmore\n");
+//! # Ok::<(), scm_record::session::Error>(())
+//! ```
+use crate::ffi;
+use crate::session::{bytes_of, done, sized, Error};
+
+/// The version that a line of a merge comes from.
+#[derive(Clone, Copy, Debug, Eq, Hash, PartialEq)]
+pub enum MergeVersion {
+    /// The line is taken without asking.
+    Agreed,
+    /// Ours, in a conflict.
+    Ours,
+    /// The base, in a conflict.
+    Base,
+    /// Theirs, in a conflict.
+    Theirs,
+}
+
+/// A line of a merge. A version without lines has one with an empty text in each conflict.
+#[derive(Clone, Debug, Eq, Hash, PartialEq)]
+pub struct MergeLine {
+    /// Where the line comes from.
+    pub version: MergeVersion,
+    /// The line, with its line end if it has one.
+    pub text: String,
+}
+
+/// Two versions of a file that both came from a third one, which may be empty.
+#[derive(Clone, Copy, Debug)]
+pub struct Versions<'t> {
+    /// The version that both came from.
+    pub base: &'t [u8],
+    /// Our version.
+    pub ours: &'t [u8],
+    /// Their version.
+    pub theirs: &'t [u8],
+}
+
+/// The bytes of a record before its text: a letter, and a number.
+const HEAD: usize = 9;
+
+impl Versions<'_> {
+    /// Returns how many bytes the merge has at most, by any marks: each version has at most one line without a line end.
+    fn most_bytes(&self) -> usize {
+        self.base.len() + self.ours.len() + self.theirs.len() + 3
+    }
+
+    /// Returns the lines of the merge, in its order. Each conflict has all of ours, then all of the base, and then all of theirs.
+    ///
+    /// # Errors
+    ///
+    /// [`Error::NoMemory`]: an allocation failed.
+    pub fn lines(&self) -> Result<Vec<MergeLine>, Error> {
+        let ((base, base_length), (ours, our_length)) = (sized(&self.base), sized(&self.ours));
+        let (theirs, their_length) = sized(&self.theirs);
+        let records = bytes_of(2 * self.most_bytes(), |out, room, written| {
+            // SAFETY: each version leads to as many bytes, and `out` has room for `room` bytes.
+            unsafe {
+                ffi::scm_merge_texts(
+                    base,
+                    base_length,
+                    ours,
+                    our_length,
+                    theirs,
+                    their_length,
+                    out,
+                    room,
+                    written,
+                )
+            }
+        })?;
+        Ok(lines_in(&records))
+    }
+
+    /// Returns the merge by the marks of its items, which are the lines of the conflicts. Ours and theirs are taken if they are marked, and
+    /// the lines of the base if they are not.
+    ///
+    /// # Errors
+    ///
+    /// [`Error::NoItem`]: there are more or fewer marks than items. [`Error::NoMemory`]: an allocation failed.
+    pub fn merged_bytes(&self, marks: &[bool]) -> Result<Vec<u8>, Error> {
+        let ((base, base_length), (ours, our_length)) = (sized(&self.base), sized(&self.ours));
+        let (theirs, their_length) = sized(&self.theirs);
+        let marks: Vec<u8> = marks.iter().copied().map(u8::from).collect();
+        let (marks, count) = sized(&marks);
+        bytes_of(self.most_bytes(), |out, room, written| {
+            // SAFETY: each version and the marks lead to as many bytes, and `out` has room for `room` bytes.
+            unsafe {
+                ffi::scm_merged_bytes(
+                    base,
+                    base_length,
+                    ours,
+                    our_length,
+                    theirs,
+                    their_length,
+                    marks,
+                    count,
+                    out,
+                    room,
+                    written,
+                )
+            }
+        })
+    }
+
+    /// Returns how many conflicts have no item that is taken by the marks.
+    ///
+    /// # Errors
+    ///
+    /// Those of [`merged_bytes`](Versions::merged_bytes).
+    pub fn open_conflicts(&self, marks: &[bool]) -> Result<usize, Error> {
+        let ((base, base_length), (ours, our_length)) = (sized(&self.base), sized(&self.ours));
+        let (theirs, their_length) = sized(&self.theirs);
+        let marks: Vec<u8> = marks.iter().copied().map(u8::from).collect();
+        let (marks, count) = sized(&marks);
+        let mut open = 0;
+        // SAFETY: each version and the marks lead to as many bytes.
+        done(unsafe {
+            ffi::scm_open_conflicts(
+                base,
+                base_length,
+                ours,
+                our_length,
+                theirs,
+                their_length,
+                marks,
+                count,
+                &mut open,
+            )
+        })?;
+        Ok(open)
+    }
+}
+
+/// Returns the lines that records have.
+fn lines_in(records: &[u8]) -> Vec<MergeLine> {
+    let mut lines = Vec::new();
+    let mut rest = records;
+    while rest.len() >= HEAD {
+        let (head, behind) = rest.split_at(HEAD);
+        let length = head[1..]
+            .iter()
+            .rev()
+            .fold(0, |sum, byte| sum << 8 | usize::from(*byte));
+        let (text, after) = behind.split_at(length);
+        lines.push(MergeLine {
+            version: version_of(head[0]),
+            text: String::from_utf8(text.to_vec()).expect("the library writes UTF-8"),
+        });
+        rest = after;
+    }
+    lines
+}
+
+/// Returns the version of the letter of a record.
+fn version_of(letter: u8) -> MergeVersion {
+    match letter {
+        b'o' => MergeVersion::Ours,
+        b'b' => MergeVersion::Base,
+        b't' => MergeVersion::Theirs,
+        _ => MergeVersion::Agreed,
+    }
+}
