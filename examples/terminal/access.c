@@ -9,8 +9,10 @@
 #include <sys/xattr.h>
 #include <unistd.h>
 
-/* The name of an access list, and its form: a head, and entries of a kind, permissions and a number. */
+/* The names of an access list, and of that which a folder gives to what is new in it. The form of a list: a head, and entries of a kind,
+ * permissions and a number. */
 #define ACCESS_LIST "system.posix_acl_access"
+#define LIST_OF_NEW "system.posix_acl_default"
 enum { HEAD = 4, ENTRY = 8, FOR_OWNER = 0x01, FOR_MASK = 0x10, EACH = 7 };
 
 mode_t new_file_mask(void) {
@@ -72,8 +74,17 @@ bool limit_permissions(int file, mode_t *permissions) {
     return is_read;
 }
 
-/* Takes away the access list that a folder gives to new files. */
-static bool remove_list(int file) { return fremovexattr(file, ACCESS_LIST) == 0 || has_no_list(errno); }
+static bool remove_list(int file, const char *name) { return fremovexattr(file, name) == 0 || has_no_list(errno); }
+
+bool give_folder_access(int folder, mode_t permissions) {
+    struct stat now;
+    if (fstat(folder, &now) != 0) {
+        return false;
+    }
+    bool has_lists = !remove_list(folder, ACCESS_LIST) || !remove_list(folder, LIST_OF_NEW);
+    mode_t given = now.st_gid == getegid() ? permissions : narrow(permissions);
+    return fchmod(folder, (now.st_mode & S_ISGID) | (has_lists ? given & OWN_FOLDER : given)) == 0;
+}
 
 bool give_access(int file, const access_rules *access) {
     struct stat now;
@@ -87,5 +98,5 @@ bool give_access(int file, const access_rules *access) {
     }
     mode_t permissions = has_group ? access->permissions : narrowed(access);
     /* a list that stays gives nobody anything, if the permissions do not */
-    return fchmod(file, has_list || remove_list(file) ? permissions : permissions & OWN_FOLDER) == 0;
+    return fchmod(file, has_list || remove_list(file, ACCESS_LIST) ? permissions : permissions & OWN_FOLDER) == 0;
 }

@@ -35,6 +35,10 @@ bool limit_permissions(int file, mode_t *permissions);
  * with errno set if that fails. */
 bool give_access(int file, const access_rules *access);
 
+/* Gives a new open folder these permissions, and no list of those that the folder around it gives. The group of that folder may have
+ * become its group: this gets what all have. Returns false with errno set if that fails. */
+bool give_folder_access(int folder, mode_t permissions);
+
 /* Returns permissions in which all but the owner have what everybody has. */
 mode_t narrow(mode_t permissions);
 

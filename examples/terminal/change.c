@@ -107,6 +107,59 @@ static void leave_common(piece *old, piece *new) {
     new->length -= end;
 }
 
+/* The lines of a short text. */
+enum { MOST_LINES = 64 };
+typedef struct short_text {
+    piece lines[MOST_LINES];
+    size_t count, place; /* how many lines it has, and how many are passed */
+} short_text;
+
+/* Cuts a text into lines, each with its end. Returns false if they are too many. */
+static bool cut(piece text, short_text *into) {
+    *into = (short_text){.count = 0};
+    while (text.length > 0 && into->count < MOST_LINES) {
+        const char *end = memchr(text.bytes, '\n', text.length);
+        size_t length = end ? (size_t)(end - text.bytes) + 1 : text.length;
+        into->lines[into->count++] = (piece){text.bytes, length};
+        text = (piece){text.bytes + length, text.length - length};
+    }
+    return text.length == 0;
+}
+
+static bool has_line(const short_text *text, piece line) {
+    for (size_t i = 0; i < text->count; i++) {
+        if (are_equal(text->lines[i], line)) {
+            return true;
+        }
+    }
+    return false;
+}
+
+/* Passes the next lines of a text that are not in the other one. Returns how many they are. */
+static size_t pass_own(short_text *text, const short_text *other) {
+    size_t begun = text->place;
+    while (text->place < text->count && !has_line(other, text->lines[text->place])) {
+        text->place++;
+    }
+    return text->place - begun;
+}
+
+/* Sets `count` to the number of lines that differ, if two texts are short, and are the same without the lines that one of them alone has:
+ * then these are the lines that differ, since no line that both have needs a search. Returns false if they are not. */
+static bool count_own_lines(piece old, piece new, size_t *count) {
+    short_text ours, theirs;
+    if (!cut(old, &ours) || !cut(new, &theirs)) {
+        return false;
+    }
+    *count = pass_own(&ours, &theirs) + pass_own(&theirs, &ours);
+    while (ours.place < ours.count && theirs.place < theirs.count && are_equal(ours.lines[ours.place], theirs.lines[theirs.place])) {
+        ours.place++;
+        theirs.place++;
+        *count += pass_own(&ours, &theirs) + pass_own(&theirs, &ours);
+    }
+    return ours.place == ours.count && theirs.place == theirs.count;
+}
+
 /* Sets `count` to the number of lines that differ, in a session of its own. */
 static uint32_t compare_lines(piece old, piece new, size_t *count) {
     scm_session session = {0};
@@ -127,7 +180,7 @@ static uint32_t count_changed(const change *change, size_t *count) {
     piece old = shown_version(change, &change->old).bytes, new = shown_version(change, &change->new).bytes;
     leave_common(&old, &new);
     if (old.length > 0 && new.length > 0) {
-        return compare_lines(old, new, count);
+        return count_own_lines(old, new, count) ? SCM_DONE : compare_lines(old, new, count);
     }
     *count = lines_in(old) + lines_in(new);
     return SCM_DONE;

@@ -1,7 +1,6 @@
 /* Bytes in memory and in files. No proof covers this file. */
 #define _GNU_SOURCE
 #include "files.h"
-#include "target.h"
 
 #include <errno.h>
 #include <fcntl.h>
@@ -177,13 +176,39 @@ static bool write_held(const target *target, piece bytes, mode_t permissions) {
     return is_done;
 }
 
+/* Returns whether nothing is there, or a file. */
+static bool is_nothing_or_file(mode_t mode) { return mode == 0 || S_ISREG(mode); }
+
+/* Looks at a target again. Returns false with errno set if that fails: to ESTALE if what is there is of another kind by now. */
+static bool look_again(target *target) {
+    struct stat now;
+    bool is_there = fstatat(target->folder, target->name, &now, AT_SYMLINK_NOFOLLOW) == 0;
+    if (!is_there && errno != ENOENT) {
+        return false;
+    }
+    mode_t mode = is_there ? now.st_mode : 0, before = target->status.st_mode;
+    bool is_of_that_kind = is_nothing_or_file(before) ? is_nothing_or_file(mode) : (mode & S_IFMT) == (before & S_IFMT);
+    if (is_of_that_kind) {
+        target->status = is_there ? now : (struct stat){0};
+    }
+    errno = is_of_that_kind ? errno : ESTALE;
+    return is_of_that_kind;
+}
+
+bool replace_target(target *target, piece bytes, mode_t permissions) {
+    if (!look_again(target)) {
+        return false;
+    }
+    bool is_file = is_nothing_or_file(target->status.st_mode);
+    return is_file ? write_held(target, bytes, permissions) : write_onto(target, bytes);
+}
+
 bool replace_file(const char *path, piece bytes, mode_t permissions) {
     target target;
     if (!find_target(path, &target)) {
         return false;
     }
-    mode_t mode = target.status.st_mode;
-    bool is_done = mode == 0 || S_ISREG(mode) ? write_held(&target, bytes, permissions) : write_onto(&target, bytes);
+    bool is_done = replace_target(&target, bytes, permissions);
     int error = errno;
     close(target.folder);
     errno = error;

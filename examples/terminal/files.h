@@ -4,6 +4,7 @@
 
 #include "access.h"
 #include "bytes.h"
+#include "target.h"
 
 #include <signal.h>
 
@@ -47,6 +48,10 @@ bool write_new_file(int folder, const char *name, const access_rules *access, pi
  * it first, and no signal comes between. It keeps its access, and a new file has no others than `permissions`. What is no file (a pipe, a
  * device) is written to. */
 bool replace_file(const char *path, piece bytes, mode_t permissions);
+
+/* Replaces a target that was found before, in the same way. Returns false with errno set if that fails: to ESTALE if something of another
+ * kind came there since. */
+bool replace_target(target *target, piece bytes, mode_t permissions);
 
 /* Holds back all signals but that of a file that is too large, which is an error of the write then. */
 void hold_signals(sigset_t *before);

@@ -163,6 +163,8 @@ static void refuse_layer(uint32_t code) {
     refused(scm_theme(&session, SCM_NO_COLOURS + 1), SCM_NO_NUMBER);
     refused(scm_accept_text(&session, "c stages", 8), code);
     refused(scm_accept_text(&session, "\xff", 1), SCM_NOT_TEXT);
+    refused(scm_label(&session, 0, 0, "ours", 4), code);
+    refused(scm_label(&session, 0, 0, "\xff", 1), SCM_NOT_TEXT);
     refused(scm_start(&session, SCM_ALL_OPEN, &key), code);
     refused(scm_start(&session, SCM_OPEN_IF_IT_FITS + 1, &key), SCM_NO_NUMBER);
     refused(scm_keys(&session, "x=undo", 6), code);
@@ -354,6 +356,11 @@ static void take_layer(void) {
     length = paint(out, sizeof out);
     assert(length < sizeof out && memmem(out, length, "lines: 1", 8) != NULL);
     assert(paint(out, sizeof out) < length);
+    refused(scm_label(&session, 0, 0, "\xff", 1), SCM_NOT_TEXT);
+    refused(scm_label(&session, 0, 0, "ours", 4), SCM_DONE);
+    size_t labelled = paint(out, sizeof out);
+    assert(labelled < length && memmem(out, labelled, "ours", 4) != NULL);
+    refused(scm_label(&session, SIZE_MAX, SIZE_MAX, "", 0), SCM_DONE);
     done(scm_repaint(&session), SCM_WAITING);
     assert(paint(out, sizeof out) >= length);
     uint32_t mark = 77;
@@ -390,11 +397,12 @@ static void take_layer(void) {
     is_refused = true;
     uint32_t code_of_logged = scm_logged(&session, out, sizeof out, &length);
     uint32_t code_of_size = scm_resize(&session, UINT16_MAX, UINT16_MAX), code_of_keys = scm_keys(&session, "x=undo", 6);
-    uint32_t code_of_words = scm_accept_text(&session, "c", 1), code_of_paint = scm_paint(&session, out, sizeof out, &length);
+    uint32_t code_of_words = scm_accept_text(&session, "c", 1), code_of_label = scm_label(&session, 0, 0, "c", 1), code_of_paint = scm_paint(&session, out, sizeof out, &length);
     is_refused = false;
     refused(code_of_size, SCM_NO_MEMORY);
     refused(code_of_keys, SCM_NO_MEMORY);
     refused(code_of_words, SCM_NO_MEMORY);
+    refused(code_of_label, SCM_NO_MEMORY);
     refused(code_of_paint, SCM_NO_MEMORY);
     refused(code_of_logged, SCM_NO_MEMORY);
 #endif
@@ -763,6 +771,98 @@ static void tell_path_faults(void) {
     assert(scm_path_fault("a\0b", 3) == SCM_PATH_WITH_NUL && scm_path_fault(NULL, 0) == SCM_PATH_EMPTY);
 }
 
+/* ---- The merge of two changed files ---- */
+
+/* Three files whose merge has a conflict: ours deleted the line that theirs changed. */
+#define MERGED "a\nb\n", 4, "a\n", 2, "a\nB\n", 4
+/* Labels of the base, of ours and of theirs. The second one has a line end, so it is left out. */
+#define LABELS "old", 3, "x\ny", 3, "topic", 5
+
+/* Looks that the merge by marks is `wanted`, also in a buffer that is too short, and how many conflicts are open. */
+static void merges_to(const char *marks, const char *wanted, size_t open) {
+    char out[64];
+    size_t written = 77, length = strlen(wanted), found = 77;
+    memset(out, 'z', sizeof out);
+    assert(scm_merged_bytes(MERGED, marks, 3, out, sizeof out, &written) == SCM_DONE);
+    assert(written == length && memcmp(out, wanted, length) == 0 && out[length] == 'z');
+    memset(out, 'z', sizeof out);
+    assert(scm_merged_bytes(MERGED, marks, 3, out, 1, &written) == SCM_DONE && written == length && out[1] == 'z');
+    assert(scm_open_conflicts(MERGED, marks, 3, &found) == SCM_DONE && found == open);
+}
+
+/* Looks that the merge by marks with conflict markers is `wanted`, also in a buffer that is too short. */
+static void has_markers(const char *marks, const char *wanted) {
+    char out[64];
+    size_t written = 77, length = strlen(wanted);
+    memset(out, 'z', sizeof out);
+    assert(scm_marked_bytes(MERGED, marks, 3, LABELS, out, sizeof out, &written) == SCM_DONE);
+    assert(written == length && memcmp(out, wanted, length) == 0 && out[length] == 'z');
+    memset(out, 'z', sizeof out);
+    assert(scm_marked_bytes(MERGED, marks, 3, LABELS, out, 1, &written) == SCM_DONE && written == length && out[1] == 'z');
+}
+
+/* The lines of a merge as records, and what marks make of it. */
+static void merge_files(void) {
+    static const char records[] = " \2\0\0\0\0\0\0\0a\n"
+                                  "o\0\0\0\0\0\0\0\0"
+                                  "b\2\0\0\0\0\0\0\0b\n"
+                                  "t\2\0\0\0\0\0\0\0B\n";
+    char out[64];
+    size_t written = 77, open = 77;
+    memset(out, 'z', sizeof out);
+    assert(scm_merge_texts(MERGED, out, sizeof out, &written) == SCM_DONE && written == sizeof records - 1);
+    assert(memcmp(out, records, written) == 0 && out[written] == 'z');
+    memset(out, 'z', sizeof out);
+    assert(scm_merge_texts(MERGED, out, 1, &written) == SCM_DONE && written == sizeof records - 1 && out[0] == ' ' && out[1] == 'z');
+    merges_to("\0\1\0", "a\n", 1);
+    merges_to("\1\1\0", "a\n", 0);
+    merges_to("\0\0\0", "a\nb\n", 0);
+    merges_to("\0\1\1", "a\nB\n", 0);
+    merges_to("\0\0\1", "a\nb\nB\n", 0);
+    has_markers("\0\1\0", "a\n<<<<<<<\n||||||| old\nb\n=======\nB\n>>>>>>> topic\n");
+    has_markers("\0\1\1", "a\nB\n");
+    for (size_t count = 0; count < 5; count += count == 2 ? 2 : 1) {
+        written = open = 77;
+        assert(scm_merged_bytes(MERGED, "\0\0\0\0", count, out, sizeof out, &written) == SCM_NO_ITEM && written == 77);
+        assert(scm_marked_bytes(MERGED, "\0\0\0\0", count, LABELS, out, sizeof out, &written) == SCM_NO_ITEM && written == 77);
+        assert(scm_open_conflicts(MERGED, "\0\0\0\0", count, &open) == SCM_NO_ITEM && open == 77);
+    }
+    assert(scm_merge_texts(NULL, 0, NULL, 0, NULL, 0, NULL, 0, &written) == SCM_DONE && written == 0);
+    assert(scm_merged_bytes(NULL, 0, NULL, 0, NULL, 0, NULL, 0, NULL, 0, &written) == SCM_DONE && written == 0);
+    assert(scm_marked_bytes(NULL, 0, NULL, 0, NULL, 0, NULL, 0, NULL, 0, NULL, 0, NULL, 0, NULL, 0, &written) == SCM_DONE && written == 0);
+    assert(scm_open_conflicts(NULL, 0, NULL, 0, NULL, 0, NULL, 0, &open) == SCM_DONE && open == 0);
+}
+
+#ifdef __GLIBC__
+/* Makes one of the four calls. Returns its code, and leaves `written` as it was unless it was done. */
+static uint32_t merge_by(int which, size_t *written) {
+    char out[64];
+    return which == 0   ? scm_merge_texts(MERGED, out, sizeof out, written)
+           : which == 1 ? scm_merged_bytes(MERGED, "\0\0\0", 3, out, sizeof out, written)
+           : which == 2 ? scm_marked_bytes(MERGED, "\0\1\0", 3, LABELS, out, sizeof out, written)
+                        : scm_open_conflicts(MERGED, "\0\0\0", 3, written);
+}
+
+/* Refuses one allocation after another of each call: it says so, or all is done. */
+static void merge_without_memory(void) {
+    for (int which = 0; which < 4; which++) {
+        uint32_t code = SCM_NO_MEMORY;
+        for (long count = 0; code != SCM_DONE; count++) {
+            size_t written = 77;
+            granted = count;
+            is_refused = true;
+            code = merge_by(which, &written);
+            is_refused = false;
+            granted = 0;
+            assert(code == SCM_DONE || (code == SCM_NO_MEMORY && written == 77));
+            assert(count < 1000 && (count > 5 || code == SCM_NO_MEMORY));
+        }
+    }
+}
+#else
+static void merge_without_memory(void) {}
+#endif
+
 /* ---- A second run ---- */
 
 /* A run on a terminal of its own, by another thread. */
@@ -860,6 +960,8 @@ int main(void) {
     take_null();
     decide_paths();
     decide_without_memory();
+    merge_files();
+    merge_without_memory();
     tell_path_faults();
     refuse_runs();
     return 0;

@@ -2,9 +2,9 @@
  * proof covers this file, nor those beside it, of which it is made. */
 #define _GNU_SOURCE
 #include "decided.h"
-#include "failed.h"
 #include "handed.h"
 #include "layer.h"
+#include "program.h"
 #include "shown.h"
 #include "written.h"
 
@@ -57,33 +57,6 @@ static const char HELP[] =
     /* end of keys */
     "\nSELECT_THEME is dark, light, sixteen or none, and NO_COLOR none; SELECT_START is as-is, folded, open or fit. Keys of your own are in\n"
     "~/.config/gabrosty/keys, one a line: \"ctrl-n j\". The man page says more.\n";
-
-enum { GIVEN_UP = 1, FAILED = 2 };
-
-/* Says what is wrong and exits, unless all is well. If `why` is NULL, errno says why. */
-static void check(bool is_well, const char *what, const char *why) {
-    int error = errno;
-    if (!is_well) {
-        errno = error;
-        say("%s: %s", named(what), why ? why : reason());
-        exit(FAILED);
-    }
-}
-
-static void check_code(uint32_t code, const char *what) {
-    char words[256];
-    words[scm_words(code, words, sizeof words - 1)] = 0;
-    check(code == SCM_DONE, what, words);
-}
-
-/* Fills the places of standard files that are closed, so that no other file comes there. */
-static void fill_standard_files(void) {
-    int file;
-    do {
-        file = open("/dev/null", O_RDWR | O_CLOEXEC);
-    } while (file >= 0 && file <= STDERR_FILENO);
-    close(file);
-}
 
 /* ---- What is shown ---- */
 
@@ -173,9 +146,6 @@ static void open_handed(scm_session *session, task *task) {
     }
 }
 
-/* A screen before that of the terminal. On one of fewer than ten columns each word would draw the whole document. */
-enum { WIDTH = 80, HEIGHT = 24 };
-
 /* Begins a session over the state that was made. */
 static void begin(scm_session *session, task *task) {
     uint32_t code = begin_layer(session, &task->layer, WIDTH, HEIGHT);
@@ -216,27 +186,6 @@ static void free_task(task *task) {
 }
 
 /* ---- The run, and what is written ---- */
-
-/* Runs the session on the terminal. If a signal asks for it, ends as that does. Returns whether the terminal is still there. */
-static bool run_in_terminal(scm_session *session, int terminal) {
-    int ended_by = scm_run(session, terminal, getenv("SELECT_TITLE"));
-    if (ended_by > 0) {
-        signal(ended_by, SIG_DFL);
-        raise(ended_by);
-    }
-    check(ended_by >= 0 || errno == EIO, "cannot go on", NULL);
-    return ended_by == 0;
-}
-
-/* Says how a session without accepted changes has ended. Returns the status. */
-static int give_up(scm_session *session, bool is_there) {
-    bool is_cancelled = scm_end(session) == SCM_END_CANCELLED;
-    text words = {0};
-    check_code(read_text(session, &words), "cannot go on");
-    say("%s", is_there ? words.bytes : "the terminal is gone");
-    free(words.bytes);
-    return !is_there || is_cancelled ? GIVEN_UP : FAILED;
-}
 
 /* Writes bytes to the file of a task, or to standard output. A limit of the size of files is an error of the write. */
 static void write_output(const task *task, piece bytes) {
@@ -304,13 +253,10 @@ static void show_message(scm_session *session, const task *task) {
 
 /* Has the user choose, and writes what is accepted. Returns the status. */
 static int select_changes(scm_session *session, task *task) {
-    int terminal = open("/dev/tty", O_RDWR | O_CLOEXEC);
-    check(terminal >= 0, "there is no terminal", NULL);
-    check_code(start_layer(session, &task->layer, terminal), "cannot go on");
+    int terminal = open_terminal();
+    prepare(session, &task->layer, terminal);
     show_message(session, task);
-    const char *why = take_keys(session, &task->layer);
-    check(!why, "the keys of your own", why);
-    bool is_there = run_in_terminal(session, terminal);
+    bool is_there = run_in_terminal(session, terminal, getenv("SELECT_TITLE"));
     if (scm_stage(session) != SCM_ACCEPTED) {
         return give_up(session, is_there);
     }
@@ -319,11 +265,6 @@ static int select_changes(scm_session *session, task *task) {
 }
 
 /* ---- The arguments ---- */
-
-/* Prints a text, and returns the status. */
-static int print(const char *words) {
-    return fputs(words, stdout) >= 0 && fclose(stdout) == 0 ? 0 : FAILED;
-}
 
 /* Writes what becomes of the paths of the rows on standard input. Returns the status. */
 static int print_decided(void) {
@@ -360,15 +301,6 @@ static int read_options(int argc, char **argv, task *task) {
     return 0;
 }
 
-/* Reads the environment into `task`. */
-static void read_environment(task *task) {
-    const char *values = NULL, *name = read_layer(&task->layer, &values);
-    if (name) {
-        say("%s is %s: write %s", name, getenv(name), values);
-        exit(FAILED);
-    }
-}
-
 /* Reads the paths behind the options into `task`. */
 static void read_paths(int count, char **paths, task *task) {
     bool is_state = task->form == TWO_FILES && count == 1;
@@ -396,9 +328,8 @@ int main(int argc, char **argv) {
     read_paths(argc - optind, argv + optind, &task);
     check(task.output || task.form == TWO_FOLDERS || fcntl(STDOUT_FILENO, F_GETFD) >= 0, "standard output", NULL);
     fill_standard_files();
-    read_environment(&task);
-    hear_failed_checks();
-    signal(SIGCHLD, SIG_DFL); /* else the editor's status would be lost */
+    read_environment(&task.layer);
+    hear_ends();
     open_session(&session, &task);
     bool is_chosen = !has_nothing(&task);
     int status = is_chosen ? select_changes(&session, &task) : 0;

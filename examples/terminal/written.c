@@ -4,6 +4,7 @@
 #include "decided.h"
 #include "shown.h"
 
+#include <dirent.h>
 #include <stdio.h>
 #include <string.h>
 #include <sys/random.h>
@@ -197,6 +198,28 @@ static bool make_wanted(plan *plan, size_t index) {
     return wanted->is_in_spare || fail(plan, wanted->file->path, NULL);
 }
 
+/* Returns whether nothing is in an open folder. */
+static bool is_empty(int folder) {
+    int again = openat(folder, ".", O_RDONLY | O_DIRECTORY | O_CLOEXEC);
+    DIR *listed = again < 0 ? NULL : fdopendir(again);
+    struct dirent *entry = listed ? readdir(listed) : NULL;
+    while (entry && (!strcmp(entry->d_name, ".") || !strcmp(entry->d_name, ".."))) {
+        entry = readdir(listed);
+    }
+    if (listed) {
+        closedir(listed);
+    } else if (again >= 0) {
+        close(again);
+    }
+    return listed && !entry;
+}
+
+/* Returns whether an open folder can be the one that was just made under its name: another user may have put one there meanwhile. */
+static bool can_be_new(int folder) {
+    struct stat now;
+    return fstat(folder, &now) == 0 && now.st_uid == geteuid() && (now.st_mode & OTHERS_MAY_WRITE) == 0 && is_empty(folder);
+}
+
 /* Makes the spare folder, with a name that nobody foresees, and opens it. Returns why that failed, or NULL. */
 static const char *make_spare(spare *spare, int top) {
     unsigned long long random;
@@ -209,11 +232,14 @@ static const char *make_spare(spare *spare, int top) {
     if (spare->folder < 0 || fstat(spare->folder, &spare->status) != 0) {
         return reason();
     }
-    if (spare->status.st_uid != geteuid() || (spare->status.st_mode & OTHERS_MAY_WRITE) != 0) {
+    if (!can_be_new(spare->folder)) {
         close(spare->folder);
         spare->folder = -1;
         return "it cannot be kept from others";
     }
+    /* another empty folder of this user's may have the name by now; some disks keep no permissions */
+    int given = fchmod(spare->folder, OWN_FOLDER);
+    (void)given;
     return NULL;
 }
 
@@ -267,13 +293,6 @@ static mode_t permissions_of_folder(below *left, const char *path, size_t length
     return (most & ~new_file_mask()) | OWN_FOLDER;
 }
 
-/* Gives a new folder its permissions. The group of the folder around it may have become its group: that gets what all have. */
-static bool give_permissions(int folder, mode_t permissions) {
-    struct stat now;
-    return fstat(folder, &now) == 0
-           && fchmod(folder, (now.st_mode & S_ISGID) | (now.st_gid == getegid() ? permissions : narrow(permissions))) == 0;
-}
-
 /* A folder that is made below the right one, for a path. */
 typedef struct new_folder {
     folders *folders;
@@ -285,8 +304,8 @@ static bool make_folder(void *with, int around, const char *name, size_t length)
     const new_folder *new = with;
     mode_t permissions = permissions_of_folder(&new->folders->left, new->path, length);
     int folder = mkdirat(around, name, OWN_FOLDER) == 0 ? openat(around, name, O_RDONLY | O_DIRECTORY | O_NOFOLLOW | O_CLOEXEC) : -1;
-    bool is_made = folder >= 0 && give_permissions(folder, permissions);
-    int error = errno;
+    bool is_new = folder >= 0 && can_be_new(folder), is_made = is_new && give_folder_access(folder, permissions);
+    int error = folder < 0 || is_new ? errno : ESTALE;
     if (folder >= 0) {
         close(folder);
     }

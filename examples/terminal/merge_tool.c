@@ -1,0 +1,269 @@
+/* Merges two changed versions of a file in a terminal, over the library for C: reads three files, has the user settle the conflicts, and
+ * writes the merge. No proof covers this file, nor those beside it, of which it is made. */
+#define _GNU_SOURCE
+#include "merging.h"
+#include "program.h"
+#include "shown.h"
+
+#include <getopt.h>
+#include <signal.h>
+#include <stdio.h>
+#include <string.h>
+
+static const char HELP[] =
+    "usage: " NAME " [OPTION ..] BASE OURS THEIRS OUTPUT\n\n"
+    "Merges the files OURS and THEIRS, which both came from BASE, and writes the merge to OUTPUT. Lines that one side alone changed are\n"
+    "taken without asking. Each conflict is shown with our lines, those of the base and theirs: mark what the merge is to have. If there is\n"
+    "no conflict, nothing is shown. BASE may be empty, or missing.\n\n"
+    "  --path NAME            the name of the file that is shown, if it is not that of OUTPUT\n"
+    "  --base-label LABEL, --ours-label LABEL, --theirs-label LABEL\n"
+    "                         what is shown of a version, as the name of its branch\n"
+    "  --markers              write the merge also if conflicts are open, with conflict markers around these; the status is 1\n"
+    "  --version, --help      print the version, or this text\n\n"
+    "The status is 0 if the merge was written, 1 if you left it or conflicts are open, and 2 for an error. Unless it is 0, OUTPUT stays,\n"
+    "but for --markers.\n\n"
+    /* keys: made by tools/make-keys */
+    "Keys:\n"
+    "  Down, j                   moves down, to the next item\n"
+    "  Up, k                     moves up, to the previous item\n"
+    "  Right, l, Shift-Right, L  moves in: to the first section of a file, or the\n"
+    "                            first line of a section\n"
+    "  Left, h                   moves out: to the section of a line, or the file of\n"
+    "                            a folded section; folds an open section, and a file\n"
+    "  Space                     marks the selected item, or takes its mark away; of\n"
+    "                            a file or section, everything in it\n"
+    "  a                         inverts all marks\n"
+    "  F                         unfolds everything, or folds all if everything is\n"
+    "                            unfolded\n"
+    "  c                         accepts what is marked\n"
+    "  q                         gives up; asks first if something is marked or a\n"
+    "                            message is not empty (then Enter quits, and q goes\n"
+    "                            back)\n"
+    "  ?                         opens or closes the help, which names the keys\n"
+    "  /                         searches for a text, downwards\n"
+    "  n, N                      searches for it again, downwards or upwards\n"
+    "  v                         begins a range at the selected line; ends it\n"
+    "  Space                     while a range is begun: marks its lines, or takes\n"
+    "                            their marks away, and ends it\n"
+    "  Esc                       while a range is begun: ends it\n"
+    "  u                         undoes the last change of marks\n"
+    "  ctrl-r                    does again what was undone last\n"
+    "  >, <                      shows the columns further right or left\n"
+    /* end of keys */
+    "\nThe man page says how git, jj and hg call this program, and names the variables that choose colours and keys.\n";
+
+/* A no-break space, which no path has as it is shown, is between a path and how many conflicts there are. */
+#define AFTER_PATH "\xc2\xa0"
+
+/* What the arguments ask for, and what was read for it. */
+typedef struct task {
+    const char *base, *ours, *theirs, *output; /* paths */
+    const char *path;                          /* the name that is shown */
+    target target;                             /* OUTPUT, in a folder that is open */
+    mode_t permissions;                        /* that all files have that were read */
+    bool has_markers;                          /* the merge is written also if conflicts are open */
+    labels labels;
+    layer layer;
+    merge merge;
+    size_t open; /* how many conflicts are open */
+} task;
+
+/* ---- What is read ---- */
+
+/* Reads a version. Says what is wrong with it and exits, unless all is well. */
+static void read_version(const char *path, text *into, mode_t *permissions) {
+    check(read_source(path, into, permissions), path, NULL);
+    bool is_binary = into->length > 0 && memchr(into->bytes, 0, into->length);
+    check(!is_binary, path, "it has a NUL byte, as no text has: nothing was written");
+}
+
+/* Returns whether there is no file at a path. */
+static bool is_missing(const char *path) { return access(path, F_OK) != 0 && errno == ENOENT; }
+
+/* Opens the folder of OUTPUT, reads the three versions, and finds their conflicts. */
+static void read_versions(task *task) {
+    merge *merge = &task->merge;
+    check(find_target(task->output, &task->target), task->output, NULL);
+    if (!is_missing(task->base)) {
+        read_version(task->base, &merge->base, &task->permissions);
+    }
+    read_version(task->ours, &merge->ours, &task->permissions);
+    read_version(task->theirs, &merge->theirs, &task->permissions);
+    check_code(find_conflicts(merge), "the files cannot be compared");
+    task->open = merge->conflicts;
+}
+
+/* ---- What is shown ---- */
+
+/* Adds how many conflicts there are, and how many of them are open if that is another number. */
+static bool add_count(text *into, const task *task) {
+    size_t all = task->merge.conflicts, open = task->open;
+    return append_words(into, all == 1 ? "1 conflict" : "%zu conflicts", all) && (open == all || append_words(into, ", %zu open", open));
+}
+
+/* Begins a session that shows the merge, with the first open conflict selected. */
+static void begin(scm_session *session, const task *task, int terminal) {
+    text title = {0};
+    bool is_made = add_shown(&title, task->path) && append(&title, AFTER_PATH "(", 3) && add_count(&title, task) && append(&title, ")", 1);
+    check(is_made, "the merge cannot be shown", NULL);
+    uint32_t code = show_merge(session, (piece){title.bytes, title.length}, &task->merge);
+    check(code != SCM_TOO_LONG, task->path, "a line is too long to be shown: nothing was written");
+    check_code(code, "the merge cannot be shown");
+    code = begin_layer(session, &task->layer, WIDTH, HEIGHT);
+    check(code != SCM_NOT_ACCEPTED, task->path, "it has too many lines to be shown: nothing was written");
+    check_code(code, "the merge cannot be shown");
+    free(title.bytes);
+    prepare(session, &task->layer, terminal);
+    if (task->layer.is_on) {
+        check_code(label_conflicts(session, &task->merge, &task->labels), "the merge cannot be shown");
+        scm_key first = first_open(&task->merge);
+        check_code(scm_start(session, SCM_AS_IT_IS, &first), "cannot go on");
+    }
+}
+
+/* Runs the session, under a title that says how many conflicts there are. Returns whether the terminal is still there. */
+static bool run(scm_session *session, const task *task, int terminal) {
+    text title = {0};
+    const char *asked = getenv("SELECT_TITLE");
+    check(append_words(&title, NAME ": ") && add_count(&title, task), "cannot go on", NULL);
+    bool is_there = run_in_terminal(session, terminal, asked ? asked : title.bytes);
+    free(title.bytes);
+    return is_there;
+}
+
+/* Reads a line of the terminal. Returns its first letter, or 0 if there is none, and -1 at the end. */
+static int read_letter(int terminal) {
+    char line[256];
+    ssize_t count;
+    do {
+        count = read(terminal, line, sizeof line);
+    } while (count < 0 && errno == EINTR);
+    return count <= 0 ? -1 : line[0] == '\n' ? 0 : (unsigned char)line[0];
+}
+
+/* Asks whether the user goes back to the conflicts that are open. Returns the letter of the answer, as read_letter does. */
+static int ask(const task *task, int terminal) {
+    text words = {0};
+    size_t open = task->open, all = task->merge.conflicts;
+    const char *left = task->has_markers ? "leaves the file with conflict markers" : "leaves the file as it is";
+    bool is_made = append_words(&words, "%zu of %zu conflicts %s open. Enter goes back, l %s: ", open, all, open == 1 ? "is" : "are", left);
+    bool is_asked = is_made && write_bytes(terminal, words.bytes, words.length);
+    free(words.bytes);
+    return is_asked ? read_letter(terminal) : -1;
+}
+
+/* Returns whether this answer, or the end of the terminal, leaves the conflicts open. */
+static bool leaves_open(int letter) { return letter < 0 || letter == 'l' || letter == 'L'; }
+
+/* ---- What is written ---- */
+
+/* Writes the merge to the file of the task, with conflict markers if a conflict is open. A limit of the size of files is an error of the
+ * write. */
+static void write_output(task *task) {
+    text merged = {0};
+    bool is_marked = task->open > 0;
+    check_code(is_marked ? read_with_markers(&task->merge, &task->labels, &merged) : read_merged(&task->merge, &merged), "cannot go on");
+    signal(SIGXFSZ, SIG_IGN);
+    check(replace_target(&task->target, (piece){merged.bytes, merged.length}, task->permissions), task->output, NULL);
+    free(merged.bytes);
+}
+
+/* Has the user choose once. Returns whether that was accepted, and else sets `status`. */
+static bool choose(task *task, int terminal, int *status) {
+    scm_session session = {0};
+    begin(&session, task, terminal);
+    bool is_there = run(&session, task, terminal), is_accepted = scm_stage(&session) == SCM_ACCEPTED;
+    if (is_accepted) {
+        check_code(keep_marks(&session, &task->merge), "cannot go on");
+        check_code(count_open(&task->merge, &task->open), "cannot go on");
+    } else {
+        *status = give_up(&session, is_there);
+    }
+    scm_free(&session);
+    return is_accepted;
+}
+
+/* Has the user settle the conflicts, and writes the merge if none is open any more, or if the user leaves open ones with markers. Returns the
+ * status. */
+static int settle(task *task) {
+    int terminal = open_terminal(), status = GIVEN_UP, letter = 0;
+    do {
+        if (!choose(task, terminal, &status)) {
+            return status;
+        }
+    } while (task->open > 0 && !leaves_open(letter = ask(task, terminal)));
+    bool is_open = task->open > 0, is_written = !is_open || (task->has_markers && letter > 0);
+    if (is_written) {
+        write_output(task);
+    }
+    if (is_open) {
+        say("%zu of %zu conflicts %s open: %s %s", task->open, task->merge.conflicts, task->open == 1 ? "is" : "are", task->output,
+            is_written ? "has conflict markers" : "stays as it is");
+    }
+    return is_open ? GIVEN_UP : 0;
+}
+
+/* ---- The arguments ---- */
+
+/* Reads the options into `task`. Returns the letter of one that asks for a text, or 0. */
+static int read_options(int argc, char **argv, task *task) {
+    static const struct option options[] = {
+        {"path", required_argument, NULL, 'p'},       {"base-label", required_argument, NULL, 'B'},
+        {"ours-label", required_argument, NULL, 'O'}, {"theirs-label", required_argument, NULL, 'T'},
+        {"markers", no_argument, NULL, 'm'},          {"help", no_argument, NULL, 'h'},
+        {"version", no_argument, NULL, 'v'},          {0},
+    };
+    int letter;
+    opterr = 0;
+    while ((letter = getopt_long(argc, argv, "h", options, NULL)) != -1) {
+        check(letter != '?', "wrong arguments", "try " NAME " --help");
+        switch (letter) {
+        case 'p': task->path = optarg; break;
+        case 'B': task->labels.base = (piece){optarg, strlen(optarg)}; break;
+        case 'O': task->labels.ours = (piece){optarg, strlen(optarg)}; break;
+        case 'T': task->labels.theirs = (piece){optarg, strlen(optarg)}; break;
+        case 'm': task->has_markers = true; break;
+        default: return letter;
+        }
+    }
+    return 0;
+}
+
+/* Reads the paths behind the options into `task`. */
+static void read_paths(int count, char **paths, task *task) {
+    check(count == 4, "wrong arguments", "try " NAME " --help");
+    task->base = paths[0];
+    task->ours = paths[1];
+    task->theirs = paths[2];
+    task->output = paths[3];
+    task->path = task->path ? task->path : task->output;
+}
+
+/* Reads the environment. Unless that says so, everything is unfolded, and the status row says what accepting does. */
+static void read_looks(layer *layer) {
+    const char *start = getenv("SELECT_START");
+    read_environment(layer);
+    layer->folds = start && *start ? layer->folds : SCM_ALL_OPEN;
+    layer->accept = getenv("SELECT_ACCEPT") ? layer->accept : "c writes the merge";
+}
+
+int main(int argc, char **argv) {
+    task task = {.permissions = ~(mode_t)0};
+    int asked = read_options(argc, argv, &task);
+    if (asked) {
+        return print(asked == 'v' ? NAME " " SCM_VERSION_TEXT "\n" BUILD : HELP);
+    }
+    read_paths(argc - optind, argv + optind, &task);
+    fill_standard_files();
+    read_looks(&task.layer);
+    hear_ends();
+    read_versions(&task);
+    int status = 0;
+    if (task.open > 0) {
+        status = settle(&task);
+    } else {
+        write_output(&task);
+    }
+    free_merge(&task.merge);
+    return status;
+}

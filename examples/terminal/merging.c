@@ -1,0 +1,215 @@
+/* The merge of three versions of a file, as the library makes it. No proof covers this file. */
+#define _GNU_SOURCE
+#include "merging.h"
+#include "shown.h"
+
+#include <string.h>
+
+/* The letters of records, the bytes before the text of one, and the mode of the file that is shown. */
+enum { AGREED = ' ', OURS = 'o', BASE = 'b', THEIRS = 't', NUMBER = 8, HEAD = 1 + NUMBER, FILE_MODE = 0100644 };
+
+/* The line ends that lines get which have none: each version has at most one. */
+enum { LINE_ENDS = 3 };
+
+/* ---- Records ---- */
+
+/* The record of a line: where it comes from, and its text. `section` is the index of the section that shows it. */
+typedef struct line {
+    char letter;
+    piece text;
+    bool begins; /* it is the first line of its section */
+    size_t section;
+    size_t item; /* the index of its mark, if it is one of a conflict */
+} line;
+
+/* Records that are read one by one: those that are left, and the last one. */
+typedef struct records {
+    piece rest;
+    line last;
+    size_t items; /* how many items of conflicts came up to the last one, itself among them */
+} records;
+
+static records records_of(const merge *merge) {
+    return (records){.rest = {merge->lines.bytes, merge->lines.length}, .last = {.section = SCM_NO_INDEX}};
+}
+
+/* Takes the next record. Returns false if none is left. */
+static bool take_line(records *records, line *line) {
+    if (records->rest.length < HEAD) {
+        return false;
+    }
+    const unsigned char *head = (const unsigned char *)records->rest.bytes;
+    size_t length = 0;
+    for (int i = NUMBER; i > 0; i--) {
+        length = length << 8 | head[i];
+    }
+    char letter = records->rest.bytes[0];
+    bool begins = letter != records->last.letter, is_item = letter != AGREED;
+    *line = (struct line){letter, {records->rest.bytes + HEAD, length}, begins, records->last.section + begins, records->items};
+    records->rest = (piece){records->rest.bytes + HEAD + length, records->rest.length - HEAD - length};
+    records->last = *line;
+    records->items += is_item;
+    return true;
+}
+
+/* ---- What the library makes of the versions ---- */
+
+/* Reads the records of the lines. */
+static uint32_t read_lines(merge *merge) {
+    const text *base = &merge->base, *ours = &merge->ours, *theirs = &merge->theirs;
+    size_t length = FIRST_ROOM;
+    uint32_t code = SCM_NO_MEMORY;
+    do {
+        if (!make_room(&merge->lines, length)) {
+            return SCM_NO_MEMORY;
+        }
+        code = scm_merge_texts(base->bytes, base->length, ours->bytes, ours->length, theirs->bytes, theirs->length,
+                               merge->lines.bytes, merge->lines.room, &length);
+    } while (code == SCM_DONE && length > merge->lines.room);
+    end_at(&merge->lines, code == SCM_DONE ? length : 0);
+    return code;
+}
+
+uint32_t find_conflicts(merge *merge) {
+    uint32_t code = read_lines(merge);
+    records records = records_of(merge);
+    line line;
+    while (code == SCM_DONE && take_line(&records, &line)) {
+        merge->conflicts += line.begins && line.letter == OURS;
+        /* the base's lines are removed, unless they are taken */
+        bool is_added = line.letter == AGREED || append(&merge->marks, line.letter == BASE ? "\1" : "\0", 1);
+        code = is_added ? SCM_DONE : SCM_NO_MEMORY;
+    }
+    return code;
+}
+
+void free_merge(merge *merge) {
+    text *const texts[] = {&merge->base, &merge->ours, &merge->theirs, &merge->lines, &merge->marks};
+    for (size_t i = 0; i < sizeof texts / sizeof *texts; i++) {
+        free(texts[i]->bytes);
+    }
+}
+
+uint32_t count_open(const merge *merge, size_t *open) {
+    const text *base = &merge->base, *ours = &merge->ours, *theirs = &merge->theirs;
+    return scm_open_conflicts(base->bytes, base->length, ours->bytes, ours->length, theirs->bytes, theirs->length,
+                              merge->marks.bytes, merge->marks.length, open);
+}
+
+uint32_t read_merged(const merge *merge, text *into) {
+    const text *base = &merge->base, *ours = &merge->ours, *theirs = &merge->theirs;
+    size_t length = 0;
+    if (!make_room(into, base->length + ours->length + theirs->length + LINE_ENDS)) {
+        return SCM_NO_MEMORY;
+    }
+    uint32_t code = scm_merged_bytes(base->bytes, base->length, ours->bytes, ours->length, theirs->bytes, theirs->length,
+                                     merge->marks.bytes, merge->marks.length, into->bytes, into->room, &length);
+    end_at(into, code == SCM_DONE ? length : 0);
+    return code;
+}
+
+uint32_t read_with_markers(const merge *merge, const labels *labels, text *into) {
+    const text *base = &merge->base, *ours = &merge->ours, *theirs = &merge->theirs;
+    size_t length = base->length + ours->length + theirs->length + FIRST_ROOM;
+    uint32_t code = SCM_NO_MEMORY;
+    do {
+        if (!make_room(into, length)) {
+            return SCM_NO_MEMORY;
+        }
+        code = scm_marked_bytes(base->bytes, base->length, ours->bytes, ours->length, theirs->bytes, theirs->length, merge->marks.bytes,
+                                merge->marks.length, labels->base.bytes, labels->base.length, labels->ours.bytes, labels->ours.length,
+                                labels->theirs.bytes, labels->theirs.length, into->bytes, into->room, &length);
+    } while (code == SCM_DONE && length > into->room);
+    end_at(into, code == SCM_DONE ? length : 0);
+    return code;
+}
+
+/* ---- The session ---- */
+
+/* Adds a line to the state, after the line `before`. */
+static uint32_t show_line(scm_session *session, const line *line, char before, const merge *merge) {
+    bool is_changed = line->letter != AGREED, is_split = is_changed && line->begins && before != AGREED && before != 0;
+    uint32_t code = is_split ? scm_state_section(session, true) : SCM_DONE;
+    if (code == SCM_DONE) {
+        bool is_checked = is_changed && merge->marks.bytes[line->item];
+        code = scm_state_line(session, is_changed, line->letter != BASE, is_checked, line->text.bytes, line->text.length);
+    }
+    return code;
+}
+
+uint32_t show_merge(scm_session *session, piece title, const merge *merge) {
+    uint32_t code = scm_state_new(session, false);
+    if (code == SCM_DONE) {
+        code = scm_state_file(session, title.bytes, title.length, "", 0, FILE_MODE);
+    }
+    records records = records_of(merge);
+    line line;
+    for (char before = 0; code == SCM_DONE && take_line(&records, &line); before = line.letter) {
+        code = show_line(session, &line, before, merge);
+    }
+    return code;
+}
+
+/* Returns the version to which the lines of a conflict belong. */
+static const char *version_of(char letter) { return letter == OURS ? "ours" : letter == BASE ? "base" : "theirs"; }
+
+/* Returns the label of that version. */
+static piece label_of(char letter, const labels *labels) {
+    return letter == OURS ? labels->ours : letter == BASE ? labels->base : labels->theirs;
+}
+
+/* Adds the words for a section of a conflict: which one of all it is, the version, and in brackets the version's label as it is shown, if
+ * there is one. */
+static bool add_words_for(text *into, size_t conflict, size_t all, char letter, piece label) {
+    text made = {0};
+    bool is_added = append_words(into, "Conflict %zu/%zu: %s", conflict, all, version_of(letter)) && show(&label, &made);
+    if (is_added && label.length > 0) {
+        is_added = append(into, " (", 2) && append(into, label.bytes, label.length) && append(into, ")", 1);
+    }
+    free(made.bytes);
+    return is_added;
+}
+
+uint32_t label_conflicts(scm_session *session, const merge *merge, const labels *labels) {
+    uint32_t code = SCM_DONE;
+    size_t conflict = 0; /* counted from 1 */
+    text words = {0};
+    records records = records_of(merge);
+    line line;
+    while (code == SCM_DONE && take_line(&records, &line)) {
+        conflict += line.begins && line.letter == OURS;
+        if (line.begins && line.letter != AGREED) {
+            words.length = 0;
+            bool is_made = add_words_for(&words, conflict, merge->conflicts, line.letter, label_of(line.letter, labels));
+            code = is_made ? scm_label(session, 0, line.section, words.bytes, words.length) : SCM_NO_MEMORY;
+        }
+    }
+    free(words.bytes);
+    return code;
+}
+
+/* Returns whether an item of a conflict is taken. */
+static bool is_taken(const line *line, const merge *merge) { return (line->letter == BASE) != (merge->marks.bytes[line->item] != 0); }
+
+scm_key first_open(const merge *merge) {
+    static const scm_key nothing = {SCM_NO_INDEX, SCM_NO_INDEX, SCM_NO_INDEX, SCM_NO_INDEX};
+    size_t section = SCM_NO_INDEX; /* of the conflict that is looked at, as long as nothing of it is taken */
+    records records = records_of(merge);
+    line line;
+    while (take_line(&records, &line)) {
+        bool is_new = line.begins && line.letter == OURS, is_over = line.begins && (is_new || line.letter == AGREED);
+        if (is_over && section != SCM_NO_INDEX) {
+            break;
+        }
+        section = is_new ? line.section : section;
+        section = line.letter != AGREED && is_taken(&line, merge) ? SCM_NO_INDEX : section;
+    }
+    return section == SCM_NO_INDEX ? nothing : (scm_key){0, 0, section, SCM_NO_INDEX};
+}
+
+uint32_t keep_marks(scm_session *session, merge *merge) {
+    size_t count = 0;
+    uint32_t code = scm_marks(session, 0, merge->marks.bytes, merge->marks.length, &count);
+    /* the session shows the items of the merge and no others */
+    return code == SCM_DONE && count != merge->marks.length ? SCM_NO_ITEM : code;
+}
