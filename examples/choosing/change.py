@@ -10,6 +10,9 @@ ABSENT, LINK, SUBMODULE = "000000", "120000", "160000"
 # a text of no more bytes has no line that is too long for the front end, which counts a byte that is no UTF-8 as four of 1,000,000
 SURELY_SHOWN = 250_000
 
+# the records of a text that both versions have, in one piece: most changes are such
+OF_A_TEXT = b"path %d\n%b\nold-mode 6\n%b\nold %d\n%b\nnew-mode 6\n%b\nnew %d\n%b\n"
+
 # One side of a file: its mode, and the name of git's object with its contents.
 Side = collections.namedtuple("Side", "mode name")
 
@@ -43,7 +46,7 @@ class Change:
     def __init__(self, path, sides, contents):
         self.path, (self.old, self.new) = path, sides
         self.old_data, self.new_data = [b"" if side.mode == ABSENT else contents[side.name] for side in sides]
-        files = [data for _, side, data in self.versions() if side.mode not in (ABSENT, LINK)]
+        files = [data for side, data in zip(sides, (self.old_data, self.new_data)) if side.mode not in (ABSENT, LINK)]
         self.is_unread = any([isinstance(data, Unread) for data in files])
         self.has_lines = bool(files) and not self.is_unread and not any([b"\0" in data for data in files])
 
@@ -58,7 +61,11 @@ class Change:
 
     def records(self):
         """Returns the records that hand it in. What has no lines, and a link, goes without its bytes: it is one item, or none."""
-        made, has_words = record("path", shown(self.path)), not self.is_surely_shown()
+        path, has_words = shown(self.path).encode(), not self.is_surely_shown()
+        if not has_words and ABSENT not in (self.old.mode, self.new.mode):
+            versions = (it for _, side, data in self.versions() for it in (side.mode.encode(), len(data), data))
+            return OF_A_TEXT % (len(path), path, *versions) + self.more_records()
+        made = record("path", path)
         for word, side, data in self.versions():
             if side.mode != ABSENT:
                 made += record(word + "-mode", side.mode)
@@ -68,7 +75,11 @@ class Change:
                 made += record(word + "-words", named(side, data) if is_first else described(side, data))
             if self.has_lines and side.mode != LINK:
                 made += record(word, data)
-        return made + b"".join(record(word, text) for word, text in (("note", self.note), ("marks", self.marks)) if text)
+        return made + self.more_records()
+
+    def more_records(self):
+        """Returns the records of what is said and marked of it."""
+        return b"".join([record(word, text) for word, text in (("note", self.note), ("marks", self.marks)) if text])
 
     def chosen(self, side, mode, data):
         """Returns what a choice leaves by `side`, `selected` or `unselected`: a change, with its mode and its bytes."""

@@ -8,7 +8,7 @@ import stat
 from .change import ABSENT, LINK, digest_of
 from .folders import AT_ONCE, IS_FOLDER, IS_PLAIN, closing, read_whole
 from .paths import check_path
-from .permissions import give, permissions_of_file, permissions_of_folder, permissions_of_new
+from .permissions import OF_ANY_FILE, give, permissions_of_file, permissions_of_folder, permissions_of_new
 from .plans import Entry, in_order
 from .signals import signals_wait
 from .spare import spare_for
@@ -44,11 +44,10 @@ def flush(folder, names):
 
 
 def set_permissions(folder, permissions):
-    """Gives files their permissions, by name, if they are not None."""
+    """Gives files their permissions, by name."""
     for name, wanted in permissions.items():
-        if wanted is not None:
-            with closing(os.open(name, os.O_RDONLY | IS_PLAIN, dir_fd=folder)) as file:
-                give(file, wanted)
+        with closing(os.open(name, os.O_RDONLY | IS_PLAIN, dir_fd=folder)) as file:
+            give(file, wanted)
 
 
 def permissions_for(mode, before):
@@ -58,11 +57,12 @@ def permissions_for(mode, before):
 
 
 def permissions_wanted(mode, before, source):
-    """Returns the permissions of a file of git's mode `mode`, or None if they are those of any new file: those that it had `before`.
-    A new one has no more than its `source`, if that is known, but its owner may read and write it."""
+    """Returns the permissions of a file of git's mode `mode`: those that it had `before`. A new one has no more than its `source`, if
+    that is known, but its owner may read and write it."""
     if before is not None:
         return permissions_for(mode, before)
-    return None if source is None else permissions_of_new(permissions_for(mode, source._replace(bits=source.bits | 0o600)), 0o600)
+    most = OF_ANY_FILE if source is None else source
+    return permissions_of_new(permissions_for(mode, most._replace(bits=most.bits | 0o600)), 0o600)
 
 
 def give_to_new_folder(at, name, permissions):
@@ -209,8 +209,8 @@ class Files:
                 if mode == LINK:
                     spare.make_link(name, data)
                 elif mode != ABSENT:
-                    permissions[name] = wanted = permissions_wanted(mode, before, sources.get(path))
-                    spare.make_file(name, data, 0o600 if wanted else 0o777 if mode == "100755" else 0o666)
+                    permissions[name] = permissions_wanted(mode, before, sources.get(path))
+                    spare.make_file(name, data)
         flush(spare.at, permissions)
         # they may keep the user from opening a file
         set_permissions(spare.at, permissions)

@@ -15,6 +15,7 @@ from .words import Stop, shown, words_of
 HERE = os.path.dirname(os.path.realpath(__file__))
 # where it lies beside an installed program, and else what builds it
 INSTALLED, BUILDS = os.path.join(HERE, "../../../bin/scm-select"), os.path.join(HERE, "../../tools/select")
+AT_ONCE = 1_000_000  # how many bytes are written at once
 STATUSES = ACCEPTED, GIVEN_UP, FAILED = 0, 1, 2  # a front end that failed has said why
 # keys: made by tools/make-keys
 KEYS = """Keys:
@@ -78,7 +79,7 @@ def ask(changes, folder, task, messages=(), environment=None, settings=()):
     """Has the user choose in the front end, whose title says the `task`. `settings` may have `read-only` and `mark-all`. Returns the
     front end's status, and the path of what it wrote."""
     handed, accepted = os.path.join(folder, "changes"), os.path.join(folder, "accepted")
-    with open(handed, "wb") as file:
+    with open(handed, "wb", AT_ONCE) as file:
         file.writelines(records_of(changes, messages, settings))
     open(accepted, "w").close()
     more = {"SELECT_TITLE": "%s: %s" % (program(), task), **(environment or {})}

@@ -1,4 +1,5 @@
 """Git, as the programs call it."""
+import contextlib
 import functools
 import os
 import re
@@ -18,18 +19,40 @@ APART = 'exec 9>&1 >&2 "$@"'
 EDITOR = 'gabrosty_editor() {\n%s "$@"\n}\ngabrosty_editor >&9 2>&9'
 
 
-def run_to_end(command, given=None, **settings):
-    """Runs `command` to its end. If a signal ends this program, the command is ended first, so that it can tidy up."""
+@contextlib.contextmanager
+def begun(command, **settings):
+    """Gives the process of a command. If a signal ends this program, the command is ended first, so that it can tidy up."""
     they_wait = waiting[-1]
     # a command that was begun, but is not known yet, could not be ended
     with signals_wait(), subprocess.Popen(command, **settings) as process:
         try:
             with signals_wait(they_wait):
-                output, words = process.communicate(given)
+                yield process
         except BaseException:
             process.terminate()
             raise
+
+
+def run_to_end(command, given=None, **settings):
+    """Runs `command` to its end."""
+    with begun(command, **settings) as process:
+        output, words = process.communicate(given)
     return process.returncode, output, words
+
+
+def run_within(command, most, **settings):
+    """Runs a command that writes no more than `most` bytes to a file: else it fails. Returns its status, or None if the system has no such
+    limit."""
+    import resource
+
+    limit = getattr(resource, "prlimit", None)
+    if not limit:
+        return None
+    # what is beyond the limit is an error of the write, as signals that Python ignores stay ignored
+    with begun(command, restore_signals=False, **settings) as process:
+        with contextlib.suppress(ProcessLookupError):
+            limit(process.pid, resource.RLIMIT_FSIZE, (most, most))
+        return process.wait()
 
 
 def reason_in(said, last=False):

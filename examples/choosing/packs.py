@@ -1,4 +1,5 @@
 """Objects in the form in which git hands them on, all in one: so no file is needed for each."""
+import functools
 import hashlib
 import struct
 import zlib
@@ -6,13 +7,22 @@ import zlib
 BLOB = 3
 
 
-def digest(algorithm, data):
-    return hashlib.new(algorithm, data, usedforsecurity=False)
+@functools.lru_cache(maxsize=None)
+def digest_of_nothing(algorithm):
+    return hashlib.new(algorithm, usedforsecurity=False)
+
+
+def digest(algorithm, *parts):
+    """Returns the digest of bytes that follow one another. A copy is made sooner than a new one."""
+    made = digest_of_nothing(algorithm).copy()
+    for part in parts:
+        made.update(part)
+    return made
 
 
 def name_of(data, algorithm):
     """Returns git's name of the object that has these bytes. `algorithm` is `sha1` or `sha256`."""
-    return digest(algorithm, b"blob %d\0" % len(data) + data).hexdigest()
+    return digest(algorithm, b"blob %d\0" % len(data), data).hexdigest()
 
 
 def head_of(size):

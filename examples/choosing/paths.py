@@ -5,10 +5,14 @@ import re
 
 from .words import Stop, shown
 
-# characters that some file systems leave out of a name, as git's core.protectHFS has them
-IGNORABLE = re.compile("[\u200c-\u200f\u202a-\u202e\u206a-\u206f\ufeff]")
-# what git and jj keep for themselves, and the short names that some file systems have for these, as in git's core.protectNTFS
-OWN = ".git", ".jj", "git~1", "jj~1"
+# characters that some file systems leave out of a name: HFS+, and those of Linux where a folder folds names. C has the same ones
+# (characters.c), and a try compares both
+IGNORABLE = re.compile(
+    "[\x7f-\xa0\xad\u034f\u061c\u115f\u1160\u17b4\u17b5\u180b-\u180f\u200b-\u200f\u2028-\u202e\u2060-\u206f\u3164\ufe00-\ufe0f\ufeff"
+    "\uffa0\ufff0-\ufffb\U0001bca0-\U0001bca3\U0001d173-\U0001d17a\U000e0000-\U000e0fff]"
+)
+# what git and jj keep for themselves, and the short names that some file systems have for these
+OWN = re.compile(r"\.git|\.jj|(?:git|jj)~[0-9]+")
 
 
 @functools.lru_cache(maxsize=None)
@@ -17,11 +21,18 @@ def is_own(name):
     begins the name of a stream, and dots and blanks at the end are left out."""
     text = os.fsencode(name).decode("utf-8", "surrogateescape")
     parts = IGNORABLE.sub("", text).casefold().split("\\")
-    return any(part.partition(":")[0].rstrip(". ") in OWN for part in parts)
+    return any(OWN.fullmatch(part.partition(":")[0].rstrip(". ")) for part in parts)
+
+
+# a path that no file system takes for what is kept: its names have such signs alone, and begin with no dot
+PLAIN = re.compile(r"[A-Za-z0-9_-][A-Za-z0-9_.-]*(?:/[A-Za-z0-9_-][A-Za-z0-9_.-]*)*")
 
 
 def fault_in(path):
     """Returns why `path` must not be read or written below a folder, or None if it may."""
+    if PLAIN.fullmatch(path):
+        # most are
+        return None
     if "\0" in path:
         return "it has a NUL byte"
     names = path.split("/")

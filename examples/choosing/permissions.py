@@ -11,6 +11,8 @@ OF_FOLDER = 0o3777
 
 # `lists` has a pair for each list that is there: its name and its bytes. Or it is None: then these are what may be given at most.
 Permissions = collections.namedtuple("Permissions", "bits group lists")
+# what no other file limits
+OF_ANY_FILE = Permissions(0o666, None, ())
 
 
 def lists_of(opened, names=LISTS):

@@ -23,10 +23,12 @@ def make_folders(path):
 
 class Room:
     """The folder `path` for plans. `place` says where spare folders lie if that is of use (see plans.py), and `hint` is said
-    where the folder cannot be used. With `is_removed` it goes once it is empty."""
+    where the folder cannot be used. With `is_removed` it goes once it is empty. `above` is the open folder that it lies in, or None if
+    it is found by its path."""
 
-    def __init__(self, path, place, hint="", is_removed=False):
+    def __init__(self, path, place, hint="", is_removed=False, above=None):
         self.path, self.place, self.hint, self.is_removed = path, place, hint, is_removed
+        self.name, self.above = path if above is None else os.path.basename(path), above
 
     def check_absolute(self):
         """Raises OSError if the path depends on the current folder, which may be a stranger's."""
@@ -35,14 +37,14 @@ class Room:
 
     def make(self):
         with contextlib.suppress(FileExistsError):
-            os.mkdir(self.path, 0o700)
+            os.mkdir(self.name, 0o700, dir_fd=self.above)
 
     def open(self):
         """Opens the folder. Raises OSError if it cannot be used."""
         self.check_absolute()
-        if os.path.islink(self.path):
+        if stat.S_ISLNK(os.stat(self.name, dir_fd=self.above, follow_symlinks=False).st_mode):
             raise OSError(errno.ELOOP, "it is a link, and no link is followed here", self.path)
-        folder = os.open(self.path, IS_FOLDER)
+        folder = os.open(self.name, IS_FOLDER, dir_fd=self.above)
         if not is_ours(folder, stat.S_ISDIR) or not os.access(".", os.W_OK | os.X_OK, dir_fd=folder):
             os.close(folder)
             raise PermissionError(errno.EPERM, "it is no folder that you alone may write to", self.path)
@@ -83,7 +85,7 @@ class Room:
         """Removes the folder of a repository if it is empty: another user may need it next."""
         if self.is_removed:
             with contextlib.suppress(OSError):
-                os.rmdir(self.path)
+                os.rmdir(self.name, dir_fd=self.above)
 
 
 class UserRoom(Room):

@@ -105,7 +105,10 @@ class Spare:
         self.open()
         if os.listdir(self.at):
             raise PermissionError(errno.EPERM, "another folder has the name of the spare folder", self.path)
-        self.make_file(SECRET, self.first.secret.encode(), 0o600)
+        # another empty folder of this user's may have the name by then; some disks keep no permissions
+        with contextlib.suppress(OSError):
+            os.fchmod(self.at, 0o700)
+        self.make_file(SECRET, self.first.secret.encode())
 
     def open(self):
         """Opens it. Raises OSError if it is not this user's."""
@@ -136,10 +139,10 @@ class Spare:
             return hmac.compare_digest(read_whole(file), self.first.secret.encode())
         return False
 
-    def make_file(self, name, data, permissions):
+    def make_file(self, name, data):
         self.names.add(name)
         flags = os.O_WRONLY | os.O_CREAT | os.O_EXCL | IS_PLAIN
-        with open(os.open(name, flags, permissions, dir_fd=self.at), "wb") as file:
+        with open(os.open(name, flags, 0o600, dir_fd=self.at), "wb") as file:
             file.write(data)
 
     def make_link(self, name, target):

@@ -10,6 +10,7 @@ from choosing.decided import ABSENT as NOTHING, CHOSEN, KEPT, Row, decide
 from choosing.files import ABSENT_SIDE, Files
 from choosing.folders import MOST_BYTES, TOO_LARGE, below
 from choosing.git import Git
+from choosing.named import real_path
 from choosing.paths import is_own
 from choosing.permissions import permissions_of_both
 from choosing.plans import BESIDE, WITHIN
@@ -22,7 +23,7 @@ TOO_MUCH = "it is one of the largest files, and all that differ have more than %
 # what git and jj keep for themselves in a working tree
 OWN = ".git", ".jj"
 # jj puts this file beside those of the commit, for whoever reads the folder
-INSTRUCTIONS = "JJ-INSTRUCTIONS"
+INSTRUCTIONS, MOST_INSTRUCTIONS = "JJ-INSTRUCTIONS", 10_000  # bytes
 # git difftool --dir-diff sets it. Its folder RIGHT has links to the files of the working tree.
 IS_DIFFTOOL = os.environ.get("GIT_DIFFTOOL_DIRDIFF") == "true"
 # hg sets it for the programs that it calls. It hands in files of a repository, in which a link is not the file or folder that it leads to.
@@ -73,16 +74,22 @@ def is_folder_at(path):
 
 
 def place_of(path):
-    """Returns the folder that a file which is named lies in, without links on its path, and its name there."""
-    folder, name = os.path.split(os.path.abspath(path))
-    return (os.path.realpath(folder), name) if is_link(path) else os.path.split(os.path.realpath(path))
+    """Returns the folder that a file which is named lies in, without links on its path, and its name there. Stops if git names a file
+    of its working tree, which has no links on its path, and there is one by now."""
+    if is_link(path):
+        folder, name = os.path.split(os.path.abspath(path))
+        return real_path(folder), name
+    found = real_path(path)
+    if IS_FOR_ONE_FILE and not os.path.isabs(path) and found != os.path.abspath(path):
+        raise Stop("%s changed meanwhile" % shown(path))
+    return os.path.split(found)
 
 
 def target_of(options):
     """Returns the files that are changed: those of the folder RIGHT or OUTPUT, or of the folder that such a file lies in."""
     path = options.output or options.right
     if is_folder(options):
-        return Files(path, follows=IS_DIFFTOOL and not options.output, room=UserRoom(BESIDE))
+        return Files(real_path(path), follows=IS_DIFFTOOL and not options.output, room=UserRoom(BESIDE))
     return Files(place_of(path)[0], room=UserRoom(WITHIN))
 
 
@@ -99,15 +106,15 @@ def compared(options, target):
 
 def git_of_user():
     """Returns the git of the repository that the program runs in."""
-    return Git(os.getcwd(), dict(os.environ))
+    return Git(os.curdir, dict(os.environ))
 
 
 class Folders:
     """Two folders, LEFT and RIGHT, and the files of RIGHT or of OUTPUT that are changed."""
 
     def __init__(self, options, target):
-        self.left, self.target = Files(options.left, room=target.room), target
-        self.right = Files(options.right, follows=IS_DIFFTOOL, room=target.room) if options.output else target
+        self.left, self.target = Files(real_path(options.left), room=target.room), target
+        self.right = Files(real_path(options.right), follows=IS_DIFFTOOL, room=target.room) if options.output else target
         self.pairs = {}  # the two sides of each file that differs, by path
         self.total, self.sizes = 0, []  # how many bytes they have, and each by a number below 0, with its path: a heap
         self.sources = {}  # the permissions that a new file may have, by path
@@ -158,7 +165,7 @@ class Folders:
         """Returns what jj says of the files, or an empty text."""
         (mode, data), _ = self.target.read(INSTRUCTIONS)
         is_file = mode != ABSENT and self.is_told(INSTRUCTIONS)
-        return data.decode(errors="replace") if is_file else ""
+        return data[:MOST_INSTRUCTIONS].decode(errors="replace") if is_file else ""
 
     def entries(self, choices):
         """Returns the path of each file that is to be changed, with what it is and what it is to be (see Files.change)."""

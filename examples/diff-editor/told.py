@@ -1,4 +1,5 @@
 """What the user is told beside the changes: the words of jj, and where a file has a conflict."""
+import collections
 import re
 
 from choosing.words import printable, shown
@@ -19,10 +20,10 @@ def title_of(instructions):
 
 def conflict_lines(data):
     """Returns the numbers of the first line that begins a conflict and of the last one that ends it, counted from 1, or None."""
-    begin, ends = BEGINS.search(data), list(ENDS.finditer(data))
-    if not begin or not ends or ends[-1].start() < begin.start():
-        return None
-    return tuple(data.count(b"\n", 0, it.start()) + 1 for it in (begin, ends[-1]))
+    begin = BEGINS.search(data)
+    # the last one alone is kept: a file may have millions
+    ends = collections.deque(ENDS.finditer(data, begin.start()) if begin else (), maxlen=1)
+    return tuple(data.count(b"\n", 0, it.start()) + 1 for it in (begin, *ends)) if ends else None
 
 
 def has_conflict(change):

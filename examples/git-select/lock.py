@@ -5,7 +5,9 @@ import os
 import re
 import stat
 
+from choosing.folders import closing
 from choosing.locks import lock_open
+from choosing.permissions import Permissions, give, permissions_of_file
 from choosing.said import say
 from choosing.words import Stop, shown, words_of
 
@@ -74,7 +76,8 @@ def words_on_copied(index):
     """Returns what is said of the lock of an index that has the mark of another file, or None if it has none: then the repository
     was copied while that was its lock."""
     with contextlib.suppress(OSError), open(index.open(lock_name(index), os.O_RDONLY), "rb") as file:
-        found = file.read(MOST_OF_LOCK)
+        # there may be nothing to read yet in what is no file
+        found = file.read(MOST_OF_LOCK) or b""
         return IS_COPIED % shown(lock_path(index)) if found.startswith(MARK) and found != mark_in(file) else None
     return None
 
@@ -204,9 +207,17 @@ class Lock:
     def make_alike(self, file, copied):
         """Gives the new index the permissions of the one that is there, and the time of the copy, of which fstat says `copied`."""
         file.flush()
-        before = self.index.found(self.index.name) or copied
-        os.fchmod(file.fileno(), before.st_mode & 0o777)
+        give(file.fileno(), self.permissions() or Permissions(copied.st_mode & 0o777, None, ()))
         os.utime(file.fileno(), ns=(copied.st_atime_ns, copied.st_mtime_ns))
+
+    def permissions(self):
+        """Returns the permissions of the index that is there, or None if there is none."""
+        try:
+            opened = self.index.open(self.index.name, os.O_RDONLY)
+        except FileNotFoundError:
+            return None
+        with closing(opened):
+            return permissions_of_file(opened)
 
     def take_again(self):
         """Takes the lock that someone removed. Stops if the index is another one by now."""

@@ -63,11 +63,11 @@ def read_file(folder, name):
             raise OSError(0, NO_FILE)
         if found.st_size > MOST_BYTES:
             raise OSError(0, TOO_LARGE)
-        parts, left = [], found.st_size
-        while left and (part := os.read(opened, left)):
-            parts.append(part)
-            left -= len(part)
-        return b"".join(parts)
+        data = os.read(opened, found.st_size)
+        # a large file comes in parts
+        while len(data) < found.st_size and (part := os.read(opened, found.st_size - len(data))):
+            data += part
+        return data
     finally:
         os.close(opened)
 

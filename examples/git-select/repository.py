@@ -56,8 +56,16 @@ def places(git, *questions):
     return [os.path.join(git.top, line) for line in lines]
 
 
-def open_folder(path):
-    return os.open(path, os.O_RDONLY | os.O_DIRECTORY | os.O_CLOEXEC)
+def open_folder(path, **below):
+    return os.open(path, os.O_RDONLY | os.O_DIRECTORY | os.O_CLOEXEC, **below)
+
+
+def open_from(path, top, opened):
+    """Opens a folder: from the folder `top` on, which is open as `opened`, if `path` leads on from there. So it is found whatever the
+    name of `top` leads to by then."""
+    begin = os.path.join(top, "")
+    is_below = os.path.join(path, "").startswith(begin)
+    return open_folder(path[len(begin) :] or os.curdir, dir_fd=opened) if is_below else open_folder(path)
 
 
 def is_opened_at(path, opened):
@@ -75,34 +83,62 @@ class Repository(Git):
     def __init__(self, start):
         # this variable would change how many lines of context git writes around a difference
         environment = {name: value for name, value in os.environ.items() if name != "GIT_DIFF_OPTS"}
-        self.begun = Git(start, environment, {start: open_folder(start)})
-        top, self.own, self.common, index, self.objects, kept = places(
-            self.begun, ["--show-toplevel"], ["--absolute-git-dir"], ["--git-common-dir"], ["--git-path", "index"],
+        self.begun = Git(start, environment, {start: open_folder(os.curdir)})
+        top, above, self.own, self.common, index, self.objects, kept = places(
+            self.begun, ["--show-toplevel"], ["--show-cdup"], ["--absolute-git-dir"], ["--git-common-dir"], ["--git-path", "index"],
             ["--git-path", "objects"], ["--git-path", NAME],
         )
         super().__init__(top, environment, self.begun.opened)
-        for path in top, self.own, self.common:
+        if top != start:
+            self.opened[top] = open_from(above, start, self.opened[start])
+        for path in self.own, self.common:
             self.open(path)
-        self.room = Room(kept, KEPT, is_removed=True)
-        # git writes what a link in the index's place leads to
-        self.index = Index(os.path.realpath(index), self.open(os.path.dirname(os.path.realpath(index))))
+        self.room = Room(kept, KEPT, is_removed=True, above=self.open(os.path.dirname(kept)))
+        self.index = self.index_at(index)
         if not self.is_found():
-            self.environment = {**environment, "GIT_DIR": self.own, "GIT_WORK_TREE": top}
+            self.check_is_named()
+            self.environment = {**environment, "GIT_DIR": self.path_to(self.own), "GIT_WORK_TREE": top}
 
     def open(self, path):
         """Has git run in the folder that `path` leads to at this moment. Returns the folder, which stays open."""
         if path not in self.opened:
-            self.opened[path] = open_folder(path)
+            base = next((it for it in (self.begun.top, self.top) if path.startswith(os.path.join(it, ""))), self.top)
+            self.opened[path] = open_from(path, base, self.opened[base])
         return self.opened[path]
+
+    def index_at(self, path):
+        """Returns the index at `path`. If that is a link, git writes what it leads to."""
+        above, name = os.path.split(path)
+        try:
+            path = os.path.realpath(os.path.join(above, os.readlink(name, dir_fd=self.open(above))))
+        except OSError:
+            return Index(os.path.join(os.path.realpath(above), name), self.open(above))
+        return Index(path, self.open(os.path.dirname(path)))
+
+    def check_is_named(self):
+        """Stops if git does not find the repository in its top folder, and neither a variable nor a setting names another one for its
+        files; or if git, where no variable names it, does not trust its owner."""
+        is_given = "GIT_DIR" in self.environment
+        if not is_given and "GIT_WORK_TREE" not in self.environment and self.begun.run("config", "--get", "core.worktree")[0]:
+            raise Stop(IS_ANOTHER % shown(self.top))
+        if not is_given:
+            self.git("-c", "safe.bareRepository=all", "rev-parse", "--git-dir", folder=self.own)
 
     def files(self):
         """Returns the files of the working tree. Plans of their changes are kept in the git directory."""
-        return Files(self.top, room=self.room)
+        files = Files(self.top, room=self.room)
+        files.at = self.opened[self.top]
+        return files
 
     def path_to(self, path):
         """Returns a path to a folder that is open, by which it is found whatever its name leads to, where the system has one."""
         by_number = "/proc/%d/fd/%d" % (os.getpid(), self.opened[path])
         return by_number if os.path.isdir(by_number) else path
+
+    def path_to_objects(self):
+        """Returns such a path to the folder of the repository's objects."""
+        above, name = os.path.split(self.objects)
+        return os.path.join(self.path_to(above), name) if above in self.opened else self.objects
 
     def is_found(self):
         """Whether git finds the repository in its top folder, without variables that name it. Then git says how objects are named, too."""
@@ -117,9 +153,10 @@ class Repository(Git):
     def check_same(self):
         """Stops if git finds another repository by now, or does not trust the owner of this one."""
         top, own, index = places(self.begun, ["--show-toplevel"], ["--absolute-git-dir"], ["--git-path", "index"])
+        opened = self.opened[self.top], self.opened[self.own], self.index.folder
         found = top, own, os.path.dirname(os.path.realpath(index))
-        for path, now in zip((self.top, self.own, self.index.above), found):
-            if not all(is_opened_at(name, self.opened[path]) for name in {path, now}):
+        for path, now, folder in zip((self.top, self.own, self.index.above), found, opened):
+            if not all(is_opened_at(name, folder) for name in {path, now}):
                 raise Stop(IS_ANOTHER % shown(path))
 
     def check_is_top(self, opened):

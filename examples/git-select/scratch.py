@@ -1,10 +1,12 @@
 """Where git finds out what it would store, before anything of the repository is written."""
+import contextlib
 import functools
 import os
 import re
+import subprocess
 
 from choosing.change import ABSENT, Side, Unread
-from choosing.git import PACKING, Git, reason_in, split_by_zeros
+from choosing.git import PACKING, Git, reason_in, run_within, split_by_zeros
 from choosing.temporary import new_folder, new_path
 from choosing.words import Stop
 from repository import index_lines, update_index
@@ -13,6 +15,29 @@ from repository import index_lines, update_index
 FOR_NOW = "-c", "core.fsync=none", "-c", "core.compression=0"
 # of how many files that come and go git compares each with each, to find those that have another path
 MOST_COMPARED = 200
+# the words by which git gives objects by their names. It need not have a large one in memory
+BY_NAMES = "-c", "core.bigFileThreshold=1m", "cat-file", "--batch", "--buffer"
+# how many bytes git writes around an object: its name, its kind and its size
+LONGEST_HEAD = 100
+
+
+def names_to_ask(names):
+    """Returns the names of objects as git takes them."""
+    return "".join([name + "\n" for name in names]).encode()
+
+
+def contents_in(output, names):
+    """Returns the bytes of objects, by name, by what git answers to their names in this order. Stops if git has no such object."""
+    found, place = {}, 0
+    for name in names:
+        end = output.index(b"\n", place)
+        size = output[place:end].split()[-1]
+        if not size.isdigit():
+            raise Stop("git has no object %s" % name)
+        place = end + 1 + int(size)
+        found[name] = output[end + 1 : place]
+        place += 1
+    return found
 
 
 class Scratch(Git):
@@ -28,7 +53,7 @@ class Scratch(Git):
         index, objects = os.path.join(folder, "index"), os.path.join(folder, "objects")
         os.makedirs(objects)
         repository.index.copy_to(index)
-        others = '"%s"' % repository.objects.replace("\\", "\\\\").replace('"', '\\"')
+        others = '"%s"' % repository.path_to_objects().replace("\\", "\\\\").replace('"', '\\"')
         more = repository.environment.get("GIT_ALTERNATE_OBJECT_DIRECTORIES")
         self.repository, self.known = repository, {}  # contents that were read already, by the names of objects
         super().__init__(repository.top, {
@@ -100,9 +125,14 @@ class Scratch(Git):
         self.git("update-index", "-z", "--index-info", given=index_lines(entries), **index)
         return self.git("write-tree", "--missing-ok", **index).decode().strip()
 
-    def sizes(self, names):
-        """Returns how many bytes objects have, by name."""
-        given = "".join(name + "\n" for name in set(names)).encode()
+    def sizes(self, names, most):
+        """Returns how many bytes objects have, by name. They are read too, if they have no more than `most` bytes together."""
+        names = set(names)
+        found = self.contents_within(sorted(names), most)
+        if found is not None:
+            self.known.update(found)
+            return {name: len(data) for name, data in found.items()}
+        given = names_to_ask(names)
         lines = self.git("cat-file", "--batch-check", "--buffer", given=given).decode().splitlines() if given else []
         found = (line.split() for line in lines)
         return {name: int(size) for name, _, size in found if size.isdigit()}
@@ -115,17 +145,22 @@ class Scratch(Git):
 
     def stored_contents(self, names):
         """Returns the bytes of objects that git has, by name."""
-        output = self.git("cat-file", "--batch", "--buffer", given="".join(name + "\n" for name in names).encode()) if names else b""
-        found, place = {}, 0
-        for name in names:
-            end = output.index(b"\n", place)
-            size = output[place:end].split()[-1]
-            if not size.isdigit():
-                raise Stop("git has no object %s" % name)
-            place = end + 1 + int(size)
-            found[name] = output[end + 1 : place]
-            place += 1
-        return found
+        return contents_in(self.git(*BY_NAMES, given=names_to_ask(names)), names) if names else {}
+
+    def contents_within(self, names, most):
+        """Returns the bytes of objects, by name, if git has all of them, and they have no more than `most` bytes together, else None."""
+        asked, answered = (new_path(it, folder=self.folder) for it in ("asked-", "answered-"))
+        with open(asked, "w+b") as given, open(answered, "w+b") as output:
+            given.write(names_to_ask(names))
+            given.seek(0)
+            settings = {"stdin": given, "stdout": output, "stderr": subprocess.DEVNULL, "env": self.environment, **self.inside(self.top)}
+            status = run_within(["git", *self.options, *BY_NAMES], most + len(names) * LONGEST_HEAD, **settings)
+            output.seek(0)
+            with contextlib.suppress(Stop):
+                found = contents_in(output.read(), names) if status == 0 else {}
+                if found and sum(map(len, found.values())) <= most:
+                    return found
+        return None
 
     def checked_out(self, entries, folder):
         """Writes paths with their sides into a new folder below `folder`, as a checkout does. Returns that folder."""

@@ -45,7 +45,7 @@ def changed_in_tree(way, scratch, only=None, is_new_shown=True):
     found, left_out, notes = candidates(way.repository, way.options.paths, way.start, has_untracked)
     found = {path: found[path] for path in sorted(found.keys() - left_out.keys()) if only is None or path in only}
     # what is not read is found out once
-    sizes = scratch.sizes(side.name for side, _ in found.values() if side.name) if way.unread is None else {}
+    sizes = scratch.sizes((side.name for side, _ in found.values() if side.name), way.most_read()) if way.unread is None else {}
     old_sizes = {path: sizes[side.name] for path, (side, _) in found.items() if side.name in sizes}
     modes = {path: mode for path, (_, mode) in found.items() if mode != ABSENT}
     new = Look(scratch, modes, old_sizes, way.unread, way.most_read()).found()
@@ -83,7 +83,7 @@ def without_left_out(way, scratch, differing):
 
 def leave_largest(way, scratch, sides):
     """Has the largest files not be read, where all together are too much."""
-    sizes = scratch.sizes(side.name for pair in sides.values() for side in pair if side.name)
+    sizes = scratch.sizes((side.name for pair in sides.values() for side in pair if side.name), way.most_read())
     way.unread = beyond({path: sum(sizes.get(side.name, 0) for side in pair) for path, pair in sides.items()}, way.most_read())
     names = [side.name for path in way.unread for side in sides[path] if side.name in sizes]
     scratch.leave_unread({name: sizes[name] for name in names})

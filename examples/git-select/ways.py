@@ -13,6 +13,8 @@ from sides import changed_in_index, changed_in_tree
 
 # how many files are named when something is done
 MOST_NAMED = 20
+# more bytes than files have
+NO_LIMIT = 1 << 60
 
 
 def file_of(change):
@@ -87,7 +89,7 @@ class Way:
 
     def most_read(self):
         """Returns how many bytes of files are read at most."""
-        return float("inf") if self.options.read_all else MOST_READ
+        return NO_LIMIT if self.options.read_all else MOST_READ
 
     def unread_sides(self, choices, scratch):
         """Stores the new versions of chosen files that were not read, as `git add` does. Returns their sides, by change."""

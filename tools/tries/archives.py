@@ -322,7 +322,7 @@ def is_for_this_library(wheel):
 def has_module_and_programs(wheel, environment):
     """Whether the module in a virtual environment has its library, and the programs run."""
     said = wheel.run(wheel.python, "-c", SPLIT)[1]
-    names = "git-select", "gabrosty-diff-editor", "scm-select"
+    names = "git-select", "gabrosty-diff-editor", "gabrosty-merge-tool", "scm-select"
     versions = [wheel.run(name, "--version")[1] for name in names]
     is_split = said.startswith("accepted b'\\xff\\n' " + environment)
     has_programs = all(version.startswith(name + " ") for name, version in zip(names, versions))

@@ -19,10 +19,15 @@ PRINTS = re.compile(r"\b(?:fprintf|fputs|puts|printf|vprintf|vfprintf|dprintf|pe
 OWN = 'return fputs(words, stdout)', 'fputs("\\r\\x1b[K", stderr)', 'fputs(is_made ? shown.bytes'
 
 
+def sources_named(form):
+    """Returns the sources of a list of tools/build-c, by name. `form` is what stands before the list."""
+    names = re.search(form + r"\(examples/terminal/{([a-z_,]+)}\.c", (trying.ROOT / "tools/build-c").read_text())
+    return {name: (SOURCES / (name + ".c")).read_text() for name in names[1].split(",")}
+
+
 def program_sources():
     """Returns the sources of the program, by name, as tools/build-c names them."""
-    names = re.search(r"terminal \| scm-select\) program_sources=\(examples/terminal/{([a-z,]+)}\.c\)", (trying.ROOT / "tools/build-c").read_text())
-    return {name: (SOURCES / (name + ".c")).read_text() for name in names[1].split(",")}
+    return {**sources_named(r"terminal \| scm-select\)\s*program_sources="), **sources_named("shared_sources=")}
 
 
 def forms_in(sources):
@@ -112,10 +117,11 @@ def every_message(place):
     if not shutil.which("strace"):
         missing = [form for form in missing if "cannot be removed" not in form]
     raw = [text for text in said if FORBIDDEN.search(text.replace("\r", ""))]
-    for problem in (*missing, *prints_of_others(sources), *raw):
+    others = prints_of_others({**sources, **sources_named(r"gabrosty-merge-tool\) program_sources=")})
+    for problem in (*missing, *others, *raw):
         print("every message: %r" % problem)
     is_whole = len(forms_in(sources)) >= 10 and all(said)
-    return is_whole and not missing and not raw and not prints_of_others(sources)
+    return is_whole and not missing and not raw and not others
 
 
 ALL = every_message,

@@ -17,7 +17,10 @@ KINDS = {
     "archive": r"gabrosty-.*\.tar\.gz", "wheel": r"gabrosty-.*\.whl", "deb": r"gabrosty_.*\.deb", "crate": r"rust-gabrosty-.*\.tar\.gz",
 }
 # what shells read, by the ends of their paths
-COMPLETIONS = "/bash-completion/completions/git-select", "/_git-select", "/fish/vendor_completions.d/git-select.fish"
+COMPLETIONS = [
+    form % name for name in ("git-select", "gabrosty-merge-tool")
+    for form in ("/bash-completion/completions/%s", "/_%s", "/fish/vendor_completions.d/%s.fish")
+]
 # lintian names what it takes for an error by this letter
 ERROR = re.compile(r"^E: ", re.M)
 

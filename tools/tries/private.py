@@ -6,7 +6,8 @@ import struct
 import subprocess
 
 import changed
-from faults import ACCEPTS, END_AT
+from faults import ACCEPTS, END_AT, select
+from places import Repository
 from strangers import EDITOR, clear, editor, failing
 
 OTHER_GROUP, OTHER_USER = 65533, 65534
@@ -118,6 +119,27 @@ def a_file_with_a_list_of_users(place):
     return all(ends)
 
 
+def a_new_file_where_git_keeps_a_list(place):
+    """A new file of the working tree has no list, also if git's folder gives one to what is new in it. The new index has the group and the
+    list of the old one. Skipped on a disk that keeps no lists."""
+    repository, ends = Repository(place, {"a": b"1\n", "b": ("run", b"1\n"), "d/c": b"1\n"}, {"a": b"1\n", "d/e": b"1\n"}), []
+    own = os.path.join(repository.folder, ".git")
+    if not with_list(own, LIST_OF_NEW, list_for(OTHER_USER, 7, 7)):
+        return "the disk keeps no lists of users"
+    ends.append(select(repository, "--restore")[0] == 0)
+    for name, bits in (("b", 0o755), ("d/c", 0o644)):
+        path = os.path.join(repository.folder, name)
+        ends.append((bits_at(path), lists_at(path)) == (bits, {}))
+    index, wanted = os.path.join(own, "index"), list_for(OTHER_USER, 4, 4)
+    with_list(index, LIST, wanted)
+    group = OTHER_GROUP if os.geteuid() == 0 else os.getegid()
+    os.chown(index, -1, group)
+    ends.append(select(repository)[0] == 0 and repository.git("show", ":d/e") == "1\n")
+    ends.append((bits_at(index), os.stat(index).st_gid, lists_at(index)) == (0o640, group, {LIST: wanted}))
+    return all(ends) and repository.is_sound()
+
+
 ALL = (
     a_private_folder_that_is_made_anew, a_private_folder_that_is_put_back, a_file_of_another_group, a_file_with_a_list_of_users,
+    a_new_file_where_git_keeps_a_list,
 )

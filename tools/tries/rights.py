@@ -18,7 +18,7 @@ from selects import NEW, OLD, data_of, two, type_into
 from typed import Typed
 
 NOBODY, A_GROUP = 65534, 12345
-LIST = "system.posix_acl_access"
+LIST, LIST_OF_NEW = "system.posix_acl_access", "system.posix_acl_default"
 NOT_ROOT = "the user may not give files away"
 OWNER, A_USER, GROUP, MASK, OTHERS, NO_NUMBER = 0x01, 0x02, 0x04, 0x10, 0x20, 0xFFFFFFFF
 
@@ -61,7 +61,7 @@ def group_and_list_stay(place):
     old, new = two(place)
     # a folder gives its list to what is new in it
     with contextlib.suppress(OSError):
-        os.setxattr(right, "system.posix_acl_default", access_list(7, 7, 0, 7))
+        os.setxattr(right, LIST_OF_NEW, access_list(7, 7, 0, 7))
     if not all(give(path, 0o640, A_GROUP, rules) for path in (right + "/b", new)):
         return "the disk keeps no access lists"
     give(right + "/a", 0o640, A_GROUP)
@@ -245,6 +245,60 @@ def a_folder_that_is_moved(place):
     return is_named and changed.read(outside) == {"d/a": NEW} and os.listdir(right) == []
 
 
+def what_a_new_folder_has(place):
+    """A new folder has no list, also in a folder that gives one to what is new in it: it gives nobody more than that of LEFT."""
+    left, right = place.folder("left", {"d/e/a": OLD}), place.folder("right", {"b": NEW})
+    for name in "d", "d/e":
+        os.chmod(os.path.join(left, name), 0o750)
+    try:
+        os.setxattr(right, LIST_OF_NEW, access_list(7, 7, 0, 7))
+    except OSError:
+        return "the disk keeps no access lists"
+    status, _ = place.type(["scm-select", "-d", left, right], ["c"])
+    found = [os.path.join(right, name) for name in ("d", "d/e")]
+    lists = [name for path in found for name in os.listxattr(path) if name in (LIST, LIST_OF_NEW)]
+    return status == 0 and [access_of(path)[0] for path in found] == [0o750] * 2 and not lists
+
+
+def exchanged_when_made(place, prefix, other, files):
+    """Has a folder of RIGHT whose name begins with `prefix` be exchanged for the folder `other` just when it was made. Returns the
+    status, what was said, and the permissions that the other folder had when a file lay in it, or in the end."""
+    left, right = place.folder("left", files), place.folder("right", {"b": NEW})
+    number = "1" if prefix == ".choosing-" else "2"
+    slow = ["-e", "inject=mkdirat:delay_exit=1500000:when=" + number, "-e", "inject=fsync:delay_enter=1500000"]
+    traced = ["strace", "-o", os.devnull, "-e", "trace=mkdirat,fsync", *slow, "scm-select", "-d", left, right]
+    seen = []
+
+    def exchange():
+        end = time.monotonic() + 30
+        while not any(name.startswith(prefix) for name in os.listdir(right)) and time.monotonic() < end:
+            time.sleep(0.01)
+        name = os.path.join(right, next(name for name in os.listdir(right) if name.startswith(prefix)))
+        os.rmdir(name)
+        os.rename(other, name)
+        while os.path.isdir(name) and not os.listdir(name) and time.monotonic() < end:
+            time.sleep(0.01)
+        seen.append(stat.S_IMODE(os.stat(name).st_mode))
+
+    thread = threading.Thread(target=exchange)
+    status, said = place.type(traced, ["c"], before_last=thread.start)
+    thread.join()
+    return status, said, *seen
+
+
+def another_folder_where_one_was_made(place):
+    """Where another folder of the user's has the place of one that was just made, its permissions stay if something is in it, and nobody
+    else may read what comes and goes in it."""
+    if not shutil.which("strace"):
+        return "there is no strace"
+    private, public = place.folder("private", {"x": NEW}), place.folder("public")
+    os.chmod(private, 0o700)
+    status, said, seen = exchanged_when_made(place, "d", private, {"d/a": OLD, "b": NEW})
+    is_left = status == 2 and seen == 0o700 and "scm-select: d/a: it changed meanwhile: nothing was written\n" in said
+    shutil.rmtree(place.top + "/right")
+    return is_left and exchanged_when_made(place, ".choosing-", public, {"d/a": OLD, "b": NEW})[::2] == (0, 0o700)
+
+
 def make_deep(top, depth, data):
     """Makes a file `depth` folders deep."""
     folder = os.open(top, os.O_RDONLY)
@@ -399,6 +453,7 @@ def a_handler_that_comes_late(place):
 
 ALL = (
     group_and_list_stay, no_more_for_another_group, lists_that_cannot_be_read, what_another_user_put_there, signals_while_it_writes,
-    a_signal_before_the_first_step, what_happens_between, names_of_one_file, a_folder_that_is_moved, a_deeper_tree, many_small_files,
+    a_signal_before_the_first_step, what_happens_between, names_of_one_file, a_folder_that_is_moved, what_a_new_folder_has,
+    another_folder_where_one_was_made, a_deeper_tree, many_small_files,
     characters_of_both_lists, what_another_program_hands_in, json_for_a_terminal, folders_in_one_another, a_handler_that_comes_late,
 )

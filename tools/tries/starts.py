@@ -11,7 +11,7 @@ import sys
 import changed
 from faults import ACCEPTS, select
 from places import Repository, Typed
-from settings import write_hook
+from settings import configure, write_hook
 
 FOLDERS = "choosing", "git-select", "diff-editor"
 # what a terminal obeys: ESC, CSI, OSC, BEL, C1 controls; and what turns the direction of a text
@@ -310,9 +310,14 @@ def is_read(place, shell):
 
 def what_shells_complete(place):
     """bash completes each option of the help, and the names of commits; and what zsh and fish are given has each option too. A branch
-    whose name is a command runs nowhere."""
+    whose name is a command runs nowhere, and neither does what a repository sets for signatures."""
     repository = Repository(place, {"a": b"1\n"}, {"a": b"2\n"})
     repository.git("update-ref", "refs/heads/$(touch${IFS}ran)", "HEAD")
+    signed = repository.git("cat-file", "commit", "HEAD").replace("\n\n", "\ngpgsig x\n\n", 1)
+    commit = repository.git("hash-object", "-t", "commit", "-w", "--stdin", given=signed.encode()).strip()
+    repository.git("update-ref", "HEAD", commit)
+    changed.write(place.folder("bin"), {"gpg": ("run", b"#!/bin/sh\ntouch ran\n")})
+    configure(repository, {"log.showSignature": "true", "gpg.program": os.path.join(place.top, "bin/gpg")})
     options = options_of_the_help(place)
     for_zsh, for_fish = (changed.read_file(file_for(place, shell)).decode() for shell in ("zsh", "fish"))
     is_there = all(it in for_zsh and re.search(r" -[ls] %s " % it.lstrip("-"), for_fish) for it in options)
@@ -320,7 +325,7 @@ def what_shells_complete(place):
         long = {it for it in options if it.startswith("--")}
         is_there = is_there and completed(place, repository, "git-select", "--") == long
         is_there = is_there and completed(place, repository, "git", "select", "--sp") == {"--split"}
-        is_there = is_there and completed(place, repository, "git-select", "--fixup", "") == {repository.git("log", "--format=%h").strip()}
+        is_there = is_there and completed(place, repository, "git-select", "--fixup", "") == {commit[:7]}
     is_there = is_there and all(is_read(place, shell) for shell in FILES)
     return is_there and len(options) > 10 and not os.path.exists(os.path.join(repository.folder, "ran"))
 
@@ -334,7 +339,8 @@ def what_is_loaded(place):
     loaded = {line.rpartition("|")[2].strip() for line in said.splitlines() if line.startswith("import time:")}
     asked = re.findall("built-in: (.*)", changed.read_file(log).decode())
     is_quick = loaded.isdisjoint({"argparse", "json", "random", "secrets", "shutil", "tempfile"}) and "subprocess" in loaded
-    return is_quick and 5 < len(asked) <= 8 and len(set(asked)) == len(asked)
+    is_read_once = sum(" cat-file " in it for it in asked) == 1
+    return is_quick and is_read_once and 5 < len(asked) <= 7 and len(set(asked)) == len(asked)
 
 
 ALL = (

@@ -2,6 +2,7 @@
 import contextlib
 import json
 import os
+import re
 import resource
 import shutil
 import signal
@@ -13,7 +14,9 @@ import time
 import changed
 from choosing.change import digest_of
 from choosing.folders import remove_folder
+from choosing.paths import IGNORABLE, is_own
 from choosing.plans import key_of
+from choosing.words import shown
 from disks import disk
 from faults import ACCEPTS, END_AT, HERE, lock_of, points, select
 from outputs import PATCHED
@@ -31,6 +34,7 @@ REFUSED = (
     "../outside", "/outside", "a/../../outside", "./a", "a//b", "a/", "", "a\0b", ".git/hooks/pre-commit", "b/.git/hooks/x", ".GIT/hooks/x",
     ".Git", "git~1/hooks/x", "GIT~1", ".git./x", ".git /x", ".git . ./x", ".git::$INDEX_ALLOCATION/hooks/x", ".git:x", "a\\.git\\x",
     ".git\\hooks", ".g\u200cit/x", ".\ufeffgit/x", ".gi\u202et", ".jj/repo", ".JJ", "jj~1/x", ".j\u206aj",
+    ".g\u00adit/x", ".gi\u200bt", ".git\ufe0f/x", "git~12", ".\U000e0041jj",
 )
 
 
@@ -351,6 +355,20 @@ def names_of_git_on_other_disks(place):
         lines = [words % (EDITOR, name) for name in (".GIT", "git~1", "d/.Git", ".jJ")]
         ends.append(status == 0 and all(line + "\n" in said for line in lines) and said.count("is left out") == 6)
     return all(ends) and repository.files() == {"a": b"2\n"} and changed.read(right) == {"a": b"2\n", **planted, "d/.Git": b"x\n"}
+
+
+def characters_that_disks_leave_out(place):
+    """Both programs that write folders leave out a name that is `.git` beside a character that some disk leaves out: each end of a range
+    of those, and no character beside it."""
+    ends = re.findall(r"(.)(?:-(.))?", IGNORABLE.pattern[1:-1])
+    codes = {ord(c) + step for pair in ends for c in pair if c for step in (-1, 0, 1)}
+    names = [".g%sit" % chr(code) for code in sorted(codes) if code not in (ord("/"), ord("t"))]
+    left, right = place.folder("left", {"a": b"1\n"}), place.folder("right", {"a": b"1\n", **{name + "/x": b"1\n" for name in names}})
+    wanted = [name for name in names if is_own(name)]
+    said = editor(place, "--dry-run", left, right)[1], place.type(["scm-select", "-d", left, right], ["q"])[1]
+    is_left_out = all(text.count(" is left out: ") == len(wanted) for text in said)
+    is_named = all("%s is left out: " % shown(name) in said[0] for name in wanted)
+    return is_left_out and is_named and 40 < len(wanted) < len(names) - 20
 
 
 def failing(place, folder, failure, program, *words):
@@ -780,6 +798,84 @@ def a_race_for_a_new_folder(place):
     return before == (os.stat(victim).st_mode, os.listdir(victim), states_in(victim))
 
 
+def links_of_another_user(place):
+    """A link or a file of another user, in a folder with a sticky bit that all may write to, is not followed and not written to: neither
+    the last one of OUTPUT or RIGHT, nor one before it. One of the user's own is, and one of the folder's owner. Skipped without the right
+    to give files away."""
+    if os.geteuid():
+        return "that needs another user"
+    private, shared = place.folder("private", {"x": b"private\n"}), place.folder("shared", {"file": b"theirs\n"})
+    os.chmod(shared, 0o1777)
+    for name, target in (("link", private + "/x"), ("lost", private + "/y"), ("around", private)):
+        os.symlink(target, os.path.join(shared, name))
+        os.chown(os.path.join(shared, name), NOBODY, NOBODY, follow_symlinks=False)
+    os.chown(shared + "/file", NOBODY, NOBODY)
+    left, right = place.folder("left", {"x": b"1\n"}), place.folder("right", {"x": b"2\n"})
+    files, words = (left + "/x", right + "/x"), "%s: %s: it is another user's, in a folder that all may write to\n"
+    ends = []
+    for name in "link", "lost", "around/z", "file":
+        path = os.path.join(shared, name)
+        ends.append(editor(place, "--output", path, *files) == (1, words % (EDITOR, path)))
+        ends.append(editor(place, left + "/x", path) == (1, words % (EDITOR, path)))
+    around = shared + "/around"
+    for given in (["--output", around, left, right], [left, around], [around, right]):
+        ends.append(editor(place, *given) == (1, words % (EDITOR, around)))
+    is_left = (changed.read(private), changed.read(right)) == ({"x": b"private\n"}, {"x": b"2\n"})
+    os.symlink(private + "/x", shared + "/own")
+    ends.append(editor(place, "--output", shared + "/own", *files)[0] == 0 and changed.read(private) == {"x": b"2\n"})
+    os.chown(shared, NOBODY, NOBODY)
+    ends.append(editor(place, "--output", shared + "/link", *files[::-1])[0] == 0 and changed.read(private) == {"x": b"1\n"})
+    return all(ends) and is_left
+
+
+# another empty folder of the user's, which all may read, takes the place of the spare folder
+READABLE = """sys.path.append(os.environ["PARENT"])
+from choosing import spare
+kept = os.mkdir
+def mkdir(path, *more, **named):
+    kept(path, *more, **named)
+    if os.path.basename(path).startswith(".gabrosty-"):
+        os.rmdir(path, **named)
+        kept(path, 0o755, **named)
+os.mkdir = mkdir
+made = spare.Spare.begin
+def begin(self, entries):
+    print("it has mode %o" % (os.fstat(self.at).st_mode & 0o777), flush=True)
+    made(self, entries)
+spare.Spare.begin = begin
+"""
+
+
+def a_spare_folder_that_others_may_read(place):
+    """Where another folder of the user's has the name of the spare folder, nobody else may read what comes and goes."""
+    left, right = place.folder("left", {"a": b"1\n"}), place.folder("right", {"a": b"2\n"})
+    status, said = edit_patched(place, READABLE, "--output", left, left, right)
+    return status == 0 and said == "it has mode 700\n" and changed.read(left) == {"a": b"2\n"} and place.has_left_nothing()
+
+
+def a_lock_that_is_a_pipe(place):
+    """A pipe in the place of the lock of the index, to which nothing is written yet, is a lock of another program."""
+    repository = Repository(place, {"a": b"1\n"}, {"a": b"2\n"})
+    os.mkfifo(lock_of(repository))
+    held = os.open(lock_of(repository), os.O_RDWR)
+    end = select(repository)
+    os.close(held)
+    os.unlink(lock_of(repository))
+    words = "git-select: %s is there: another git command is at work, or one was cut off\n"
+    return end == (1, words % lock_of(repository)) and repository.is_sound()
+
+
+def texts_of_many_megabytes(place):
+    """A file of jj's words that is 30 MB long, and one with 500,000 ends of conflicts, are read in 200 MB of address space."""
+    words, ends = b"w " * 15_000_000, b"<<<<<<<\n" + b">>>>>>>\n" * 500_000
+    left, right = place.folder("left", {"a": b""}), place.folder("right", {"a": ends, "JJ-INSTRUCTIONS": words})
+    limited = ["env", "SELECT=" + ACCEPTS["SELECT"], "sh", "-c", 'ulimit -v 200000; exec "$@"', "sh", EDITOR]
+    status, said = place.call(*limited, "--dry-run", left, right)
+    is_named = "a has conflict markers in RIGHT, lines 1 to 500001: choose all of them, or none\n" in said
+    return status == 0 and is_named and said.endswith("would write nothing\n")
+
+
+
 ALL = (
     a_clone_with_a_plan, a_folder_with_a_plan, plans_that_are_malformed, what_is_kept_and_changed, a_plan_that_fits_to_nothing,
     what_another_user_left, where_no_plan_can_be_kept, bits_that_set_a_user, permissions_of_new_files, what_becomes_a_fifo,
@@ -789,5 +885,6 @@ ALL = (
     a_race_by_another_user, names_like_ours_beside_the_index, marks_that_are_no_text, marks_in_what_is_no_file,
     paths_that_git_refuses, what_git_says_beside_its_editor, files_that_have_too_much_together, a_lock_that_was_copied,
     links_where_plans_are_kept, a_file_that_changes_unseen, no_home, a_home_of_another_user,
-    a_state_folder_of_a_clone, a_race_for_a_new_folder,
+    a_state_folder_of_a_clone, a_race_for_a_new_folder, links_of_another_user, a_spare_folder_that_others_may_read, a_lock_that_is_a_pipe,
+    texts_of_many_megabytes, characters_that_disks_leave_out,
 )

@@ -6,7 +6,7 @@ import changed
 from outputs import select_patched
 from places import Repository
 from settings import configure, write_hook
-from strangers import EDITOR, edit_patched
+from strangers import EDITOR, edit_patched, editor
 
 WORDS = [], ["--unstage"], ["--restore"], ["--stash"], ["--commit", "-m", "x"], ["--amend"], ["--split"]
 
@@ -103,6 +103,58 @@ def a_folder_behind_the_last_look(place):
     return all(ends)
 
 
+# another user's repository takes the place of the user's while git-select begins: when git has said where all lies, or when it
+# has found the repository in the top folder, or not
+EARLY = """import repository
+above = os.path.dirname(os.environ["TMPDIR"])
+def swaps(function):
+    def swapped(*given):
+        found = function(*given)
+        if os.path.isdir(above + "/hostile"):
+            os.rename(above + "/repository", above + "/moved")
+            os.rename(above + "/hostile", above + "/repository")
+        return found
+    return swapped
+%s = swaps(%s)
+"""
+
+
+def exchanged_early(place, ran, where, settings):
+    """Returns what git-select says where the repository is exchanged early, or None if something of the other one ran, or something
+    was written."""
+    other = hostile(place, ran)
+    repository = Repository(place, {"a": b"1\n"}, {"a": b"2\n"})
+    configure(repository, settings)
+    before, own, other_own = repository.index(), os.path.join(place.top, "moved"), os.path.join(repository.folder, ".git")
+    for folder, _, names in os.walk(other):
+        for path in (folder, *(os.path.join(folder, name) for name in names)):
+            os.chown(path, 65534, 65534, follow_symlinks=False)
+    status, said = select_patched(repository, EARLY % (where, where), "--restore")
+    place.forget_marks()
+    is_well = status == 1 and not os.path.exists(ran) and not any(entry.stat().st_uid == 0 for entry in os.scandir(other_own))
+    shutil.rmtree(repository.folder)
+    os.rename(own, repository.folder)
+    is_well = is_well and repository.index() == before and repository.is_sound()
+    shutil.rmtree(repository.folder)
+    return said if is_well else None
+
+
+def another_repository_at_the_start(place):
+    """A repository of another user that takes the place of the user's while git-select begins has nothing run, also where a setting
+    names another folder for the files. Skipped where its owner cannot be changed."""
+    if os.geteuid():
+        return "that needs another user"
+    ran = os.path.join(place.folder("ran"), "ran")
+    tree = place.folder("tree", {"a": b"3\n"})
+    places, is_found = "repository.places", "repository.Repository.is_found"
+    ends = [exchanged_early(place, ran, *given) for given in ((places, {}), (is_found, {}), (is_found, {"core.worktree": tree}))]
+    are_said = [said is not None and " is another folder by now" in said for said in ends]
+    repository = Repository(place, {"a": b"1\n"}, {"a": b"2\n"})
+    configure(repository, {"core.worktree": tree})
+    is_staged = repository.select(keys=["a", "c"])[0] == 0 and repository.git("show", ":a") == "3\n"
+    return all(are_said) and is_staged and changed.read(tree) == {"a": b"3\n"} and repository.is_sound()
+
+
 # a folder becomes a link between the look at its files and the reading
 LINKS = """import look
 kept = look.Look.converted
@@ -190,7 +242,19 @@ def a_link_that_leads_elsewhere(place):
     return is_said and changed.read(mine) == {"x": b"mine\n"} and changed.read(others) == {"x": b"2\n"}
 
 
+def a_link_in_the_working_tree(place):
+    """A folder or a file of the working tree that git names, and that is a link by now, is named, and what it leads to stays."""
+    outside, left = place.folder("outside", {"x": b"private\n"}), os.path.join(place.folder("left", {"x": b"1\n"}), "x")
+    os.symlink("outside", os.path.join(place.top, "d"))
+    os.symlink("outside/x", os.path.join(place.top, "x"))
+    for name in "d/x", "x":
+        end = editor(place, left, name, GIT_DIFF_PATH_COUNTER="1")
+        if end != (1, EDITOR + ": %s changed meanwhile\n" % name) or changed.read(outside) != {"x": b"private\n"}:
+            return False
+    return True
+
+
 ALL = (
-    another_repository_meanwhile, a_folder_behind_the_last_look, a_folder_that_becomes_a_link, a_repository_of_another_user,
-    a_link_that_leads_elsewhere, a_file_that_becomes_large,
+    another_repository_meanwhile, another_repository_at_the_start, a_folder_behind_the_last_look, a_folder_that_becomes_a_link,
+    a_repository_of_another_user, a_link_that_leads_elsewhere, a_link_in_the_working_tree, a_file_that_becomes_large,
 )

@@ -1,9 +1,13 @@
 """Texts line by line, for tools/try-tools: each pair of a section, and random texts."""
+import os
 import random
+import re
 
+import changed
 import choices
 import options
-from places import Repository
+from choosing.records import record, records_in
+from places import Repository, Typed
 
 OLD = [b"def f%d(x):\n" % number for number in range(10)]
 NEW = [b"def f%d(x, y):\n" % number for number in range(10)]
@@ -13,6 +17,7 @@ ALPHABETS = (
     (b"\xf3\xa0\x82\x80\n", b"\x80\n", b"\xc3\xa4\n"),
 )
 FILES, SEEDS = 500, 4
+COUNTS = re.compile(rb"(\d{4})\xc2\xa0\(\+(\d+) -(\d+)\)")
 
 
 def each_pair_of_a_section(place):
@@ -39,6 +44,43 @@ def text_by(chance):
     return text[:-1] if chance.random() < 0.5 else text
 
 
+def lines_in(text):
+    return text.count(b"\n") + (text[-1:] not in (b"", b"\n"))
+
+
+def edited_by(chance, text):
+    """Returns a text in which some lines of another one are gone, and lines that it does not have are between the others."""
+    kept = (line for line in text.splitlines(keepends=True) if chance.random() < 0.8)
+    return b"".join(line + b"%d\n" % chance.randrange(20) * (chance.random() < 0.3) for line in kept)
+
+
+def pairs_for_counts():
+    """Yields pairs of texts that differ. Some have lines in another order, some repeat lines, and some have other lines alone."""
+    chance = random.Random(5)
+    while True:
+        old = b"".join(b"%d\n" % chance.choice((chance.randrange(9), chance.getrandbits(30))) for _ in range(chance.randrange(1, 90)))
+        new = edited_by(chance, old) if chance.random() < 0.7 else text_by(chance)
+        if new != old:
+            yield old, new
+
+
+def the_counts_of_lines(place):
+    """Behind each path stands how many lines come and go: as many as can be marked."""
+    pairs = [pair for pair, _ in zip(pairs_for_counts(), range(FILES))]
+    handed, accepted = (os.path.join(place.top, name) for name in ("handed", "accepted"))
+    files = ((("path", "%04d" % number), ("old-mode", "100644"), ("old", old), ("new-mode", "100644"), ("new", new))
+             for number, (old, new) in enumerate(pairs))
+    changed.write_file(handed, b"".join(record(*it) for file in files for it in file))
+    changed.write_file(accepted, b"")
+    typed = Typed(["scm-select", "--changes", handed, accepted], 80, FILES + 9, place.environment, place.top)
+    counts = [(int(come), int(go)) for _, come, go in sorted(COUNTS.findall(typed.screen()))]
+    typed.press("c")
+    is_accepted = typed.end() == 0
+    marks = [len(data) for word, data in records_in(changed.read_file(accepted)) if word == "marks"]
+    sizes = [lines_in(new) - lines_in(old) for old, new in pairs]
+    return is_accepted and [come + go for come, go in counts] == marks and [come - go for come, go in counts] == sizes
+
+
 def random_folders(seed):
     """Returns two tables of files with random texts. A file may be in one of them alone."""
     chance, old, new = random.Random(seed), {}, {}
@@ -52,6 +94,7 @@ def random_folders(seed):
 def tries():
     """Yields what is tried: its words, and what is called with a place and with what follows."""
     yield "each pair of a section", each_pair_of_a_section
+    yield "the counts of lines", the_counts_of_lines
     for seed in range(SEEDS):
         old, new = random_folders(seed)
         yield "random texts, all and nothing, by %d" % seed, options.edit_folders, old, new

@@ -8,7 +8,7 @@ import options
 import trying
 from places import Place
 
-PROGRAMS = "scm-select", "git-select", "gabrosty-diff-editor"
+PROGRAMS = "scm-select", "git-select", "gabrosty-diff-editor", "gabrosty-merge-tool"
 LIBRARY, PROVED = "out/unproved/library/libscm_c.a", "crates/scm_c/out/libscm_c.a"
 
 

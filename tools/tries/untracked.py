@@ -68,6 +68,18 @@ def what_is_too_much_to_read(place):
     return is_shown and is_all and is_staged and is_out and is_back and is_committed and repository.is_sound()
 
 
+def a_large_file_that_is_gone(place):
+    """Old versions that have more than 20 MB together are not read either: the largest one is an item, and it is staged and taken back."""
+    old = {"a": b"1\n", "gone": b"line\n" * (21 * MB // 5)}
+    repository = Repository(place, old, {"a": b"2\n"})
+    data, _ = handed(place, repository)
+    is_shown = paths_in(b"\n" + data) == ["a", "gone"] and len(data) < MB and b"21.0 MB, not shown by lines\n" in data
+    is_staged = repository.select(keys=["a", "c"])[0] == 0 and repository.index_files() == {"a": b"2\n"}
+    repository.git("reset", "--quiet")
+    is_back = repository.select("--restore", keys=["a", "c"])[0] == 0 and repository.files() == old
+    return is_shown and is_staged and is_back and repository.is_sound()
+
+
 def a_large_file_that_changes(place):
     """A file that is not read is named if it changes while the user chooses, and nothing is staged."""
     repository = Repository(place, {"a": b"1\n"}, {"a": b"1\n", "new": b"1" * (21 * MB)})
@@ -164,6 +176,6 @@ def renamed_among_many(place):
 
 
 ALL = (
-    what_git_does_not_know, what_is_too_much_to_read, a_large_file_that_changes, what_stands_for_a_large_file,
+    what_git_does_not_know, what_is_too_much_to_read, a_large_file_that_is_gone, a_large_file_that_changes, what_stands_for_a_large_file,
     nothing_is_stored_before, as_git_add_stores_it, a_line_end_that_git_refuses, many_files, renamed_among_many,
 )
