@@ -1,8 +1,7 @@
 //! Tables of bytes as texts, and of words.
-use scm_diff::{
-    Version, WordSpan, bytes_of_text, changed_file, has_nul, side_bytes, text_of_bytes, word_spans,
-};
-use scm_types::Text;
+use crate::sides::file_of;
+use scm_diff::{WordSpan, bytes_of_text, has_nul, side_bytes, text_of_bytes, word_spans};
+use scm_types::File;
 use std::alloc::{AllocError, Global};
 use std::process::Abort;
 use std::test::Fail;
@@ -70,36 +69,68 @@ const WORDS: &[Difference] = &[
     ("x\r\n", "x\n", &[(1, 3, 1, 2)]),
 ];
 
-/// Checks the text of the bytes, and that it gives them back.
-fn check_text(rt: &impl Abort, alloc: Global, row: (&[u8], &str)) -> Result<(), AllocError> {
+/// Checks that the text of the bytes `row.0` is `row.1`.
+pub(crate) fn check_text(
+    rt: &impl Abort,
+    alloc: Global,
+    row: (&[u8], &str),
+) -> Result<(), AllocError> {
     let text = text_of_bytes(alloc, row.0)?;
     assert!(rt; text.as_str() == row.1);
-    let bytes = bytes_of_text(alloc, text.as_str())?;
+    Ok(())
+}
+
+/// Checks that the text `row.1` gives back the bytes `row.0`.
+fn check_back(rt: &impl Abort, alloc: Global, row: (&[u8], &str)) -> Result<(), AllocError> {
+    let bytes = bytes_of_text(alloc, row.1)?;
     assert!(rt; bytes.as_slice() == row.0);
     Ok(())
 }
 
+/// Checks that a side of `file` has the bytes `wanted`.
+fn check_bytes(
+    rt: &impl Abort,
+    alloc: Global,
+    file: &File<'_>,
+    is_selected: bool,
+    wanted: &[u8],
+) -> Result<(), AllocError> {
+    let side = side_bytes(alloc, file, is_selected)?;
+    assert!(rt; side.as_slice() == wanted);
+    Ok(())
+}
+
+/// Checks the sides of the file of two texts: first nothing is checked, and then everything. `row` has
+/// the bytes of the texts.
+fn check_sides(
+    rt: &impl Abort,
+    alloc: Global,
+    old: &str,
+    new: &str,
+    row: (&[u8], &[u8]),
+) -> Result<(), AllocError> {
+    let mut file = file_of(alloc, old, new)?;
+    check_bytes(rt, alloc, &file, true, row.0)?;
+    check_bytes(rt, alloc, &file, false, row.1)?;
+    file.toggle_all();
+    check_bytes(rt, alloc, &file, true, row.1)
+}
+
+/// Makes the text of the new bytes, and checks the sides of the file.
+fn check_new(
+    rt: &impl Abort,
+    alloc: Global,
+    old: &str,
+    row: (&[u8], &[u8]),
+) -> Result<(), AllocError> {
+    let new = text_of_bytes(alloc, row.1)?;
+    check_sides(rt, alloc, old, new.as_str(), row)
+}
+
 /// Checks that nothing checked leaves the old bytes, and the other side the new ones.
 fn check_file(rt: &impl Abort, alloc: Global, row: (&[u8], &[u8])) -> Result<(), AllocError> {
-    let old_text = text_of_bytes(alloc, row.0)?;
-    let new_text = text_of_bytes(alloc, row.1)?;
-    let old = Version {
-        mode: 0o100644,
-        text: old_text.as_str(),
-    };
-    let new = Version {
-        mode: 0o100644,
-        text: new_text.as_str(),
-    };
-    let mut file = changed_file(alloc, Text::from("f"), Some(old), Some(new))?;
-    let selected = side_bytes(alloc, &file, true)?;
-    let unselected = side_bytes(alloc, &file, false)?;
-    assert!(rt; selected.as_slice() == row.0);
-    assert!(rt; unselected.as_slice() == row.1);
-    file.toggle_all();
-    let selected = side_bytes(alloc, &file, true)?;
-    assert!(rt; selected.as_slice() == row.1);
-    Ok(())
+    let old = text_of_bytes(alloc, row.0)?;
+    check_new(rt, alloc, old.as_str(), row)
 }
 
 /// Checks the spans of two lines.
@@ -122,6 +153,7 @@ fn check_words(rt: &impl Abort, alloc: Global, row: Difference) -> Result<(), Al
 fn bytes_are_texts(rt: HostRuntime) -> Result<(), Fail> {
     for row in TEXTS {
         check_text(&rt, rt.alloc(), *row)?;
+        check_back(&rt, rt.alloc(), *row)?;
     }
     assert!(rt; has_nul(b"a\0"));
     assert!(rt; !has_nul(b"a0"));

@@ -8,4 +8,6 @@ mod memory;
 #[cfg(test)]
 mod pairs;
 #[cfg(test)]
+mod sides;
+#[cfg(test)]
 mod table;

@@ -1,9 +1,9 @@
 //! What refused memory leaves of a file from two versions. `tools/refuse-memory` runs each test with
 //! each of its requests for memory refused. The checks hold then, and the test passes or ends in
 //! `OutOfMemory`.
-use scm_diff::{
-    Version, changed_file, owned_file, side_bytes, side_text, text_of_bytes, word_spans,
-};
+use crate::bytes::check_text;
+use crate::sides::check_side;
+use scm_diff::{Version, changed_file, owned_file, side_bytes, word_spans};
 use scm_types::{File, RecordError, Text};
 use std::alloc::Global;
 use std::process::Abort;
@@ -12,6 +12,17 @@ use std::process::Abort;
 const OLD: &[u8] = b"caf\xE9\none(a)\nsame\nkept\n";
 
 const NEW: &[u8] = b"caf\xE8\none(b)\nsame\nkept\nend";
+
+/// The old and the new version: the texts of these bytes.
+const OLD_VERSION: Version<'static> = Version {
+    mode: 0o100644,
+    text: "caf\u{E00E9}\none(a)\nsame\nkept\n",
+};
+
+const NEW_VERSION: Version<'static> = Version {
+    mode: 0o100755,
+    text: "caf\u{E00E8}\none(b)\nsame\nkept\nend",
+};
 
 /// Checks that a side of `file` has the bytes. If memory is refused, the same call returns them later.
 fn check_bytes(
@@ -32,29 +43,25 @@ fn check_bytes(
     Ok(())
 }
 
+/// Copies `file`, and checks that the copy equals it and has its sides, before and after a toggle.
+fn check_copy(rt: &impl Abort, alloc: Global, file: &File<'_>) -> Result<(), RecordError> {
+    let mut copy = owned_file(alloc, file)?;
+    assert!(rt; copy == *file);
+    check_bytes(rt, alloc, &copy, true, OLD)?;
+    check_bytes(rt, alloc, &copy, false, NEW)?;
+    copy.toggle_all();
+    check_bytes(rt, alloc, &copy, true, NEW)?;
+    check_side(rt, alloc, &copy, false, OLD_VERSION.text)?;
+    Ok(())
+}
+
 #[test]
 fn refused_memory_keeps_files(rt: HostRuntime) -> Result<(), RecordError> {
     let alloc = rt.alloc();
-    let old_text = text_of_bytes(alloc, OLD)?;
-    let new_text = text_of_bytes(alloc, NEW)?;
-    let old = Version {
-        mode: 0o100644,
-        text: old_text.as_str(),
-    };
-    let new = Version {
-        mode: 0o100755,
-        text: new_text.as_str(),
-    };
-    let file = changed_file(alloc, Text::from("f"), Some(old), Some(new))?;
-    let mut copy = owned_file(alloc, &file)?;
-    assert!(rt; copy == file);
-    check_bytes(&rt, alloc, &copy, true, OLD)?;
-    check_bytes(&rt, alloc, &copy, false, NEW)?;
-    copy.toggle_all();
-    check_bytes(&rt, alloc, &copy, true, NEW)?;
-    let side = side_text(alloc, &copy, false)?;
-    assert!(rt; side.as_str() == old_text.as_str());
-    Ok(())
+    check_text(&rt, alloc, (OLD, OLD_VERSION.text))?;
+    check_text(&rt, alloc, (NEW, NEW_VERSION.text))?;
+    let file = changed_file(alloc, Text::from("f"), Some(OLD_VERSION), Some(NEW_VERSION))?;
+    check_copy(&rt, alloc, &file)
 }
 
 #[test]

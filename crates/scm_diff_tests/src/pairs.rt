@@ -1,6 +1,6 @@
 //! Tables of changed lines: how they are listed, and what one pair replaces.
-use scm_diff::{Version, changed_file, side_text};
-use scm_types::{ChangeType, File, Section, Text};
+use crate::sides::{check_side, file_of};
+use scm_types::{ChangeType, File, Section};
 use std::alloc::{AllocError, Global};
 use std::process::Abort;
 use std::test::Fail;
@@ -19,55 +19,77 @@ const ORDERS: &[(&str, &str, &str)] = &[
     ("    one(a)\n", "\tone(b)\n1\n", "-++"),
 ];
 
-/// Two texts of two lines, and the selected side if the first pair is checked, or the second one.
-const REPLACED: &[(&str, &str, &str, &str)] = &[
-    ("a\nb\n", "x\ny\n", "x\nb\n", "a\ny\n"),
-    ("a\nb", "x\ny\n", "x\nb", "a\ny\n"),
-    ("a\nb\n", "x\ny", "x\nb\n", "a\ny"),
+/// Two texts of two lines, the number of the changed line with which the checked pair begins, and the
+/// selected side.
+const REPLACED: &[(&str, &str, usize, &str)] = &[
+    ("a\nb\n", "x\ny\n", 0, "x\nb\n"),
+    ("a\nb\n", "x\ny\n", 2, "a\ny\n"),
+    ("a\nb", "x\ny\n", 0, "x\nb"),
+    ("a\nb", "x\ny\n", 2, "a\ny\n"),
+    ("a\nb\n", "x\ny", 0, "x\nb\n"),
+    ("a\nb\n", "x\ny", 2, "a\ny"),
     (
         "one(a)\ntwo(b)\n",
         "one(c)\ntwo(d)\n",
+        0,
         "one(c)\ntwo(b)\n",
+    ),
+    (
+        "one(a)\ntwo(b)\n",
+        "one(c)\ntwo(d)\n",
+        2,
         "one(a)\ntwo(d)\n",
     ),
 ];
 
-/// Ten lines, each with the line that replaces it.
-const TEN: &[(&str, &str)] = &[
-    ("zero\n", "0\n"),
-    ("one\n", "1\n"),
-    ("two\n", "2\n"),
-    ("three\n", "3\n"),
-    ("four\n", "4\n"),
-    ("five\n", "5\n"),
-    ("six\n", "6\n"),
-    ("seven\n", "7\n"),
-    ("eight\n", "8\n"),
-    ("nine\n", "9\n"),
+/// Ten lines, and the lines that replace them.
+const OLD_TEN: &str = "zero\none\ntwo\nthree\nfour\nfive\nsix\nseven\neight\nnine\n";
+
+const NEW_TEN: &str = "0\n1\n2\n3\n4\n5\n6\n7\n8\n9\n";
+
+/// The number of the changed line with which the checked pair of ten begins, and the selected side.
+const ONE_OF_TEN: &[(usize, &str)] = &[
+    (
+        0,
+        "0\none\ntwo\nthree\nfour\nfive\nsix\nseven\neight\nnine\n",
+    ),
+    (
+        2,
+        "zero\n1\ntwo\nthree\nfour\nfive\nsix\nseven\neight\nnine\n",
+    ),
+    (
+        4,
+        "zero\none\n2\nthree\nfour\nfive\nsix\nseven\neight\nnine\n",
+    ),
+    (
+        6,
+        "zero\none\ntwo\n3\nfour\nfive\nsix\nseven\neight\nnine\n",
+    ),
+    (
+        8,
+        "zero\none\ntwo\nthree\n4\nfive\nsix\nseven\neight\nnine\n",
+    ),
+    (
+        10,
+        "zero\none\ntwo\nthree\nfour\n5\nsix\nseven\neight\nnine\n",
+    ),
+    (
+        12,
+        "zero\none\ntwo\nthree\nfour\nfive\n6\nseven\neight\nnine\n",
+    ),
+    (
+        14,
+        "zero\none\ntwo\nthree\nfour\nfive\nsix\n7\neight\nnine\n",
+    ),
+    (
+        16,
+        "zero\none\ntwo\nthree\nfour\nfive\nsix\nseven\n8\nnine\n",
+    ),
+    (
+        18,
+        "zero\none\ntwo\nthree\nfour\nfive\nsix\nseven\neight\n9\n",
+    ),
 ];
-
-/// Returns the text of the ten lines, where those from line `start` to `end`, exclusive, are new.
-fn ten_lines(alloc: Global, start: usize, end: usize) -> Result<String, AllocError> {
-    let mut text = String::new(alloc);
-    for (i, row) in TEN.iter().enumerate() {
-        let line = if start <= i && i < end { row.1 } else { row.0 };
-        text.push_str(line)?;
-    }
-    Ok(text)
-}
-
-/// Returns the file of two texts.
-fn file_of<'a>(alloc: Global, old: &'a str, new: &'a str) -> Result<File<'a>, AllocError> {
-    let old = Version {
-        mode: 0o100644,
-        text: old,
-    };
-    let new = Version {
-        mode: 0o100644,
-        text: new,
-    };
-    changed_file(alloc, Text::from("f"), Some(old), Some(new))
-}
 
 /// Adds the signs of the changed lines of the section at the end of `signs`.
 fn push_signs(signs: &mut String, section: &Section<'_>) -> Result<(), AllocError> {
@@ -96,35 +118,40 @@ fn check_pair(file: &mut File<'_>, first: usize) {
     }
 }
 
-/// Checks how the lines are listed.
+/// Checks that the changed lines of `file` are listed as `wanted` says.
+fn check_signs(
+    rt: &impl Abort,
+    alloc: Global,
+    file: &File<'_>,
+    wanted: &str,
+) -> Result<(), AllocError> {
+    let mut signs = String::new(alloc);
+    for section in file.sections.iter() {
+        push_signs(&mut signs, section)?;
+    }
+    assert!(rt; signs.as_str() == wanted);
+    Ok(())
+}
+
+/// Checks how the lines of two texts are listed.
 fn check_order(
     rt: &impl Abort,
     alloc: Global,
     order: (&str, &str, &str),
 ) -> Result<(), AllocError> {
     let file = file_of(alloc, order.0, order.1)?;
-    let mut signs = String::new(alloc);
-    for section in file.sections.iter() {
-        push_signs(&mut signs, section)?;
-    }
-    assert!(rt; signs.as_str() == order.2);
-    Ok(())
+    check_signs(rt, alloc, &file, order.2)
 }
 
-/// Checks what each of two pairs replaces.
+/// Checks what the pair that begins with the changed line numbered `row.2` replaces.
 fn check_replaced(
     rt: &impl Abort,
     alloc: Global,
-    row: (&str, &str, &str, &str),
+    row: (&str, &str, usize, &str),
 ) -> Result<(), AllocError> {
     let mut file = file_of(alloc, row.0, row.1)?;
-    check_pair(&mut file, 0);
-    let first = side_text(alloc, &file, true)?;
-    assert!(rt; first.as_str() == row.2);
-    check_pair(&mut file, 2);
-    let second = side_text(alloc, &file, true)?;
-    assert!(rt; second.as_str() == row.3);
-    Ok(())
+    check_pair(&mut file, row.2);
+    check_side(rt, alloc, &file, true, row.3)
 }
 
 #[test]
@@ -135,30 +162,13 @@ fn lines_stand_in_pairs(rt: HostRuntime) -> Result<(), Fail> {
     Ok(())
 }
 
-/// Checks that pair `i` of ten replaces line `i` in its place.
-fn check_one_of_ten(rt: &impl Abort, alloc: Global, i: usize) -> Result<(), AllocError> {
-    let old = ten_lines(alloc, 0, 0)?;
-    let new = ten_lines(alloc, 0, TEN.len())?;
-    let wanted = ten_lines(alloc, i, i.wrapping_add(1))?;
-    let mut file = file_of(alloc, old.as_str(), new.as_str())?;
-    check_pair(&mut file, i.wrapping_mul(2));
-    let side = side_text(alloc, &file, true)?;
-    assert!(rt; side.as_str() == wanted.as_str());
-    Ok(())
-}
-
-#[test]
-fn each_of_ten_pairs_replaces_its_line(rt: HostRuntime) -> Result<(), Fail> {
-    for i in 0..TEN.len() {
-        check_one_of_ten(&rt, rt.alloc(), i)?;
-    }
-    Ok(())
-}
-
 #[test]
 fn a_pair_replaces_one_line(rt: HostRuntime) -> Result<(), Fail> {
     for row in REPLACED {
         check_replaced(&rt, rt.alloc(), *row)?;
+    }
+    for row in ONE_OF_TEN {
+        check_replaced(&rt, rt.alloc(), (OLD_TEN, NEW_TEN, row.0, row.1))?;
     }
     Ok(())
 }

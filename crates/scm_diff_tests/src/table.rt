@@ -1,5 +1,6 @@
 //! Tables of texts: where they differ, and what marks leave of them.
-use scm_diff::{Hunk, Version, changed_file, hunks, lines_of, owned_file, side_text};
+use crate::sides::{check_side, file_of, version};
+use scm_diff::{Hunk, Version, changed_file, hunks, lines_of, owned_file};
 use scm_types::{File, Section, Text};
 use std::alloc::{AllocError, Global};
 use std::process::Abort;
@@ -82,14 +83,6 @@ const CHOICES: &[Choice] = &[
     ),
 ];
 
-/// Returns the version of this text.
-fn version(text: &str) -> Option<Version<'_>> {
-    Some(Version {
-        mode: 0o100644,
-        text,
-    })
-}
-
 /// Marks the changed lines by the bits of `marks`, the lowest one first.
 fn mark(file: &mut File<'_>, marks: usize) {
     let mut left = marks;
@@ -103,17 +96,17 @@ fn mark(file: &mut File<'_>, marks: usize) {
     }
 }
 
-/// Checks where the texts differ.
-fn check_difference(
+/// Checks that the lines `old` and `new` differ in the hunks `wanted`.
+fn check_hunks(
     rt: &impl Abort,
     alloc: Global,
-    difference: Difference,
+    old: &[Text<'_>],
+    new: &[Text<'_>],
+    wanted: &[(usize, usize, usize, usize)],
 ) -> Result<(), AllocError> {
-    let old = lines_of(alloc, difference.0)?;
-    let new = lines_of(alloc, difference.1)?;
-    let found = hunks(alloc, old.as_slice(), new.as_slice())?;
-    assert!(rt; found.len() == difference.2.len());
-    for (hunk, wanted) in found.iter().zip(difference.2) {
+    let found = hunks(alloc, old, new)?;
+    assert!(rt; found.len() == wanted.len());
+    for (hunk, wanted) in found.iter().zip(wanted) {
         let wanted = Hunk {
             old_start: wanted.0,
             old_end: wanted.1,
@@ -125,16 +118,33 @@ fn check_difference(
     Ok(())
 }
 
+/// Checks where the lines `old` and those of the new text differ.
+fn check_new(
+    rt: &impl Abort,
+    alloc: Global,
+    old: &[Text<'_>],
+    difference: Difference,
+) -> Result<(), AllocError> {
+    let new = lines_of(alloc, difference.1)?;
+    check_hunks(rt, alloc, old, new.as_slice(), difference.2)
+}
+
+/// Checks where the texts differ.
+fn check_difference(
+    rt: &impl Abort,
+    alloc: Global,
+    difference: Difference,
+) -> Result<(), AllocError> {
+    let old = lines_of(alloc, difference.0)?;
+    check_new(rt, alloc, old.as_slice(), difference)
+}
+
 /// Checks the sides that the marks leave.
 fn check_choice(rt: &impl Abort, alloc: Global, choice: Choice) -> Result<(), AllocError> {
-    let path = Text::from("f");
-    let mut file = changed_file(alloc, path, version(choice.0), version(choice.1))?;
+    let mut file = file_of(alloc, choice.0, choice.1)?;
     mark(&mut file, choice.2);
-    let selected = side_text(alloc, &file, true)?;
-    let unselected = side_text(alloc, &file, false)?;
-    assert!(rt; selected.as_str() == choice.3);
-    assert!(rt; unselected.as_str() == choice.4);
-    Ok(())
+    check_side(rt, alloc, &file, true, choice.3)?;
+    check_side(rt, alloc, &file, false, choice.4)
 }
 
 #[test]
@@ -153,16 +163,31 @@ fn marks_leave_whole_lines(rt: HostRuntime) -> Result<(), Fail> {
     Ok(())
 }
 
+/// Checks that a copy of `file` equals it.
+fn check_copy(rt: &impl Abort, alloc: Global, file: &File<'_>) -> Result<(), AllocError> {
+    let copy = owned_file(alloc, file)?;
+    assert!(rt; copy == *file);
+    Ok(())
+}
+
+/// Checks the file of two versions of which one is missing, the old one if `is_new`: it has two sections,
+/// and a copy equals it.
+fn check_made(
+    rt: &impl Abort,
+    alloc: Global,
+    old: Option<Version<'static>>,
+    new: Option<Version<'static>>,
+    is_new: bool,
+) -> Result<(), AllocError> {
+    let file = changed_file(alloc, Text::from("f"), old, new)?;
+    assert!(rt; file.file_mode.is_absent() == is_new);
+    assert!(rt; file.sections.len() == 2);
+    check_copy(rt, alloc, &file)
+}
+
 #[test]
 fn files_come_and_go(rt: HostRuntime) -> Result<(), Fail> {
-    let alloc = rt.alloc();
-    let new = changed_file(alloc, Text::from("f"), None, version("a\n"))?;
-    assert!(rt; new.file_mode.is_absent());
-    assert!(rt; new.sections.len() == 2);
-    let old = changed_file(alloc, Text::from("f"), version("a\n"), None)?;
-    assert!(rt; !old.file_mode.is_absent());
-    assert!(rt; old.sections.len() == 2);
-    let copy = owned_file(alloc, &old)?;
-    assert!(rt; copy == old);
+    check_made(&rt, rt.alloc(), None, version("a\n"), true)?;
+    check_made(&rt, rt.alloc(), version("a\n"), None, false)?;
     Ok(())
 }

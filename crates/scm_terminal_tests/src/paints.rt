@@ -51,23 +51,49 @@ fn check_paint(
 const WHOLE: &str =
     "\x1b[?7l\x1b[1;3H\x1b[0m \x1b[1;2H\x1b[0m日\x1b[1;1H\x1b[0ma\x1b[2;1H\x1b[0;7m   \x1b[?7h";
 
-#[test]
-fn rows_that_changed_are_written(rt: HostRuntime) -> Result<(), RecordError> {
-    let mut grid = Grid::new(rt.alloc(), 3, 2)?;
+/// Its second row, plain and reversed.
+const SECOND_PLAIN: &str = "\x1b[?7l\x1b[2;1H\x1b[0m   \x1b[?7h";
+
+const SECOND_REVERSED: &str = "\x1b[?7l\x1b[2;1H\x1b[0;7m   \x1b[?7h";
+
+/// A blank screen of two columns and one row.
+const SMALL: &str = "\x1b[?7l\x1b[1;1H\x1b[0m  \x1b[?7h";
+
+/// Returns a grid of three columns and two rows, with a text on the first row.
+fn grid_with_text(rt: &impl Abort, alloc: Global) -> Result<Grid, RecordError> {
+    let mut grid = Grid::new(alloc, 3, 2)?;
     assert_eq!(rt; (grid.width(), grid.height()), (3, 2));
     grid.put(0, 0, "a日", 0, 3)?;
-    let mut painter = Painter::new(rt.alloc());
-    check_paint(&rt, &mut painter, &grid, 1, WHOLE)?;
-    check_paint(&rt, &mut painter, &grid, 1, "")?;
-    let plain = "\x1b[?7l\x1b[2;1H\x1b[0m   \x1b[?7h";
-    check_paint(&rt, &mut painter, &grid, 5, plain)?;
-    let reversed = "\x1b[?7l\x1b[2;1H\x1b[0;7m   \x1b[?7h";
-    check_paint(&rt, &mut painter, &grid, 1, reversed)?;
+    Ok(grid)
+}
+
+/// Paints `grid`, whose first bytes are `WHOLE`, several times.
+fn check_paints(rt: &impl Abort, painter: &mut Painter, grid: &Grid) -> Result<(), RecordError> {
+    check_paint(rt, painter, grid, 1, WHOLE)?;
+    check_paint(rt, painter, grid, 1, "")?;
+    check_paint(rt, painter, grid, 5, SECOND_PLAIN)?;
+    check_paint(rt, painter, grid, 1, SECOND_REVERSED)?;
     painter.forget();
-    check_paint(&rt, &mut painter, &grid, 1, WHOLE)?;
-    let other = Grid::new(rt.alloc(), 2, 1)?;
-    let small = "\x1b[?7l\x1b[1;1H\x1b[0m  \x1b[?7h";
-    check_paint(&rt, &mut painter, &other, 5, small)
+    check_paint(rt, painter, grid, 1, WHOLE)
+}
+
+/// Paints a blank grid of another size.
+fn check_small(rt: &impl Abort, alloc: Global, painter: &mut Painter) -> Result<(), RecordError> {
+    let small = Grid::new(alloc, 2, 1)?;
+    check_paint(rt, painter, &small, 5, SMALL)
+}
+
+/// Paints `grid`, and then another one.
+fn check_painter(rt: &impl Abort, alloc: Global, grid: &Grid) -> Result<(), RecordError> {
+    let mut painter = Painter::new(alloc);
+    check_paints(rt, &mut painter, grid)?;
+    check_small(rt, alloc, &mut painter)
+}
+
+#[test]
+fn rows_that_changed_are_written(rt: HostRuntime) -> Result<(), RecordError> {
+    let grid = grid_with_text(&rt, rt.alloc())?;
+    check_painter(&rt, rt.alloc(), &grid)
 }
 
 #[test]
@@ -79,22 +105,98 @@ fn a_text_sends_no_command(rt: HostRuntime) -> Result<(), RecordError> {
     check_paint(&rt, &mut painter, &grid, 5, wanted)
 }
 
-/// Paints a grid of one row, of `width` columns, with `text` from `column` on and plain styles. Checks
-/// that the bytes are `wanted`, while no symbol wraps.
-fn check_row(
+/// A number of columns, a column, a text that begins there, and the bytes of this row, while no symbol
+/// wraps.
+type Row = (u16, isize, &'static str, &'static str);
+
+/// A symbol without room for its characters is replaced.
+const WITHOUT_ROOM: &[Row] = &[
+    (
+        6,
+        0,
+        "ab👍🏽cd",
+        "\x1b[1;4H\x1b[0m \x1b[1;3H\x1b[0m👍🏽\x1b[1;1H\x1b[0mab\x1b[1;5Hcd",
+    ),
+    (5, 0, "ab👍🏽c", "\x1b[1;1H\x1b[0mab? c"),
+    (4, 0, "ab👍🏽", "\x1b[1;1H\x1b[0mab? "),
+    (
+        3,
+        0,
+        "🏳️‍🌈",
+        "\x1b[1;2H\x1b[0m \x1b[1;1H\x1b[0m🏳️‍🌈\x1b[1;3H\x1b[0m ",
+    ),
+    (2, 0, "🏳️‍🌈", "\x1b[1;1H\x1b[0m? "),
+    (9, 0, "abcdef👩‍👩‍👧g", "\x1b[1;1H\x1b[0mabcdef? g"),
+    (4, 0, "👩‍👩‍👧👍🏽", "\x1b[1;1H\x1b[0m? ? "),
+];
+
+/// A symbol with room for its characters is sent.
+const WITH_ROOM: &[Row] = &[
+    (
+        3,
+        0,
+        "a雛",
+        "\x1b[1;3H\x1b[0m \x1b[1;2H\x1b[0m雛\x1b[1;1H\x1b[0ma",
+    ),
+    (
+        3,
+        0,
+        "a❤️",
+        "\x1b[1;3H\x1b[0m \x1b[1;2H\x1b[0m❤️\x1b[1;1H\x1b[0ma",
+    ),
+    (
+        3,
+        0,
+        "a1️⃣",
+        "\x1b[1;3H\x1b[0m \x1b[1;2H\x1b[0m1️⃣\x1b[1;1H\x1b[0ma",
+    ),
+    (
+        2,
+        0,
+        "ae\u{301}",
+        "\x1b[1;2H\x1b[0me\u{301}\x1b[1;1H\x1b[0ma",
+    ),
+    (2, 0, "a─", "\x1b[1;2H\x1b[0m─\x1b[1;1H\x1b[0ma"),
+];
+
+/// A row begins with no mark.
+const MARKS: &[Row] = &[
+    (2, 0, "\u{903}", "\x1b[1;1H\x1b[0m? "),
+    (2, 0, "\u{93E}", "\x1b[1;1H\x1b[0m? "),
+    (2, 0, "\u{D02}", "\x1b[1;1H\x1b[0m? "),
+    (2, 0, "\u{102B}", "\x1b[1;1H\x1b[0m? "),
+    (2, 0, "\u{FF9E}", "\x1b[1;1H\x1b[0m? "),
+    (4, 0, "\u{1F3FD}a", "\x1b[1;1H\x1b[0m? a "),
+    (2, 1, "\u{903}", "\x1b[1;2H\x1b[0m\u{903}\x1b[1;1H\x1b[0m "),
+];
+
+/// Paints `grid` with plain styles by a new painter, and checks that the bytes are `wanted`, while no
+/// symbol wraps.
+fn check_plain(
     rt: &impl Abort,
     alloc: Global,
-    width: u16,
-    column: isize,
-    text: &str,
+    grid: &Grid,
     wanted: &str,
 ) -> Result<(), RecordError> {
-    let mut grid = Grid::new(alloc, width, 1)?;
-    grid.put(0, column, text, 0, usize::from(width))?;
-    let text = Painter::new(alloc).paint(&grid, &Reversed { row: 1 })?;
+    let text = Painter::new(alloc).paint(grid, &Reversed { row: 1 })?;
     let shown = text.as_str().strip_prefix("\x1b[?7l");
     let shown = shown.unwrap_or("").strip_suffix("\x1b[?7h");
     check_equal(rt, shown, Some(wanted));
+    Ok(())
+}
+
+/// Paints a grid of one row with a text.
+fn check_row(rt: &impl Abort, alloc: Global, row: Row) -> Result<(), RecordError> {
+    let mut grid = Grid::new(alloc, row.0, 1)?;
+    grid.put(0, row.1, row.2, 0, usize::from(row.0))?;
+    check_plain(rt, alloc, &grid, row.3)
+}
+
+/// Checks `rows`.
+fn check_rows(rt: &impl Abort, alloc: Global, rows: &[Row]) -> Result<(), RecordError> {
+    for row in rows {
+        check_row(rt, alloc, *row)?;
+    }
     Ok(())
 }
 
@@ -102,47 +204,17 @@ fn check_row(
 fn a_symbol_without_room_for_its_characters_is_replaced(
     rt: HostRuntime,
 ) -> Result<(), RecordError> {
-    let kept = "\x1b[1;4H\x1b[0m \x1b[1;3H\x1b[0m👍🏽\x1b[1;1H\x1b[0mab\x1b[1;5Hcd";
-    check_row(&rt, rt.alloc(), 6, 0, "ab👍🏽cd", kept)?;
-    check_row(&rt, rt.alloc(), 5, 0, "ab👍🏽c", "\x1b[1;1H\x1b[0mab? c")?;
-    check_row(&rt, rt.alloc(), 4, 0, "ab👍🏽", "\x1b[1;1H\x1b[0mab? ")?;
-    let flag = "\x1b[1;2H\x1b[0m \x1b[1;1H\x1b[0m🏳️‍🌈\x1b[1;3H\x1b[0m ";
-    check_row(&rt, rt.alloc(), 3, 0, "🏳️‍🌈", flag)?;
-    check_row(&rt, rt.alloc(), 2, 0, "🏳️‍🌈", "\x1b[1;1H\x1b[0m? ")?;
-    let family = "\x1b[1;1H\x1b[0mabcdef? g";
-    check_row(&rt, rt.alloc(), 9, 0, "abcdef👩‍👩‍👧g", family)?;
-    let both = "\x1b[1;1H\x1b[0m? ? ";
-    check_row(&rt, rt.alloc(), 4, 0, "👩‍👩‍👧👍🏽", both)
+    check_rows(&rt, rt.alloc(), WITHOUT_ROOM)
 }
 
 #[test]
 fn a_symbol_with_room_for_its_characters_is_sent(rt: HostRuntime) -> Result<(), RecordError> {
-    let wide = "\x1b[1;3H\x1b[0m \x1b[1;2H\x1b[0m雛\x1b[1;1H\x1b[0ma";
-    check_row(&rt, rt.alloc(), 3, 0, "a雛", wide)?;
-    let heart = "\x1b[1;3H\x1b[0m \x1b[1;2H\x1b[0m❤️\x1b[1;1H\x1b[0ma";
-    check_row(&rt, rt.alloc(), 3, 0, "a❤️", heart)?;
-    let key = "\x1b[1;3H\x1b[0m \x1b[1;2H\x1b[0m1️⃣\x1b[1;1H\x1b[0ma";
-    check_row(&rt, rt.alloc(), 3, 0, "a1️⃣", key)?;
-    let accent = "\x1b[1;2H\x1b[0me\u{301}\x1b[1;1H\x1b[0ma";
-    check_row(&rt, rt.alloc(), 2, 0, "ae\u{301}", accent)?;
-    check_row(
-        &rt,
-        rt.alloc(),
-        2,
-        0,
-        "a─",
-        "\x1b[1;2H\x1b[0m─\x1b[1;1H\x1b[0ma",
-    )
+    check_rows(&rt, rt.alloc(), WITH_ROOM)
 }
 
 #[test]
 fn a_row_begins_with_no_mark(rt: HostRuntime) -> Result<(), RecordError> {
-    for mark in ["\u{903}", "\u{93E}", "\u{D02}", "\u{102B}", "\u{FF9E}"] {
-        check_row(&rt, rt.alloc(), 2, 0, mark, "\x1b[1;1H\x1b[0m? ")?;
-    }
-    check_row(&rt, rt.alloc(), 4, 0, "\u{1F3FD}a", "\x1b[1;1H\x1b[0m? a ")?;
-    let later = "\x1b[1;2H\x1b[0m\u{903}\x1b[1;1H\x1b[0m ";
-    check_row(&rt, rt.alloc(), 2, 1, "\u{903}", later)
+    check_rows(&rt, rt.alloc(), MARKS)
 }
 
 #[test]
@@ -188,15 +260,20 @@ fn check_style(
     Ok(())
 }
 
+/// Paints `grid` in several styles.
+fn check_styles(rt: &impl Abort, painter: &mut Painter, grid: &Grid) -> Result<(), RecordError> {
+    let both = Style::PLAIN.bold().dim();
+    let lined = Style::PLAIN.underlined().reversed();
+    let green = Style::PLAIN.coloured(Colour::Green);
+    check_style(rt, painter, grid, Style::PLAIN, "\x1b[1;1H\x1b[0m ")?;
+    check_style(rt, painter, grid, both, "\x1b[1;1H\x1b[0;1;2m ")?;
+    check_style(rt, painter, grid, lined, "\x1b[1;1H\x1b[0;4;7m ")?;
+    check_style(rt, painter, grid, green, "\x1b[1;1H\x1b[0;32m ")
+}
+
 #[test]
 fn styles_have_the_numbers_of_ecma_48(rt: HostRuntime) -> Result<(), RecordError> {
     let grid = Grid::new(rt.alloc(), 1, 1)?;
     let mut painter = Painter::new(rt.alloc());
-    let both = Style::PLAIN.bold().dim();
-    let lined = Style::PLAIN.underlined().reversed();
-    let green = Style::PLAIN.coloured(Colour::Green);
-    check_style(&rt, &mut painter, &grid, Style::PLAIN, "\x1b[1;1H\x1b[0m ")?;
-    check_style(&rt, &mut painter, &grid, both, "\x1b[1;1H\x1b[0;1;2m ")?;
-    check_style(&rt, &mut painter, &grid, lined, "\x1b[1;1H\x1b[0;4;7m ")?;
-    check_style(&rt, &mut painter, &grid, green, "\x1b[1;1H\x1b[0;32m ")
+    check_styles(&rt, &mut painter, &grid)
 }

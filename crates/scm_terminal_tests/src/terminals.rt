@@ -5,6 +5,8 @@ use scm_input::{
     TerminalEvent,
 };
 use scm_terminal::Decoder;
+use std::alloc::{AllocError, Global};
+use std::process::Abort;
 use std::test::Fail;
 
 /// No modifier.
@@ -25,7 +27,7 @@ const ALT: KeyModifiers = KeyModifiers {
 };
 
 /// Keys as tmux sends them.
-const TMUX: [(&[u8], KeyCode, KeyModifiers); 22] = [
+const TMUX: &[(&[u8], KeyCode, KeyModifiers)] = &[
     (b"\x1b[A", KeyCode::Up, NONE),
     (b"\x1b[B", KeyCode::Down, NONE),
     (b"\x1b[D", KeyCode::Left, NONE),
@@ -53,7 +55,7 @@ const TMUX: [(&[u8], KeyCode, KeyModifiers); 22] = [
 /// Other forms of keys of the key table: xterm's application mode and its older modifiers, rxvt's
 /// arrows and paging keys, and the two forms in which a key is its code: `CSI code ; modifiers u`
 /// and xterm's `CSI 27 ; modifiers ; code ~`.
-const OTHER_FORMS: [(&[u8], KeyCode, KeyModifiers); 29] = [
+const OTHER_FORMS: &[(&[u8], KeyCode, KeyModifiers)] = &[
     (b"\x1bOA", KeyCode::Up, NONE),
     (b"\x1bO5A", KeyCode::Up, CONTROL),
     (b"\x1bO1;5B", KeyCode::Down, CONTROL),
@@ -87,7 +89,7 @@ const OTHER_FORMS: [(&[u8], KeyCode, KeyModifiers); 29] = [
 
 /// Bytes that act as no key: keys outside the table, as tmux, xterm, kitty, VTE and the Linux
 /// console send them, reports, and late answers.
-const OTHERS: [&[u8]; 27] = [
+const OTHERS: &[&[u8]] = &[
     b"\x1b[1~",
     b"\x1b[H",
     b"\x1bOF",
@@ -144,39 +146,23 @@ fn first_event(bytes: &[u8]) -> (Option<TerminalEvent>, usize) {
     (first, count)
 }
 
+/// Checks that the bytes of `row` are the one key that goes down with these modifiers.
+fn check_key(rt: &impl Abort, row: (&[u8], KeyCode, KeyModifiers)) {
+    check_equal(rt, first_event(row.0), (Some(key(row.1, row.2)), 1));
+}
+
 #[test]
 fn keys(rt: HostRuntime) {
-    for (bytes, code, modifiers) in TMUX {
-        check_equal(&rt, first_event(bytes), (Some(key(code, modifiers)), 1));
+    for row in TMUX {
+        check_key(&rt, *row);
     }
 }
 
 #[test]
 fn other_forms(rt: HostRuntime) {
-    for (bytes, code, modifiers) in OTHER_FORMS {
-        check_equal(&rt, first_event(bytes), (Some(key(code, modifiers)), 1));
+    for row in OTHER_FORMS {
+        check_key(&rt, *row);
     }
-}
-
-/// Keys that are not in the key table, and that a front end may use, come in their order.
-#[test]
-fn front_end_keys(rt: HostRuntime) -> Result<(), Fail> {
-    let mut events = Vec::new(rt.alloc());
-    let mut decoder = Decoder::new();
-    decoder.feed(b"j\t\x0c\x1ak", &mut events)?;
-    check_equal(
-        &rt,
-        events.as_slice(),
-        [
-            key(KeyCode::Char('j'), NONE),
-            key(KeyCode::Char('\t'), NONE),
-            key(KeyCode::Char('l'), CONTROL),
-            key(KeyCode::Char('z'), CONTROL),
-            key(KeyCode::Char('k'), NONE),
-        ]
-        .as_slice(),
-    );
-    Ok(())
 }
 
 #[test]
@@ -186,111 +172,215 @@ fn others(rt: HostRuntime) {
     }
 }
 
-#[test]
-fn a_click_in_two_pieces(rt: HostRuntime) -> Result<(), Fail> {
-    let mut events = Vec::new(rt.alloc());
-    let mut decoder = Decoder::new();
-    decoder.feed(b"\x1b[<0;5", &mut events)?;
-    check_equal(&rt, events.len(), 0);
-    decoder.feed(b";3M\x1b", &mut events)?;
-    let click = TerminalEvent::Mouse(MouseEvent {
-        kind: MouseEventKind::Down(MouseButton::Left),
-        column: 4,
-        row: 2,
-        modifiers: NONE,
-    });
-    check_equal(&rt, events.as_slice(), [click].as_slice());
-    check_equal(&rt, decoder.idle(), Some(key(KeyCode::Esc, NONE)));
-    check_equal(&rt, decoder.idle(), None);
-    Ok(())
+/// An event, as a constant.
+#[derive(Clone, Copy)]
+enum Told {
+    /// A key without modifiers.
+    Plain(KeyCode),
+    /// A character with Control.
+    Control(char),
+    /// The Up key with Control.
+    ControlUp,
+    /// A click of the left button in column 4 of row 2.
+    Click,
+    /// No key and no click.
+    Other,
 }
 
-#[test]
-fn a_paste_acts_as_no_key(rt: HostRuntime) -> Result<(), Fail> {
-    let mut events = Vec::new(rt.alloc());
-    let mut decoder = Decoder::new();
-    decoder.feed(b"\x1b[200~q\x03\x1b[20", &mut events)?;
-    check_equal(&rt, decoder.idle(), None);
-    decoder.feed(b"1~\r", &mut events)?;
-    let enter = key(KeyCode::Enter, NONE);
-    let other = TerminalEvent::Other;
-    check_equal(
-        &rt,
-        events.as_slice(),
-        [other, other, other, other, enter].as_slice(),
-    );
-    Ok(())
+/// Returns the event `told`.
+fn event_of(told: Told) -> TerminalEvent {
+    match told {
+        Told::Plain(code) => key(code, NONE),
+        Told::Control(letter) => key(KeyCode::Char(letter), CONTROL),
+        Told::ControlUp => key(KeyCode::Up, CONTROL),
+        Told::Click => TerminalEvent::Mouse(MouseEvent {
+            kind: MouseEventKind::Down(MouseButton::Left),
+            column: 4,
+            row: 2,
+            modifiers: NONE,
+        }),
+        Told::Other => TerminalEvent::Other,
+    }
+}
+
+/// A step of a session: what comes, or what has come of it.
+#[derive(Clone, Copy)]
+enum Step {
+    /// Bytes.
+    Bytes(&'static [u8]),
+    /// A silence of which no event comes.
+    Silence,
+    /// A silence of which this event comes.
+    SilenceTold(Told),
+    /// All events of bytes so far.
+    All(&'static [Told]),
+    /// The last event of bytes.
+    Last(Told),
 }
 
 /// A click in rxvt's form, where the button is 32 more than in xterm's SGR form.
 #[test]
 fn a_click_of_rxvt(rt: HostRuntime) {
-    let click = TerminalEvent::Mouse(MouseEvent {
-        kind: MouseEventKind::Down(MouseButton::Left),
-        column: 4,
-        row: 2,
-        modifiers: NONE,
-    });
+    let click = event_of(Told::Click);
     check_equal(&rt, first_event(b"\x1b[32;5;3M"), (Some(click), 1));
 }
 
+/// Checks that `events` are `wanted`.
+fn check_all(rt: &impl Abort, events: &[TerminalEvent], wanted: &[Told]) {
+    check_equal(rt, events.len(), wanted.len());
+    for (event, told) in events.iter().zip(wanted) {
+        check_equal(rt, *event, event_of(*told));
+    }
+}
+
+/// Takes a step of a session, whose bytes made `events` so far.
+fn take_step(
+    rt: &impl Abort,
+    decoder: &mut Decoder,
+    events: &mut Vec<TerminalEvent>,
+    step: Step,
+) -> Result<(), AllocError> {
+    match step {
+        Step::Bytes(bytes) => decoder.feed(bytes, events)?,
+        Step::Silence => check_equal(rt, decoder.idle(), None),
+        Step::SilenceTold(told) => check_equal(rt, decoder.idle(), Some(event_of(told))),
+        Step::All(wanted) => check_all(rt, events.as_slice(), wanted),
+        Step::Last(told) => check_equal(rt, events.last().copied(), Some(event_of(told))),
+    }
+    Ok(())
+}
+
+/// Takes the steps of a session.
+fn check_session(rt: &impl Abort, alloc: Global, steps: &[Step]) -> Result<(), AllocError> {
+    let mut events = Vec::new(alloc);
+    let mut decoder = Decoder::new();
+    for step in steps {
+        take_step(rt, &mut decoder, &mut events, *step)?;
+    }
+    Ok(())
+}
+
+/// Keys that are not in the key table, and that a front end may use, come in their order.
+const FRONT_END_KEYS: &[Step] = &[
+    Step::Bytes(b"j\t\x0c\x1ak"),
+    Step::All(&[
+        Told::Plain(KeyCode::Char('j')),
+        Told::Plain(KeyCode::Char('\t')),
+        Told::Control('l'),
+        Told::Control('z'),
+        Told::Plain(KeyCode::Char('k')),
+    ]),
+];
+
+#[test]
+fn front_end_keys(rt: HostRuntime) -> Result<(), Fail> {
+    check_session(&rt, rt.alloc(), FRONT_END_KEYS)?;
+    Ok(())
+}
+
+/// A click comes in two pieces, and an Esc after it.
+const CLICK: &[Step] = &[
+    Step::Bytes(b"\x1b[<0;5"),
+    Step::All(&[]),
+    Step::Bytes(b";3M\x1b"),
+    Step::All(&[Told::Click]),
+    Step::SilenceTold(Told::Plain(KeyCode::Esc)),
+    Step::Silence,
+];
+
+#[test]
+fn a_click_in_two_pieces(rt: HostRuntime) -> Result<(), Fail> {
+    check_session(&rt, rt.alloc(), CLICK)?;
+    Ok(())
+}
+
+/// A paste acts as no key.
+const PASTE: &[Step] = &[
+    Step::Bytes(b"\x1b[200~q\x03\x1b[20"),
+    Step::Silence,
+    Step::Bytes(b"1~\r"),
+    Step::All(&[
+        Told::Other,
+        Told::Other,
+        Told::Other,
+        Told::Other,
+        Told::Plain(KeyCode::Enter),
+    ]),
+];
+
+#[test]
+fn a_paste_acts_as_no_key(rt: HostRuntime) -> Result<(), Fail> {
+    check_session(&rt, rt.alloc(), PASTE)?;
+    Ok(())
+}
+
 /// A silence may tear the Up key anywhere, and be reported twice: its letter is no key.
+const TORN_ARROW: &[Step] = &[
+    Step::Bytes(b"\x1b"),
+    Step::SilenceTold(Told::Plain(KeyCode::Esc)),
+    Step::Silence,
+    Step::Bytes(b"["),
+    Step::Silence,
+    Step::Bytes(b"A\x1b[1;"),
+    Step::Silence,
+    Step::Bytes(b"5A"),
+    Step::All(&[Told::Plain(KeyCode::Up), Told::ControlUp]),
+];
+
 #[test]
 fn a_torn_arrow_is_no_letter(rt: HostRuntime) -> Result<(), Fail> {
-    let mut events = Vec::new(rt.alloc());
-    let mut decoder = Decoder::new();
-    decoder.feed(b"\x1b", &mut events)?;
-    check_equal(&rt, decoder.idle(), Some(key(KeyCode::Esc, NONE)));
-    check_equal(&rt, decoder.idle(), None);
-    decoder.feed(b"[", &mut events)?;
-    check_equal(&rt, decoder.idle(), None);
-    decoder.feed(b"A\x1b[1;", &mut events)?;
-    check_equal(&rt, decoder.idle(), None);
-    decoder.feed(b"5A", &mut events)?;
-    let arrows = [key(KeyCode::Up, NONE), key(KeyCode::Up, CONTROL)];
-    check_equal(&rt, events.as_slice(), arrows.as_slice());
+    check_session(&rt, rt.alloc(), TORN_ARROW)?;
     Ok(())
 }
 
 /// After a real Esc a letter is a key at once. Alt with a byte that begins a control string is no
 /// key, and hides none after a silence. The rest of a torn answer on colours is no key.
+const SILENCES: &[Step] = &[
+    Step::Bytes(b"\x1b"),
+    Step::SilenceTold(Told::Plain(KeyCode::Esc)),
+    Step::Bytes(b"c\x1b]"),
+    Step::SilenceTold(Told::Other),
+    Step::Bytes(b"q\x1b]11;rgb:c"),
+    Step::Silence,
+    Step::Bytes(b"ccc\x07"),
+    Step::All(&[
+        Told::Plain(KeyCode::Char('c')),
+        Told::Plain(KeyCode::Char('q')),
+        Told::Other,
+    ]),
+];
+
 #[test]
 fn keys_after_silences(rt: HostRuntime) -> Result<(), Fail> {
-    let mut events = Vec::new(rt.alloc());
-    let mut decoder = Decoder::new();
-    decoder.feed(b"\x1b", &mut events)?;
-    check_equal(&rt, decoder.idle(), Some(key(KeyCode::Esc, NONE)));
-    decoder.feed(b"c\x1b]", &mut events)?;
-    check_equal(&rt, decoder.idle(), Some(TerminalEvent::Other));
-    decoder.feed(b"q\x1b]11;rgb:c", &mut events)?;
-    check_equal(&rt, decoder.idle(), None);
-    decoder.feed(b"ccc\x07", &mut events)?;
-    let c = key(KeyCode::Char('c'), NONE);
-    let q = key(KeyCode::Char('q'), NONE);
-    check_equal(
-        &rt,
-        events.as_slice(),
-        [c, q, TerminalEvent::Other].as_slice(),
-    );
+    check_session(&rt, rt.alloc(), SILENCES)?;
     Ok(())
 }
 
 /// A paste whose end mark is lost ends with Ctrl-C between two silences, and with no other Ctrl-C.
+const LOST_MARK: &[Step] = &[
+    Step::Bytes(b"\x1b[200~a\x1b["),
+    Step::Silence,
+    Step::Bytes(b"\x03q"),
+    Step::Silence,
+    Step::Bytes(b"q\x03"),
+    Step::Silence,
+    Step::All(&[
+        Told::Other,
+        Told::Other,
+        Told::Other,
+        Told::Other,
+        Told::Other,
+        Told::Other,
+        Told::Other,
+    ]),
+    Step::Bytes(b"\x03"),
+    Step::SilenceTold(Told::Control('c')),
+    Step::Bytes(b"q"),
+    Step::Last(Told::Plain(KeyCode::Char('q'))),
+];
+
 #[test]
 fn a_lost_mark_locks_nobody_out(rt: HostRuntime) -> Result<(), Fail> {
-    let mut events = Vec::new(rt.alloc());
-    let mut decoder = Decoder::new();
-    decoder.feed(b"\x1b[200~a\x1b[", &mut events)?;
-    check_equal(&rt, decoder.idle(), None);
-    decoder.feed(b"\x03q", &mut events)?;
-    check_equal(&rt, decoder.idle(), None);
-    decoder.feed(b"q\x03", &mut events)?;
-    check_equal(&rt, decoder.idle(), None);
-    check_equal(&rt, events.as_slice(), [TerminalEvent::Other; 7].as_slice());
-    decoder.feed(b"\x03", &mut events)?;
-    check_equal(&rt, decoder.idle(), Some(key(KeyCode::Char('c'), CONTROL)));
-    decoder.feed(b"q", &mut events)?;
-    let q = key(KeyCode::Char('q'), NONE);
-    check_equal(&rt, events.as_slice().last().copied(), Some(q));
+    check_session(&rt, rt.alloc(), LOST_MARK)?;
     Ok(())
 }
