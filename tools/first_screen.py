@@ -1,8 +1,10 @@
-"""How long `git select` takes until its first screen, as it is installed: with 1,000 files of a hundred lines, of which three changed in
-each; with a file in which 100,000 lines became 100,000 others; and with one in which each tenth of 100,000 lines changed."""
+"""How long `git select` takes until its first screen, as it is installed: with 10, 1,000 and 10,000 files of forty lines, of which two
+changed in each; with a file in which 100,000 lines became 100,000 others; and with one in which each tenth of 100,000 lines changed. And
+how long it takes until all of 10,000 files are marked, accepted and staged."""
 import os
 import random
 import resource
+import shutil
 import subprocess
 import sys
 import tempfile
@@ -16,12 +18,13 @@ from typed import Typed  # noqa: E402
 
 # the columns of its table
 HEAD = "What changed, and where it is installed", "Seconds, the median", "The least", "Processor seconds"
-RUNS = 7
+RUNS = 5
+GIVE_UP, ACCEPT_ALL = b"q", b"Ac"
 chance = random.Random(1)
 
 
 def line():
-    return b"%030x\n" % chance.getrandbits(100)
+    return b"%08x\n" % chance.getrandbits(32)
 
 
 def lines(count):
@@ -37,12 +40,13 @@ def with_others(text, places):
 
 
 def shapes():
-    """Yields what is timed: its words, and for each path the lines before and after."""
-    files = {"%02d/%03d" % (number % 40, number): lines(100) for number in range(1000)}
-    yield "1,000 files", {path: (text, with_others(text, chance.sample(range(100), 3))) for path, text in files.items()}
-    yield "200,000 changed lines in one section", {"a": (lines(100_000), lines(100_000))}
+    """Yields what is timed: its words, for each path the lines before and after, and what is typed, one after another."""
+    for count, keys in (10, [GIVE_UP]), (1_000, [GIVE_UP]), (10_000, [GIVE_UP, ACCEPT_ALL]):
+        files = {"%02d/%05d" % (number % 40, number): lines(40) for number in range(count)}
+        yield "%s files" % format(count, ","), {path: (text, with_others(text, (5, 25))) for path, text in files.items()}, keys
+    yield "200,000 changed lines in one section", {"a": (lines(100_000), lines(100_000))}, [GIVE_UP]
     text = lines(100_000)
-    yield "20,000 changed lines in 10,000 sections", {"a": (text, with_others(text, range(0, 100_000, 10)))}
+    yield "20,000 changed lines in 10,000 sections", {"a": (text, with_others(text, range(0, 100_000, 10)))}, [GIVE_UP]
 
 
 def write(folder, files, side):
@@ -65,23 +69,31 @@ def processor_seconds():
     return used.ru_utime + used.ru_stime
 
 
-def run(prefix, folder):
-    """Returns after how many seconds the first screen is there, and how many processor seconds the program takes, which then ends."""
+def run(prefix, folder, keys):
+    """Returns after how many seconds the first screen is there, and how many processor seconds the program takes, into which `keys` are
+    typed then. The index is as it was before."""
+    index = os.path.join(folder, ".git/index")
+    shutil.copyfile(index, index + ".before")
     path = os.path.join(os.path.abspath(prefix), "bin") + os.pathsep + os.environ["PATH"]
     begun, used = time.monotonic(), processor_seconds()
     typed = Typed(["git", "select"], 80, 24, {**SETTINGS, "PATH": path, "PYTHONDONTWRITEBYTECODE": "1"}, folder)
     taken = time.monotonic() - begun
-    typed.write(b"q")
+    typed.write(keys)
     typed.end()
+    os.replace(index + ".before", index)
     return taken, processor_seconds() - used
 
 
 def rows(prefixes):
     """Yields for each shape and prefix the median and the least of some runs in seconds, and the least of processor seconds, which other work on
     the machine changes less."""
-    for words, files in shapes():
+    for words, files, each in shapes():
         with tempfile.TemporaryDirectory(prefix="measure-") as folder:
             make(folder, files)
-            for prefix in prefixes:
-                taken, used = map(sorted, zip(*(run(prefix, folder) for _ in range(RUNS))))
-                yield "%s, %s" % (words, prefix), ["%.2f" % it for it in (taken[RUNS // 2], taken[0], used[0])]
+            for keys in each:
+                # one prefix after another, so that other work on the machine falls on all of them
+                runs = [[run(prefix, folder, keys) for prefix in prefixes] for _ in range(RUNS)]
+                more = ", all marked and accepted" if keys == ACCEPT_ALL else ""
+                for prefix, of_prefix in zip(prefixes, zip(*runs)):
+                    taken, used = map(sorted, zip(*of_prefix))
+                    yield "%s%s, %s" % (words, more, prefix), ["%.2f" % it for it in (taken[RUNS // 2], taken[0], used[0])]
