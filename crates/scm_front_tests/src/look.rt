@@ -3,6 +3,7 @@ use scm_front_paint::{FrontPainter, Heard, Label, Pane, Theme, heard_as, themed}
 use scm_record::{
     Colour, KeyCode, KeyEvent, KeyEventKind, KeyModifiers, OwnedText, Style, TerminalEvent,
 };
+use std::alloc::{AllocError, Global};
 use std::test::Fail;
 
 /// The event of pressing the key `>`.
@@ -31,16 +32,24 @@ fn themes_change_styles(rt: HostRuntime) -> Result<(), Fail> {
     Ok(())
 }
 
+/// Returns a label of the first file's second section.
+fn label_of(alloc: Global, text: &str) -> Result<Label, AllocError> {
+    Ok(Label {
+        file: 0,
+        section: 1,
+        text: OwnedText::from(String::from_str(alloc, text)?),
+    })
+}
+
+/// Labels, of which each replaces the one before it.
+const LABELS: &[&str] = &["ours", "theirs", ""];
+
 #[test]
 fn labels_replace_each_other(rt: HostRuntime) -> Result<(), Fail> {
     let mut painter = FrontPainter::new(rt.alloc(), Theme::Dark);
-    for text in ["ours", "theirs", ""] {
-        let label = Label {
-            file: 0,
-            section: 1,
-            text: OwnedText::from(String::from_str(rt.alloc(), text)?),
-        };
-        assert!(rt; painter.label(label).is_ok());
+    for text in LABELS {
+        let outcome = painter.label(label_of(rt.alloc(), *text)?);
+        assert!(rt; outcome.is_ok());
     }
     Ok(())
 }

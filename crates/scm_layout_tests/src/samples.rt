@@ -4,14 +4,14 @@ use scm_types::{File, FileMode, Items, RecordError, RecordState, Section};
 use std::alloc::Global;
 
 /// A checked removed line and an unchecked added line.
-const LINES: [Line; 2] = [(true, REMOVED, "c\n"), (false, ADDED, "d\n")];
+const LINES: &[Line] = &[(true, REMOVED, "c\n"), (false, ADDED, "d\n")];
 
 /// Returns a file of two lines of context, a checked removed line and an unchecked added line, a
 /// checked deletion, and a line of context.
 fn small_file(alloc: Global) -> Result<File<'static>, RecordError> {
     let mut sections = Vec::new(alloc);
     sections.push(context(alloc, &["a\n", "b\n"])?)?;
-    sections.push(changed(alloc, &LINES)?)?;
+    sections.push(changed(alloc, LINES)?)?;
     sections.push(Section::FileMode {
         is_checked: true,
         mode: FileMode::Absent,

@@ -11,7 +11,7 @@ use scm_selection::moves::{
 };
 use scm_selection::{counts, toggles};
 use scm_types::{
-    File, FileKey, Items, LineKey, RecordError, RecordState, SectionKey, SelectionKey, Tristate,
+    File, Items, LineKey, RecordError, RecordState, SectionKey, SelectionKey, Tristate,
 };
 use std::alloc::Global;
 use std::process::Abort;
@@ -27,94 +27,194 @@ fn samples(alloc: Global) -> Result<Items<File<'static>>, RecordError> {
     Ok(files)
 }
 
-/// Returns the keys of the file of `samples`, in order.
-fn sample_keys() -> [SelectionKey; 4] {
-    [
-        file_key(0),
-        section_key(0, 1),
-        line_key(0, 1, 0),
-        line_key(0, 1, 1),
-    ]
+/// A key of the first commit, as a constant.
+#[derive(Clone, Copy)]
+enum Key {
+    /// No key.
+    None,
+    /// A file.
+    File(usize),
+    /// A file and one of its sections.
+    Section(usize, usize),
+    /// A file, one of its sections and one of that section's lines.
+    Line(usize, usize, usize),
 }
+
+/// Returns the key `key`.
+fn key_of(key: Key) -> SelectionKey {
+    match key {
+        Key::None => SelectionKey::None,
+        Key::File(file) => file_key(file),
+        Key::Section(file, section) => section_key(file, section),
+        Key::Line(file, section, line) => line_key(file, section, line),
+    }
+}
+
+/// The keys of the file of `samples`, in order.
+const SAMPLE_KEYS: &[Key] = &[
+    Key::File(0),
+    Key::Section(0, 1),
+    Key::Line(0, 1, 0),
+    Key::Line(0, 1, 1),
+];
+
+/// Checks that `found` are the keys `wanted`.
+fn check_keys(rt: &impl Abort, found: &[SelectionKey], wanted: &[Key]) {
+    check_equal(rt, found.len(), wanted.len());
+    for (key, name) in found.iter().zip(wanted) {
+        check_equal(rt, *key, key_of(*name));
+    }
+}
+
+/// Checks the lists of the keys of `files`.
+fn check_lists(rt: &impl Abort, alloc: Global, files: &[File<'_>]) -> Result<(), RecordError> {
+    check_keys(rt, all_keys(alloc, files)?.as_slice(), SAMPLE_KEYS);
+    check_keys(
+        rt,
+        section_keys(alloc, files)?.as_slice(),
+        &[Key::Section(0, 1)],
+    );
+    check_equal(rt, first_key(files), file_key(0));
+    check_equal(rt, first_key(&[]), SelectionKey::None);
+    Ok(())
+}
+
+/// A section.
+const SECTION: SectionKey = SectionKey {
+    commit_idx: 1,
+    file_idx: 2,
+    section_idx: 3,
+};
+
+/// A line of this section.
+const LINE: LineKey = LineKey {
+    commit_idx: 1,
+    file_idx: 2,
+    section_idx: 3,
+    line_idx: 4,
+};
 
 #[test]
 fn lists_of_keys(rt: HostRuntime) -> Result<(), RecordError> {
-    let alloc = rt.alloc();
-    let files = samples(alloc)?;
-    let files = files.as_slice();
-    let sections = [section_key(0, 1)];
-    check_equal(
-        &rt,
-        all_keys(alloc, files)?.as_slice(),
-        sample_keys().as_slice(),
-    );
-    check_equal(
-        &rt,
-        section_keys(alloc, files)?.as_slice(),
-        sections.as_slice(),
-    );
-    let section = SectionKey {
-        commit_idx: 1,
-        file_idx: 2,
-        section_idx: 3,
-    };
-    let line = LineKey {
-        commit_idx: 1,
-        file_idx: 2,
-        section_idx: 3,
-        line_idx: 4,
-    };
-    for (found, expected) in [
-        (first_key(files), file_key(0)),
-        (first_key(&[]), SelectionKey::None),
-        (
-            SelectionKey::Line(section.line(4)),
-            SelectionKey::Line(line),
-        ),
-    ] {
-        check_equal(&rt, found, expected);
-    }
+    check_equal(&rt, SECTION.line(4), LINE);
+    check_lists(&rt, rt.alloc(), samples(rt.alloc())?.as_slice())
+}
+
+/// Checks that `set` has the keys `wanted` and no others.
+fn check_set(
+    rt: &impl Abort,
+    alloc: Global,
+    set: &KeySet,
+    wanted: &[SelectionKey],
+) -> Result<(), RecordError> {
+    assert!(rt; set.is_same(&key_set_of(alloc, wanted)?));
+    Ok(())
+}
+
+/// Returns the set of a line and a file.
+fn two_keys(alloc: Global) -> Result<KeySet, RecordError> {
+    let mut set = KeySet::new(alloc);
+    set.insert(line_key(0, 1, 0))?;
+    set.insert(file_key(0))?;
+    Ok(set)
+}
+
+/// Leaves the section of the file alone in the set of `two_keys`.
+fn change_keys(set: &mut KeySet) -> Result<(), RecordError> {
+    set.flip(section_key(0, 1))?;
+    set.flip(file_key(0))?;
+    set.remove(line_key(0, 1, 0));
     Ok(())
 }
 
 #[test]
 fn sets_of_keys(rt: HostRuntime) -> Result<(), RecordError> {
-    let alloc = rt.alloc();
-    let mut set = KeySet::new(alloc);
-    set.insert(line_key(0, 1, 0))?;
-    set.insert(file_key(0))?;
+    let mut set = two_keys(rt.alloc())?;
     assert!(rt; set.contains(file_key(0)) && !set.contains(section_key(0, 1)));
-    assert!(rt; set.is_same(&key_set_of(alloc, &[file_key(0), line_key(0, 1, 0)])?));
-    set.flip(section_key(0, 1))?;
-    set.flip(file_key(0))?;
-    set.remove(line_key(0, 1, 0));
-    assert!(rt; set.is_same(&key_set_of(alloc, &[section_key(0, 1)])?));
+    check_set(&rt, rt.alloc(), &set, &[file_key(0), line_key(0, 1, 0)])?;
+    change_keys(&mut set)?;
+    check_set(&rt, rt.alloc(), &set, &[section_key(0, 1)])
+}
+
+/// Checks whether `set` has exactly the keys of all `files` and of all their sections.
+fn check_exact(
+    rt: &impl Abort,
+    alloc: Global,
+    set: &KeySet,
+    files: &[File<'_>],
+    is_exact: bool,
+) -> Result<(), RecordError> {
+    check_equal(rt, set.has_exactly_files(alloc, files)?, is_exact);
     Ok(())
+}
+
+/// Checks the set of the keys of all sections of `files`.
+fn check_sections(
+    rt: &impl Abort,
+    alloc: Global,
+    set: &KeySet,
+    files: &[File<'_>],
+) -> Result<(), RecordError> {
+    let sections = section_keys(alloc, files)?;
+    check_set(rt, alloc, set, sections.as_slice())
+}
+
+/// Adds the keys of all `files` to the set of the keys of their sections.
+fn add_files(
+    rt: &impl Abort,
+    alloc: Global,
+    set: &mut KeySet,
+    files: &[File<'_>],
+) -> Result<(), RecordError> {
+    for file in 0..files.len() {
+        check_exact(rt, alloc, set, files, false)?;
+        set.insert(file_key(file))?;
+    }
+    assert!(rt; set.is_same(&KeySet::of_files(alloc, files)?));
+    check_exact(rt, alloc, set, files, true)
+}
+
+/// Adds a key to the set of all keys of `files` and sections, and removes it and another one.
+fn change_sections(
+    rt: &impl Abort,
+    alloc: Global,
+    set: &mut KeySet,
+    files: &[File<'_>],
+) -> Result<(), RecordError> {
+    set.insert(section_key(1, 0))?;
+    assert!(rt; set.contains(section_key(1, 0)));
+    check_exact(rt, alloc, set, files, false)?;
+    set.remove(section_key(1, 0));
+    set.remove(section_key(0, 1));
+    assert!(rt; !set.contains(section_key(0, 1)));
+    check_exact(rt, alloc, set, files, false)
+}
+
+/// Adds the key of a section, and that of one of its lines, to the set of all other keys of `files`
+/// and sections.
+fn add_line(
+    rt: &impl Abort,
+    alloc: Global,
+    set: &mut KeySet,
+    files: &[File<'_>],
+) -> Result<(), RecordError> {
+    set.insert(section_key(0, 1))?;
+    set.insert(line_key(0, 1, 0))?;
+    check_exact(rt, alloc, set, files, false)
+}
+
+/// Checks sets of all keys of `files` and sections.
+fn check_files(rt: &impl Abort, alloc: Global, files: &[File<'_>]) -> Result<(), RecordError> {
+    let mut set = KeySet::of_sections(alloc, files)?;
+    check_sections(rt, alloc, &set, files)?;
+    add_files(rt, alloc, &mut set, files)?;
+    change_sections(rt, alloc, &mut set, files)?;
+    add_line(rt, alloc, &mut set, files)
 }
 
 #[test]
 fn sets_of_all_files_and_sections(rt: HostRuntime) -> Result<(), RecordError> {
-    let alloc = rt.alloc();
-    let files = several_files(alloc)?;
-    let files = files.as_slice();
-    let sections = section_keys(alloc, files)?;
-    let mut set = KeySet::of_sections(alloc, files)?;
-    assert!(rt; set.is_same(&key_set_of(alloc, sections.as_slice())?));
-    for file in 0..files.len() {
-        assert!(rt; !set.has_exactly_files(alloc, files)?);
-        set.insert(file_key(file))?;
-    }
-    assert!(rt; set.is_same(&KeySet::of_files(alloc, files)?));
-    assert!(rt; set.has_exactly_files(alloc, files)?);
-    set.insert(section_key(1, 0))?;
-    assert!(rt; set.contains(section_key(1, 0)) && !set.has_exactly_files(alloc, files)?);
-    set.remove(section_key(1, 0));
-    set.remove(section_key(0, 1));
-    assert!(rt; !set.contains(section_key(0, 1)) && !set.has_exactly_files(alloc, files)?);
-    set.insert(section_key(0, 1))?;
-    set.insert(line_key(0, 1, 0))?;
-    assert!(rt; !set.has_exactly_files(alloc, files)?);
-    Ok(())
+    check_files(&rt, rt.alloc(), several_files(rt.alloc())?.as_slice())
 }
 
 /// Returns four files: that of `samples`, one of context and an empty section, one of context
@@ -149,110 +249,136 @@ fn moved(expanded: &KeySet, files: &[File<'_>], step: Move, key: SelectionKey) -
     }
 }
 
-/// Checks `moves` among `files` with the keys `unfolded` unfolded. Each has the key from which it
-/// starts and the key to which it moves.
+/// A move, the key from which it starts, and the key to which it moves.
+type Moved = (Move, Key, Key);
+
+/// Checks `moves` among `files` with the keys `unfolded` unfolded.
 fn check_moves(
     rt: &impl Abort,
     alloc: Global,
     files: &[File<'_>],
     unfolded: &[SelectionKey],
-    moves: &[(Move, SelectionKey, SelectionKey)],
+    moves: &[Moved],
 ) -> Result<(), RecordError> {
     let expanded = key_set_of(alloc, unfolded)?;
     for (step, from, to) in moves {
-        check_equal(rt, moved(&expanded, files, *step, *from), *to);
+        let found = moved(&expanded, files, *step, key_of(*from));
+        check_equal(rt, found, key_of(*to));
     }
     Ok(())
 }
 
+/// Checks `moves` among `files` with all keys unfolded.
+fn check_unfolded(
+    rt: &impl Abort,
+    alloc: Global,
+    files: &[File<'_>],
+    moves: &[Moved],
+) -> Result<(), RecordError> {
+    let unfolded = all_keys(alloc, files)?;
+    check_moves(rt, alloc, files, unfolded.as_slice(), moves)
+}
+
+/// Moves to the next and to the previous key, all unfolded.
+const NEXT_AND_PREVIOUS: &[Moved] = &[
+    (Move::Next, Key::File(0), Key::Section(0, 1)),
+    (Move::Next, Key::Line(0, 1, 1), Key::File(1)),
+    (Move::Next, Key::Section(1, 1), Key::File(2)),
+    (Move::Next, Key::File(2), Key::File(3)),
+    (Move::Next, Key::Line(3, 1, 0), Key::Line(3, 1, 0)),
+    (Move::Next, Key::Section(0, 0), Key::None),
+    (Move::Previous, Key::File(0), Key::File(0)),
+    (Move::Previous, Key::File(1), Key::Line(0, 1, 1)),
+    (Move::Previous, Key::File(2), Key::Section(1, 1)),
+    (Move::Previous, Key::File(3), Key::File(2)),
+    (Move::Previous, Key::Section(0, 0), Key::None),
+];
+
 #[test]
 fn moves_among_unfolded_keys(rt: HostRuntime) -> Result<(), RecordError> {
-    let alloc = rt.alloc();
-    let files = several_files(alloc)?;
-    let unfolded = all_keys(alloc, files.as_slice())?;
-    let context = section_key(0, 0);
-    let moves = [
-        (Move::Next, file_key(0), section_key(0, 1)),
-        (Move::Next, line_key(0, 1, 1), file_key(1)),
-        (Move::Next, section_key(1, 1), file_key(2)),
-        (Move::Next, file_key(2), file_key(3)),
-        (Move::Next, line_key(3, 1, 0), line_key(3, 1, 0)),
-        (Move::Next, context, SelectionKey::None),
-        (Move::Previous, file_key(0), file_key(0)),
-        (Move::Previous, file_key(1), line_key(0, 1, 1)),
-        (Move::Previous, file_key(2), section_key(1, 1)),
-        (Move::Previous, file_key(3), file_key(2)),
-        (Move::Previous, context, SelectionKey::None),
-    ];
-    check_moves(&rt, alloc, files.as_slice(), unfolded.as_slice(), &moves)
+    let files = several_files(rt.alloc())?;
+    check_unfolded(&rt, rt.alloc(), files.as_slice(), NEXT_AND_PREVIOUS)
 }
+
+/// Moves to keys of the same kind, and to the first key inside another, all unfolded.
+const OF_KIND: &[Moved] = &[
+    (Move::NextOfKind, Key::File(2), Key::File(3)),
+    (Move::NextOfKind, Key::Section(1, 1), Key::Section(3, 1)),
+    (Move::NextOfKind, Key::Line(0, 1, 1), Key::Line(3, 1, 0)),
+    (Move::NextOfKind, Key::Section(3, 1), Key::Section(3, 1)),
+    (Move::PreviousOfKind, Key::File(1), Key::File(0)),
+    (Move::PreviousOfKind, Key::Section(3, 1), Key::Section(1, 1)),
+    (Move::PreviousOfKind, Key::Line(3, 1, 0), Key::Line(0, 1, 1)),
+    (Move::PreviousOfKind, Key::Line(0, 1, 0), Key::Line(0, 1, 0)),
+    (Move::Inside, Key::File(0), Key::Section(0, 1)),
+    (Move::Inside, Key::File(2), Key::Section(3, 1)),
+    (Move::Inside, Key::Section(1, 1), Key::Line(3, 1, 0)),
+    (Move::Inside, Key::Line(0, 1, 0), Key::Line(0, 1, 0)),
+];
 
 #[test]
 fn moves_to_keys_of_a_kind(rt: HostRuntime) -> Result<(), RecordError> {
-    let alloc = rt.alloc();
-    let files = several_files(alloc)?;
-    let unfolded = all_keys(alloc, files.as_slice())?;
-    let moves = [
-        (Move::NextOfKind, file_key(2), file_key(3)),
-        (Move::NextOfKind, section_key(1, 1), section_key(3, 1)),
-        (Move::NextOfKind, line_key(0, 1, 1), line_key(3, 1, 0)),
-        (Move::NextOfKind, section_key(3, 1), section_key(3, 1)),
-        (Move::PreviousOfKind, file_key(1), file_key(0)),
-        (Move::PreviousOfKind, section_key(3, 1), section_key(1, 1)),
-        (Move::PreviousOfKind, line_key(3, 1, 0), line_key(0, 1, 1)),
-        (Move::PreviousOfKind, line_key(0, 1, 0), line_key(0, 1, 0)),
-        (Move::Inside, file_key(0), section_key(0, 1)),
-        (Move::Inside, file_key(2), section_key(3, 1)),
-        (Move::Inside, section_key(1, 1), line_key(3, 1, 0)),
-        (Move::Inside, line_key(0, 1, 0), line_key(0, 1, 0)),
-    ];
-    check_moves(&rt, alloc, files.as_slice(), unfolded.as_slice(), &moves)
+    let files = several_files(rt.alloc())?;
+    check_unfolded(&rt, rt.alloc(), files.as_slice(), OF_KIND)
+}
+
+/// Moves with no key unfolded.
+const FOLDED: &[Moved] = &[
+    (Move::Next, Key::File(0), Key::File(1)),
+    (Move::Next, Key::Section(0, 1), Key::None),
+    (Move::Previous, Key::File(1), Key::File(0)),
+    (Move::NextOfKind, Key::File(3), Key::File(3)),
+    (Move::PreviousOfKind, Key::Section(3, 1), Key::None),
+    (Move::Inside, Key::File(0), Key::Section(0, 1)),
+];
+
+/// Moves with the first and the last file unfolded.
+const PARTLY_FOLDED: &[Moved] = &[
+    (Move::Next, Key::Section(0, 1), Key::File(1)),
+    (Move::Previous, Key::File(1), Key::Section(0, 1)),
+    (Move::NextOfKind, Key::Section(0, 1), Key::Section(3, 1)),
+    (Move::PreviousOfKind, Key::Section(3, 1), Key::Section(0, 1)),
+];
+
+/// Moves without files.
+const WITHOUT_FILES: &[Moved] = &[
+    (Move::Next, Key::File(0), Key::None),
+    (Move::Inside, Key::File(0), Key::File(0)),
+];
+
+/// Checks moves among `files`, some of them folded, and without files.
+fn check_folded(rt: &impl Abort, alloc: Global, files: &[File<'_>]) -> Result<(), RecordError> {
+    let unfolded = [file_key(0), file_key(3)];
+    check_moves(rt, alloc, files, &[], FOLDED)?;
+    check_moves(rt, alloc, files, &unfolded, PARTLY_FOLDED)?;
+    check_moves(rt, alloc, &[], &[file_key(0)], WITHOUT_FILES)
 }
 
 #[test]
 fn moves_among_folded_keys(rt: HostRuntime) -> Result<(), RecordError> {
-    let alloc = rt.alloc();
-    let files = several_files(alloc)?;
-    let moves = [
-        (Move::Next, file_key(0), file_key(1)),
-        (Move::Next, section_key(0, 1), SelectionKey::None),
-        (Move::Previous, file_key(1), file_key(0)),
-        (Move::NextOfKind, file_key(3), file_key(3)),
-        (Move::PreviousOfKind, section_key(3, 1), SelectionKey::None),
-        (Move::Inside, file_key(0), section_key(0, 1)),
-    ];
-    check_moves(&rt, alloc, files.as_slice(), &[], &moves)?;
-    let moves = [
-        (Move::Next, section_key(0, 1), file_key(1)),
-        (Move::Previous, file_key(1), section_key(0, 1)),
-        (Move::NextOfKind, section_key(0, 1), section_key(3, 1)),
-        (Move::PreviousOfKind, section_key(3, 1), section_key(0, 1)),
-    ];
-    let unfolded = [file_key(0), file_key(3)];
-    check_moves(&rt, alloc, files.as_slice(), &unfolded, &moves)?;
-    let moves = [
-        (Move::Next, file_key(0), SelectionKey::None),
-        (Move::Inside, file_key(0), file_key(0)),
-    ];
-    check_moves(&rt, alloc, &[], &[file_key(0)], &moves)
+    check_folded(&rt, rt.alloc(), several_files(rt.alloc())?.as_slice())
+}
+
+/// Keys, and whether they are visible in the file of `samples`, which is unfolded.
+const VISIBLE: &[(Key, bool)] = &[
+    (Key::Section(0, 1), true),
+    (Key::Section(0, 0), false),
+    (Key::Line(0, 1, 0), false),
+    (Key::File(1), false),
+];
+
+/// Checks which keys of `files` are visible.
+fn check_visible(rt: &impl Abort, expanded: &KeySet, files: &[File<'_>]) {
+    for (key, is_there) in VISIBLE {
+        let is_visible = is_visible_key(expanded, files, key_of(*key));
+        check_equal(rt, is_visible, *is_there);
+    }
 }
 
 #[test]
 fn keys_among_the_visible_ones(rt: HostRuntime) -> Result<(), RecordError> {
-    let files = samples(rt.alloc())?;
     let expanded = key_set_of(rt.alloc(), &[file_key(0)])?;
-    for (key, is_there) in [
-        (section_key(0, 1), true),
-        (section_key(0, 0), false),
-        (line_key(0, 1, 0), false),
-        (file_key(1), false),
-    ] {
-        check_equal(
-            &rt,
-            is_visible_key(&expanded, files.as_slice(), key),
-            is_there,
-        );
-    }
+    check_visible(&rt, &expanded, samples(rt.alloc())?.as_slice());
     Ok(())
 }
 
@@ -261,42 +387,49 @@ fn first_mark(files: &[File<'_>]) -> Option<Tristate> {
     files.first().map(|file| file.tristate())
 }
 
+/// The first line of `samples`.
+const FIRST_LINE: LineKey = LineKey {
+    commit_idx: 0,
+    file_idx: 0,
+    section_idx: 1,
+    line_idx: 0,
+};
+
+/// Toggles `files`, and checks the mark of the first one.
+fn check_toggles(rt: &impl Abort, files: &mut [File<'_>]) {
+    toggles::toggle_key(files, line_key(0, 1, 1));
+    check_equal(rt, first_mark(files), Some(Tristate::Partial));
+    toggles::invert_all(files);
+    toggles::toggle_key(files, line_key(0, 1, 1));
+    check_equal(rt, first_mark(files), Some(Tristate::True));
+    toggles::set_all(files);
+    check_equal(rt, first_mark(files), Some(Tristate::False));
+    toggles::invert_line_alone(files, FIRST_LINE);
+    check_equal(rt, first_mark(files), Some(Tristate::Partial));
+}
+
 #[test]
 fn toggles_of_keys(rt: HostRuntime) -> Result<(), RecordError> {
     let mut files = samples(rt.alloc())?;
-    toggles::toggle_key(files.as_mut_slice(), line_key(0, 1, 1));
-    check_equal(&rt, first_mark(files.as_slice()), Some(Tristate::Partial));
-    toggles::invert_all(files.as_mut_slice());
-    toggles::toggle_key(files.as_mut_slice(), line_key(0, 1, 1));
-    check_equal(&rt, first_mark(files.as_slice()), Some(Tristate::True));
-    toggles::set_all(files.as_mut_slice());
-    check_equal(&rt, first_mark(files.as_slice()), Some(Tristate::False));
-    let line = LineKey {
-        commit_idx: 0,
-        file_idx: 0,
-        section_idx: 1,
-        line_idx: 0,
-    };
-    toggles::invert_line_alone(files.as_mut_slice(), line);
-    check_equal(&rt, first_mark(files.as_slice()), Some(Tristate::Partial));
+    check_toggles(&rt, files.as_mut_slice());
     Ok(())
+}
+
+/// Returns a state of `samples`, whose first commit has a message.
+fn sample_state(alloc: Global) -> Result<RecordState<'static>, RecordError> {
+    Ok(RecordState {
+        is_read_only: false,
+        commits: commits_of(alloc, "m")?,
+        files: samples(alloc)?,
+    })
 }
 
 #[test]
 fn counts_of_a_state(rt: HostRuntime) -> Result<(), RecordError> {
-    let alloc = rt.alloc();
-    let mut state = RecordState {
-        is_read_only: false,
-        commits: commits_of(alloc, "m")?,
-        files: samples(alloc)?,
-    };
+    let mut state = sample_state(rt.alloc())?;
     check_equal(&rt, counts::message_count(&state), 1);
     check_equal(&rt, counts::changed_count(&state), 0);
-    let file = SelectionKey::File(FileKey {
-        commit_idx: 0,
-        file_idx: 0,
-    });
-    toggles::toggle_key(state.files.as_mut_slice(), file);
+    toggles::toggle_key(state.files.as_mut_slice(), file_key(0));
     check_equal(&rt, counts::changed_count(&state), 1);
     Ok(())
 }

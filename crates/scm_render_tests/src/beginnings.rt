@@ -27,52 +27,70 @@ fn check_row(
     Ok(column)
 }
 
-/// Checks that all spans of `text`, repeated `times` times, show `view` in eight columns, and that
-/// `count` first spans of at most `bytes` bytes do so too. Those exceed the columns if all do.
-fn check_first(
-    rt: &impl Abort,
-    alloc: Global,
-    (text, times): (&str, usize),
-    (count, bytes): (usize, usize),
-    view: &str,
-) -> Result<(), RecordError> {
-    let line = repeated(alloc, text, times)?;
-    let mut all = Vec::new(alloc);
-    push_spans_from_line(line.as_str(), &mut all)?;
-    let mut first = Vec::new(alloc);
-    push_first_spans(line.as_str(), 8, &mut first)?;
-    check_equal(rt, (text, first.len()), (text, count));
-    for span in &first {
-        assert!(rt; span.0.len() <= bytes, "{text:?}");
+/// A line: a text and how many times it is repeated, the number of its first spans, the most bytes
+/// of one of them, and what eight columns show.
+type Row = (&'static str, usize, usize, usize, &'static str);
+
+/// Puts all spans of `line` on a row, as `check_row` does.
+fn check_all(rt: &impl Abort, alloc: Global, line: &str, view: &str) -> Result<usize, RecordError> {
+    let mut spans = Vec::new(alloc);
+    push_spans_from_line(line, &mut spans)?;
+    check_row(rt, alloc, spans.as_slice(), view)
+}
+
+/// Checks that there are as many first spans as `row` says, and that each is short.
+fn check_short(rt: &impl Abort, spans: &[Span<'_>], row: Row) {
+    check_equal(rt, (row.0, spans.len()), (row.0, row.2));
+    for span in spans {
+        check_equal(rt, (row.0, span.0.len() <= row.3), (row.0, true));
     }
-    let columns = check_row(rt, alloc, all.as_slice(), view)?;
-    let first_columns = check_row(rt, alloc, first.as_slice(), view)?;
-    check_equal(rt, (text, 8 < first_columns), (text, 8 < columns));
+}
+
+/// Puts the first spans of `line`, the line of `row`, on a row, as `check_row` does.
+fn check_first(rt: &impl Abort, alloc: Global, line: &str, row: Row) -> Result<usize, RecordError> {
+    let mut spans = Vec::new(alloc);
+    push_first_spans(line, 8, &mut spans)?;
+    check_short(rt, spans.as_slice(), row);
+    check_row(rt, alloc, spans.as_slice(), row.4)
+}
+
+/// Checks that all spans of the line of `row` show the same as the first ones. Those exceed the
+/// columns if all do.
+fn check_line(rt: &impl Abort, alloc: Global, row: Row) -> Result<(), RecordError> {
+    let line = repeated(alloc, row.0, row.1)?;
+    let columns = check_all(rt, alloc, line.as_str(), row.4)?;
+    let first_columns = check_first(rt, alloc, line.as_str(), row)?;
+    check_equal(rt, (row.0, 8 < first_columns), (row.0, 8 < columns));
     Ok(())
 }
 
+/// The lines.
+const ROWS: &[Row] = &[
+    ("", 1, 0, 0, "\"        \"\n"),
+    ("abc\n", 1, 2, 3, "\"abc⏎    \"\n"),
+    ("abcdefgh", 1, 1, 8, "\"abcdefgh\"\n"),
+    ("abcdefgh\n", 1, 2, 8, "\"abcdefgh\"\n"),
+    ("a", 1000, 1, 9, "\"aaaaaaaa\"\n"),
+    ("\t", 1000, 6, 6, "\"→   →   \"\n"),
+    ("ab\t", 1000, 4, 6, "\"ab→   ab\"\n"),
+    ("日", 1000, 1, 15, "\"日日日日\"\n"),
+    ("a日", 1000, 1, 20, "\"a日a日a \"\n"),
+    (
+        "e\u{301}",
+        1000,
+        10,
+        3,
+        "\"e\u{FFFD}e\u{FFFD}e\u{FFFD}e\u{FFFD}\"\n",
+    ),
+    ("🇩🇪", 1000, 1, 40, "\"🇩🇪🇩🇪🇩🇪🇩🇪\"\n"),
+    ("👍🏽", 1000, 1, 40, "\"👍🏽👍🏽👍🏽👍🏽\"\n"),
+    ("─", 1000, 1, 27, "\"────────\"\n"),
+];
+
 #[test]
 fn first_spans_show_what_all_spans_show(rt: HostRuntime) -> Result<(), RecordError> {
-    for (line, spans, view) in [
-        (("", 1), (0, 0), "\"        \"\n"),
-        (("abc\n", 1), (2, 3), "\"abc⏎    \"\n"),
-        (("abcdefgh", 1), (1, 8), "\"abcdefgh\"\n"),
-        (("abcdefgh\n", 1), (2, 8), "\"abcdefgh\"\n"),
-        (("a", 1000), (1, 9), "\"aaaaaaaa\"\n"),
-        (("\t", 1000), (6, 6), "\"→   →   \"\n"),
-        (("ab\t", 1000), (4, 6), "\"ab→   ab\"\n"),
-        (("日", 1000), (1, 15), "\"日日日日\"\n"),
-        (("a日", 1000), (1, 20), "\"a日a日a \"\n"),
-        (
-            ("e\u{301}", 1000),
-            (10, 3),
-            "\"e\u{FFFD}e\u{FFFD}e\u{FFFD}e\u{FFFD}\"\n",
-        ),
-        (("🇩🇪", 1000), (1, 40), "\"🇩🇪🇩🇪🇩🇪🇩🇪\"\n"),
-        (("👍🏽", 1000), (1, 40), "\"👍🏽👍🏽👍🏽👍🏽\"\n"),
-        (("─", 1000), (1, 27), "\"────────\"\n"),
-    ] {
-        check_first(&rt, rt.alloc(), line, spans, view)?;
+    for row in ROWS {
+        check_line(&rt, rt.alloc(), *row)?;
     }
     Ok(())
 }

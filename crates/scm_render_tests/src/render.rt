@@ -358,9 +358,8 @@ fn check_places(rt: &impl Abort, viewport: &Viewport<u8>) {
         width: 3,
         height: 2,
     };
-    for (height, expected) in [(1, None), (3, Some(shown))] {
-        check_equal(rt, viewport.translate_rect(rect(0, 0, 3, height)), expected);
-    }
+    check_equal(rt, viewport.translate_rect(rect(0, 0, 3, 1)), None);
+    check_equal(rt, viewport.translate_rect(rect(0, 0, 3, 3)), Some(shown));
 }
 
 #[test]
@@ -468,17 +467,33 @@ fn check_masked(
     check_drawing(rt, viewport, expected)
 }
 
+/// A column and a row, a text that is drawn there, and its columns.
+type Masked = (isize, isize, &'static str, usize);
+
+/// Texts of which a mask shows three columns.
+const MASKED: &[Masked] = &[
+    (0, 0, "abcdef", 6),
+    (1, 1, "日本", 4),
+    (0, 2, "a日本", 5),
+    (2, 3, "日本", 4),
+];
+
+/// Draws the text of `row`, and checks its rectangle.
+fn check_span(
+    rt: &impl Abort,
+    viewport: &mut Viewport<u8>,
+    row: Masked,
+) -> Result<(), RecordError> {
+    let drawn = draw_span(rt, viewport, row.0, row.1, &Span(row.2))?;
+    check_equal(rt, drawn, rect(row.0, row.1, row.3, 1));
+    Ok(())
+}
+
 #[test]
 fn masked_spans(rt: HostRuntime) -> Result<(), RecordError> {
     let mut viewport = masked_viewport(&rt, rt.alloc(), 4)?;
-    for (x, y, text, width) in [
-        (0, 0, "abcdef", 6),
-        (1, 1, "日本", 4),
-        (0, 2, "a日本", 5),
-        (2, 3, "日本", 4),
-    ] {
-        let drawn = draw_span(&rt, &mut viewport, x, y, &Span(text))?;
-        check_equal(&rt, drawn, rect(x, y, width, 1));
+    for row in MASKED {
+        check_span(&rt, &mut viewport, *row)?;
     }
     let expected = "\"  cde \"\n\"   本 \"\n\"   本 \"\n\"  日  \"\n";
     check_masked(&rt, viewport, expected)
@@ -525,34 +540,33 @@ fn check_frame(
     check_drawing(rt, viewport, expected)
 }
 
+/// Columns and rows of frames, and what they show.
+const FRAMES: &[(u16, u16, &str)] = &[
+    (10, 2, "\"┌Quit────┐\"\n\"└────────┘\"\n"),
+    (1, 1, "\"┌\"\n"),
+    (1, 2, "\"┌\"\n\"└\"\n"),
+    (2, 1, "\"┌┐\"\n"),
+    (0, 0, ""),
+    (0, 2, ""),
+    (3, 3, "\"┌Q┐\"\n\"│b│\"\n\"└─┘\"\n"),
+];
+
 #[test]
 fn frames(rt: HostRuntime) -> Result<(), RecordError> {
-    let alloc = rt.alloc();
-    for (width, height, expected) in [
-        (10, 2, "\"┌Quit────┐\"\n\"└────────┘\"\n"),
-        (1, 1, "\"┌\"\n"),
-        (1, 2, "\"┌\"\n\"└\"\n"),
-        (2, 1, "\"┌┐\"\n"),
-        (0, 0, ""),
-        (0, 2, ""),
-        (3, 3, "\"┌Q┐\"\n\"│b│\"\n\"└─┘\"\n"),
-    ] {
-        check_frame(&rt, alloc, width, height, expected)?;
+    for (width, height, expected) in FRAMES {
+        check_frame(&rt, rt.alloc(), *width, *height, *expected)?;
     }
     Ok(())
 }
 
-/// Draws a frame at column `x` and row `y` under `mask`, its first column and its number of
-/// columns. Checks that the screen shows `expected`.
-fn check_masked_frame(
+/// Returns a viewport of six columns and two rows under a mask of `width` columns from column
+/// `left`.
+fn viewport_under(
     rt: &impl Abort,
     alloc: Global,
-    mask: (isize, usize),
-    x: isize,
-    y: isize,
-    expected: &str,
-) -> Result<(), RecordError> {
-    let (left, width) = mask;
+    left: isize,
+    width: usize,
+) -> Result<Viewport<u8>, RecordError> {
     assert!(rt; 0 <= left);
     assert!(rt; left <= 100);
     assert!(rt; width <= 100);
@@ -564,21 +578,33 @@ fn check_masked_frame(
         height: None,
     };
     let _ = viewport.swap_mask(Some(mask));
-    let drawn = draw_frame(rt, &mut viewport, x, y)?;
-    check_equal(rt, drawn, rect(x, y, 6, 3));
-    check_drawing(rt, viewport, expected)
+    Ok(viewport)
 }
+
+/// A mask's first column and its number of columns, a frame's column and row, and what the screen
+/// shows.
+type MaskedFrame = (isize, usize, isize, isize, &'static str);
+
+/// Draws the frame of `row` under its mask, and checks the screen.
+fn check_masked_frame(rt: &impl Abort, alloc: Global, row: MaskedFrame) -> Result<(), RecordError> {
+    let mut viewport = viewport_under(rt, alloc, row.0, row.1)?;
+    let drawn = draw_frame(rt, &mut viewport, row.2, row.3)?;
+    check_equal(rt, drawn, rect(row.2, row.3, 6, 3));
+    check_drawing(rt, viewport, row.4)
+}
+
+/// A frame that begins off the screen, one that ends off it, and two that the mask clips.
+const MASKED_FRAMES: &[MaskedFrame] = &[
+    (0, 6, -2, -1, "\"ody│  \"\n\"───┘  \"\n"),
+    (0, 6, 3, 1, "\"      \"\n\"   ┌Qu\"\n"),
+    (1, 3, 0, 0, "\" Qui  \"\n\" bod  \"\n"),
+    (2, 0, 0, 0, "\"      \"\n\"      \"\n"),
+];
 
 #[test]
 fn masked_frames(rt: HostRuntime) -> Result<(), RecordError> {
-    // a frame that begins off the screen, one that ends off it, and two that the mask clips
-    for (mask, x, y, expected) in [
-        ((0, 6), -2, -1, "\"ody│  \"\n\"───┘  \"\n"),
-        ((0, 6), 3, 1, "\"      \"\n\"   ┌Qu\"\n"),
-        ((1, 3), 0, 0, "\" Qui  \"\n\" bod  \"\n"),
-        ((2, 0), 0, 0, "\"      \"\n\"      \"\n"),
-    ] {
-        check_masked_frame(&rt, rt.alloc(), mask, x, y, expected)?;
+    for row in MASKED_FRAMES {
+        check_masked_frame(&rt, rt.alloc(), *row)?;
     }
     Ok(())
 }
@@ -654,24 +680,31 @@ fn sample_column(alloc: Global) -> Result<Column, AllocError> {
     Ok(Column { id: 1, captions })
 }
 
+/// What `sample_column` shows.
+const CAPTIONS: &str = "\"日    \"\n\"abcde…\"\n\"      \"\n\"      \"\n";
+
+/// The boxes of `sample_column`: the id, the row, the columns, the rows, and the rank.
+const BOXES: &[(u8, isize, usize, usize, usize)] = &[
+    (1, 0, 8, 2, 0),
+    (2, 0, 2, 1, 1),
+    (3, 1, 8, 1, 2),
+    (4, 0, 0, 0, 3),
+];
+
+/// Checks the boxes of `sample_column`.
+fn check_boxes(rt: &impl Abort, drawn: &DrawnRects<u8>) {
+    for (id, y, width, height, rank) in BOXES {
+        check_box(rt, drawn, *id, (rect(0, *y, *width, *height), *rank));
+    }
+}
+
 #[test]
 fn rows_of_captions(rt: HostRuntime) -> Result<(), RecordError> {
     let alloc = rt.alloc();
     let mut grid = Grid::new(alloc, 6, 4)?;
     let drawn = render_column(&rt, alloc, &mut grid, &sample_column(alloc)?)?;
-    for (id, expected) in [
-        (1, (rect(0, 0, 8, 2), 0)),
-        (2, (rect(0, 0, 2, 1), 1)),
-        (3, (rect(0, 1, 8, 1), 2)),
-        (4, (rect(0, 0, 0, 0), 3)),
-    ] {
-        check_box(&rt, &drawn, id, expected);
-    }
-    check_view(
-        &rt,
-        &grid,
-        "\"日    \"\n\"abcde…\"\n\"      \"\n\"      \"\n",
-    )
+    check_boxes(&rt, &drawn);
+    check_view(&rt, &grid, CAPTIONS)
 }
 
 /// Returns a thousand texts with two hundred ids.
@@ -777,16 +810,28 @@ fn long_body(alloc: Global) -> Result<Vec<&'static str>, AllocError> {
     Ok(body)
 }
 
+/// Columns and rows.
+const SIZES: &[(u16, u16)] = &[(0, 0), (0, 9), (9, 0), (1, 1), (5000, 5000)];
+
+/// Fills rectangles of each size.
+fn check_all_filled(
+    rt: &impl Abort,
+    viewport: &mut Viewport<u8>,
+    body: &[&str],
+) -> Result<(), RecordError> {
+    for (width, height) in SIZES {
+        check_filled(rt, viewport, *width, *height, body)?;
+    }
+    Ok(())
+}
+
 #[test]
 fn frames_of_any_size_are_drawn(rt: HostRuntime) -> Result<(), RecordError> {
     let alloc = rt.alloc();
     let mut viewport = viewport_at(alloc, 0, 0, 6, 2)?;
     let body = long_body(alloc)?;
-    for (width, height) in [(0, 0), (0, 9), (9, 0), (1, 1), (5000, 5000)] {
-        check_filled(&rt, &mut viewport, width, height, &[])?;
-        check_filled(&rt, &mut viewport, width, height, body.as_slice())?;
-    }
-    Ok(())
+    check_all_filled(&rt, &mut viewport, &[])?;
+    check_all_filled(&rt, &mut viewport, body.as_slice())
 }
 
 #[test]
@@ -799,64 +844,91 @@ fn components_are_drawn_without_places(rt: HostRuntime) -> Result<(), RecordErro
     Ok(())
 }
 
+/// Boxes: the number, the column, the row, the columns, the rows, and the rank.
+const SPOTS: &[(u8, isize, isize, usize, usize, usize)] = &[
+    (0, 0, 0, 9, 9, 4),
+    (1, 0, 0, 4, 2, 1),
+    (2, 2, 1, 4, 2, 3),
+    (3, 3, 1, 0, 2, 5),
+];
+
+/// Returns the boxes of `SPOTS`.
+fn spots(alloc: Global) -> Result<DrawnRects<Spot>, RecordError> {
+    let mut boxes: DrawnRects<Spot> = DrawnRects::new(alloc);
+    for (number, x, y, width, height, timestamp) in SPOTS {
+        let drawn = DrawnRect {
+            rect: rect(*x, *y, *width, *height),
+            timestamp: *timestamp,
+        };
+        let _ = boxes.insert(Spot { number: *number }, drawn)?;
+    }
+    Ok(boxes)
+}
+
+/// Rows and columns, and the number of the box that a click there hits, if any.
+const CLICKS: &[(isize, isize, Option<u8>)] = &[
+    (0, 0, Some(1)),
+    (1, 2, Some(2)),
+    (1, 3, Some(2)),
+    (2, 5, Some(2)),
+    (2, 6, None),
+    (8, 8, None),
+    (-1, 0, None),
+];
+
+/// Checks what clicks hit.
+fn check_targets(rt: &impl Abort, boxes: &DrawnRects<Spot>) {
+    for (y, x, expected) in CLICKS {
+        let found = target_at(boxes, *y, *x);
+        check_equal(rt, found.map(|spot| spot.number), *expected);
+    }
+}
+
 #[test]
 fn targets(rt: HostRuntime) -> Result<(), RecordError> {
-    let mut boxes: DrawnRects<Spot> = DrawnRects::new(rt.alloc());
-    for (number, rect, timestamp) in [
-        (0, rect(0, 0, 9, 9), 4),
-        (1, rect(0, 0, 4, 2), 1),
-        (2, rect(2, 1, 4, 2), 3),
-        (3, rect(3, 1, 0, 2), 5),
-    ] {
-        let spot = Spot { number };
-        let _ = boxes.insert(spot, DrawnRect { rect, timestamp })?;
-    }
-    for (y, x, expected) in [
-        (0, 0, Some(1)),
-        (1, 2, Some(2)),
-        (1, 3, Some(2)),
-        (2, 5, Some(2)),
-        (2, 6, None),
-        (8, 8, None),
-        (-1, 0, None),
-    ] {
-        let found = target_at(&boxes, y, x);
-        check_equal(&rt, found.map(|spot| spot.number), expected);
-    }
+    check_targets(&rt, &spots(rt.alloc())?);
     Ok(())
 }
+
+/// Rows and columns, whether a box has the place, and whether the column is one of the box's.
+const HELD: &[(isize, isize, (bool, bool))] = &[
+    (2, -1, (true, true)),
+    (2, 1, (true, true)),
+    (2, 2, (false, false)),
+    (1, 0, (false, true)),
+    (3, -2, (false, false)),
+    (isize::MAX, isize::MIN, (false, false)),
+];
 
 #[test]
 fn places_in_boxes(rt: HostRuntime) {
     let held = rect(-1, 2, 3, 1);
-    for (y, x, expected) in [
-        (2, -1, (true, true)),
-        (2, 1, (true, true)),
-        (2, 2, (false, false)),
-        (1, 0, (false, true)),
-        (3, -2, (false, false)),
-        (isize::MAX, isize::MIN, (false, false)),
-    ] {
-        let found = (holds(held, y, x), is_among(held.x, held.width, x));
-        check_equal(&rt, (y, x, found), (y, x, expected));
+    for (y, x, expected) in HELD {
+        let found = (holds(held, *y, *x), is_among(held.x, held.width, *x));
+        check_equal(&rt, (*y, *x, found), (*y, *x, *expected));
     }
 }
 
-/// Returns the entry of an empty box with the id `id`, of component `timestamp`.
-fn entry(id: u8, timestamp: usize) -> (u8, DrawnRect) {
+/// Returns the entry of an empty box with an id, of a component with a rank.
+fn entry(of: (u8, usize)) -> (u8, DrawnRect) {
     let rect = rect(0, 0, 0, 0);
-    (id, DrawnRect { rect, timestamp })
+    let timestamp = of.1;
+    (of.0, DrawnRect { rect, timestamp })
 }
+
+/// The ids and ranks of the later box so far, if any, and of the next one, and the id of the later
+/// of both.
+const LATER: &[(Option<(u8, usize)>, (u8, usize), u8)] = &[
+    (None, (1, 4), 1),
+    (Some((1, 4)), (2, 5), 2),
+    (Some((1, 4)), (2, 3), 1),
+    (Some((1, 4)), (2, 4), 2),
+];
 
 #[test]
 fn later_boxes(rt: HostRuntime) {
-    for (found, next, expected) in [
-        (None, entry(1, 4), 1),
-        (Some(entry(1, 4)), entry(2, 5), 2),
-        (Some(entry(1, 4)), entry(2, 3), 1),
-        (Some(entry(1, 4)), entry(2, 4), 2),
-    ] {
-        let later = later_of(found, next);
-        check_equal(&rt, later.map(|(id, _)| id), Some(expected));
+    for (found, next, expected) in LATER {
+        let later = later_of(found.map(|of| entry(of)), entry(*next));
+        check_equal(&rt, later.map(|(id, _)| id), Some(*expected));
     }
 }

@@ -6,7 +6,7 @@ use scm_types::{
 use std::alloc::Global;
 
 /// The texts of lines.
-const DIGITS: [&str; 10] = [
+const DIGITS: &[&str] = &[
     "0\n", "1\n", "2\n", "3\n", "4\n", "5\n", "6\n", "7\n", "8\n", "9\n",
 ];
 

@@ -128,7 +128,7 @@ pub enum Held {
 }
 
 /// All contents of sample files.
-pub const HELD: [Held; 7] = [
+pub const HELD: &[Held] = &[
     Held::Nothing,
     Held::NoContext,
     Held::NoChanges,

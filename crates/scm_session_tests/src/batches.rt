@@ -2,6 +2,7 @@
 use crate::checks::check_equal;
 use crate::given::state_of;
 use crate::scripts::{ACCEPT, EDIT, FAR, HELLO, INNER, Read, TOGGLE, outcome_of, reads_of, words};
+use crate::sessions::waiting_of;
 use scm_record::{
     Event, FileKey, LineKey, LiveSession, RecordError, Screens, ScriptEdit, ScriptInput,
     SectionKey, SelectionKey, TerminalKind, Turn,
@@ -41,7 +42,7 @@ const MESSAGES: usize = 4;
 const WAITS: &'static str = "waits";
 
 /// Sessions that end: a run with the same batches has the same outcome.
-const ENDED: [Row; 26] = [
+const ENDED: &[Row] = &[
     // all events of a batch are handled, in order
     (
         None,
@@ -153,7 +154,7 @@ const ENDED: [Row; 26] = [
 ];
 
 /// Sessions that wait for an event.
-const WAITING: [&'static [&'static [Event]]; 4] = [
+const WAITING: &[&[&[Event]]] = &[
     &[&[]],
     &[&[], &[TOGGLE, FAR]],
     &[&[FAR, FAR]],
@@ -216,13 +217,23 @@ fn turn_words(
     }
 }
 
-/// Checks the outcome of a session on the batches of `row`.
-fn check_live(rt: &impl Abort, alloc: Global, row: Row) -> Result<(), RecordError> {
-    let (message, batches, wanted) = row;
-    let session = session_of(rt, alloc, message)?;
+/// Checks the outcome of `session` on `batches`.
+fn check_pressed(
+    rt: &impl Abort,
+    alloc: Global,
+    session: LiveSession<'static>,
+    batches: &[&[Event]],
+    wanted: &str,
+) -> Result<(), RecordError> {
     let text = turn_words(alloc, pressed(alloc, session, batches))?;
     check_equal(rt, text.as_str(), wanted);
     Ok(())
+}
+
+/// Checks the outcome of a session on the batches of `row`.
+fn check_live(rt: &impl Abort, alloc: Global, row: Row) -> Result<(), RecordError> {
+    let session = session_of(rt, alloc, row.0)?;
+    check_pressed(rt, alloc, session, row.1, row.2)
 }
 
 /// Returns an input of `reads` in which each message becomes `bye`.
@@ -234,29 +245,32 @@ fn bye_script(alloc: Global, reads: &[Read]) -> Result<ScriptInput, RecordError>
     ScriptInput::new(alloc, 80, 24, reads_of(alloc, reads)?, edits)
 }
 
-/// Checks the outcome of a run on the batches of `row`.
-fn check_run(rt: &impl Abort, alloc: Global, row: Row) -> Result<(), RecordError> {
-    let (message, batches, wanted) = row;
+/// Returns an input of `batches` in which each message becomes `bye`.
+fn script_of(alloc: Global, batches: &[&'static [Event]]) -> Result<ScriptInput, RecordError> {
     let mut reads = Vec::new(alloc);
     for batch in batches {
-        reads.push(Read::Batch(batch))?;
+        reads.push(Read::Batch(*batch))?;
     }
-    let mut input = bye_script(alloc, &reads)?;
+    bye_script(alloc, reads.as_slice())
+}
+
+/// Checks the outcome of a run on the batches of `row`.
+fn check_run(rt: &impl Abort, alloc: Global, row: Row) -> Result<(), RecordError> {
+    let mut input = script_of(alloc, row.1)?;
     let mut screens = Screens::new(alloc);
-    let text = outcome_of(rt, alloc, message, &mut input, &mut screens)?;
-    check_equal(rt, text.as_str(), wanted);
+    let text = outcome_of(rt, alloc, row.0, &mut input, &mut screens)?;
+    check_equal(rt, text.as_str(), row.2);
     Ok(())
 }
 
 #[test]
 fn batches_are_reads_of_a_run(rt: HostRuntime) -> Result<(), RecordError> {
-    let alloc = rt.alloc();
     for row in ENDED {
-        check_live(&rt, alloc, row)?;
-        check_run(&rt, alloc, row)?;
+        check_live(&rt, rt.alloc(), *row)?;
+        check_run(&rt, rt.alloc(), *row)?;
     }
     for batches in WAITING {
-        check_live(&rt, alloc, (HELLO, batches, WAITS))?;
+        check_live(&rt, rt.alloc(), (HELLO, *batches, WAITS))?;
     }
     Ok(())
 }
@@ -293,7 +307,7 @@ type Jump = (
 const TOGGLED: &'static [&'static [Event]] = &[&[TOGGLE], &[ACCEPT]];
 
 /// The jumps. If a key cannot be selected, the selection stays on the file.
-const JUMPS: [Jump; 9] = [
+const JUMPS: &[Jump] = &[
     (&[], SECOND, TOGGLED, "accepted 01"),
     (&[], SelectionKey::Line(FIRST), TOGGLED, "accepted 10"),
     // the section is unfolded, and so is the file: the next item is the first line
@@ -340,24 +354,39 @@ const JUMPS: [Jump; 9] = [
     ),
 ];
 
-/// Checks the outcome of a session with a jump, and whether it selects the key.
-fn check_jump(rt: &impl Abort, alloc: Global, row: Jump) -> Result<(), RecordError> {
-    let (before, key, after, wanted) = row;
-    let Turn::Waiting(session) = pressed(alloc, session_of(rt, alloc, None)?, before)? else {
-        panic!(rt; "the session waits for no event");
-    };
+/// Returns the session after the batches before the jump.
+fn session_before(
+    rt: &impl Abort,
+    alloc: Global,
+    batches: &[&[Event]],
+) -> Result<LiveSession<'static>, RecordError> {
+    let session = session_of(rt, alloc, None)?;
+    Ok(waiting_of(rt, pressed(alloc, session, batches)?))
+}
+
+/// Jumps to `key`, and checks whether `session` selects it.
+fn select(
+    rt: &impl Abort,
+    session: LiveSession<'static>,
+    key: SelectionKey,
+) -> Result<LiveSession<'static>, RecordError> {
     let can_select = session.can_select(key);
     let session = session.select(key)?;
     check_equal(rt, session.view_state().selection == key, can_select);
-    let text = turn_words(alloc, pressed(alloc, session, after))?;
-    check_equal(rt, text.as_str(), wanted);
-    Ok(())
+    Ok(session)
+}
+
+/// Checks the outcome of a session with a jump, and whether it selects the key.
+fn check_jump(rt: &impl Abort, alloc: Global, row: Jump) -> Result<(), RecordError> {
+    let session = session_before(rt, alloc, row.0)?;
+    let session = select(rt, session, row.1)?;
+    check_pressed(rt, alloc, session, row.2, row.3)
 }
 
 #[test]
 fn a_key_is_selected_at_once(rt: HostRuntime) -> Result<(), RecordError> {
     for row in JUMPS {
-        check_jump(&rt, rt.alloc(), row)?;
+        check_jump(&rt, rt.alloc(), *row)?;
     }
     Ok(())
 }

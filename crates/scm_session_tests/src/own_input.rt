@@ -3,7 +3,7 @@
 use crate::checks::check_equal;
 use crate::copying::Copying;
 use crate::given::{Messages, run, state_of};
-use scm_record::{Event, RecordError, RecordInput, Screens, TestingScreenshot};
+use scm_record::{Event, RecordError, RecordInput, RecordState, Screens, TestingScreenshot};
 use std::alloc::Global;
 use std::process::Abort;
 
@@ -24,7 +24,7 @@ const SECOND: Event = Event::Click { row: 2, column: 45 };
 type Asking = (Messages, &'static [Event], Option<&'static str>, usize);
 
 /// The rows of the table. Without a message no edit is asked for.
-const ASKINGS: [Asking; 6] = [
+const ASKINGS: &[Asking] = &[
     (
         (Some("hello"), Some("there")),
         &[EDIT, ACCEPT],
@@ -48,22 +48,37 @@ const ASKINGS: [Asking; 6] = [
     ((Some("hello"), None), &[BOTH, SECOND, ACCEPT], None, 0),
 ];
 
-/// Checks whether an edit is asked for, and with which message.
-fn check_asking(rt: &impl Abort, alloc: Global, row: Asking) -> Result<(), RecordError> {
-    let (messages, events, wanted, left) = row;
-    let mut input = Copying::new(alloc, 80, 24, events)?;
-    let outcome = run(rt, alloc, messages, &mut input, &mut Screens::new(alloc));
-    check_equal(rt, outcome.is_ok(), wanted.is_none());
+/// Runs `input`, and returns whether the run ends without an error.
+fn is_accepted(
+    rt: &impl Abort,
+    alloc: Global,
+    messages: Messages,
+    input: &mut dyn RecordInput,
+) -> bool {
+    let mut screens = Screens::new(alloc);
+    run(rt, alloc, messages, input, &mut screens).is_ok()
+}
+
+/// Checks which message `input` was asked to edit, if any.
+fn check_asked(rt: &impl Abort, input: &Copying, wanted: Option<&str>) {
     let asked = input.asked.as_ref().map(|message| message.as_str());
     check_equal(rt, asked, wanted);
-    check_equal(rt, input.batches_left(), left);
+}
+
+/// Checks whether an edit is asked for, and with which message.
+fn check_asking(rt: &impl Abort, alloc: Global, row: Asking) -> Result<(), RecordError> {
+    let mut input = Copying::new(alloc, 80, 24, row.1)?;
+    let is_accepted = is_accepted(rt, alloc, row.0, &mut input);
+    check_equal(rt, is_accepted, row.2.is_none());
+    check_asked(rt, &input, row.2);
+    check_equal(rt, input.batches_left(), row.3);
     Ok(())
 }
 
 #[test]
 fn an_edit_is_asked_with_the_message(rt: HostRuntime) -> Result<(), RecordError> {
     for row in ASKINGS {
-        check_asking(&rt, rt.alloc(), row)?;
+        check_asking(&rt, rt.alloc(), *row)?;
     }
     Ok(())
 }
@@ -89,30 +104,57 @@ const SCREEN: &str = r#""[File] [Edit] [Select] ["
 const ABSENT: &str = "<this screenshot was never assigned>";
 
 /// The events: the file is opened, a screenshot taken, and the message edited.
-const EVENTS: [Event; 4] = [
+const EVENTS: &[Event] = &[
     Event::FocusInner,
     Event::TakeScreenshot(TestingScreenshot { place: 0 }),
     EDIT,
     ACCEPT,
 ];
 
-/// Runs the events, and checks the screenshot, which may be missing if the run ends in a fault.
-/// Checks that the accepted state has the new message.
-fn check_run(rt: &impl Abort, alloc: Global) -> Result<(), RecordError> {
-    let mut input = Copying::new(alloc, 24, 8, &EVENTS)?;
+/// Returns an input of the events, and of an answer.
+fn input_of(alloc: Global) -> Result<Copying, RecordError> {
+    let mut input = Copying::new(alloc, 24, 8, EVENTS)?;
     input.answers.push_back(String::from_str(alloc, "bye")?)?;
-    let mut screens = Screens::new(alloc);
-    let shot = screens.place()?;
-    let outcome = run(rt, alloc, HELLO, &mut input, &mut screens);
-    let text = screens.text(shot);
-    let expected = if outcome.is_err() && text == ABSENT {
+    Ok(input)
+}
+
+/// Checks the screenshot `text`, which may be missing if the run ends in a fault.
+fn check_shot(rt: &impl Abort, text: &str, is_fault: bool) {
+    let expected = if is_fault && text == ABSENT {
         ABSENT
     } else {
         SCREEN
     };
     check_equal(rt, text, expected);
-    check_equal(rt, &outcome?, &state_of(alloc, BYE)?);
+}
+
+/// Checks that `state` has the new message.
+fn check_state(
+    rt: &impl Abort,
+    alloc: Global,
+    state: &RecordState<'static>,
+) -> Result<(), RecordError> {
+    check_equal(rt, state, &state_of(alloc, BYE)?);
     Ok(())
+}
+
+/// Runs `input`, and checks the screenshot and the accepted state.
+fn check_input(
+    rt: &impl Abort,
+    alloc: Global,
+    input: &mut dyn RecordInput,
+) -> Result<(), RecordError> {
+    let mut screens = Screens::new(alloc);
+    let shot = screens.place()?;
+    let outcome = run(rt, alloc, HELLO, input, &mut screens);
+    check_shot(rt, screens.text(shot), outcome.is_err());
+    check_state(rt, alloc, &outcome?)
+}
+
+/// Runs the events.
+fn check_run(rt: &impl Abort, alloc: Global) -> Result<(), RecordError> {
+    let mut input = input_of(alloc)?;
+    check_input(rt, alloc, &mut input)
 }
 
 /// `tools/refuse-memory` runs this test with each of its requests for memory refused.

@@ -32,6 +32,14 @@ pub(crate) fn reads_of(alloc: Global, given: &[Read]) -> Result<Vec<ScriptRead>,
     Ok(reads)
 }
 
+/// Returns two edits: the answer `bye`, and then the fault `gone`.
+fn two_edits(alloc: Global) -> Result<Vec<ScriptEdit>, RecordError> {
+    let mut edits = Vec::new(alloc);
+    edits.push(ScriptEdit::Answer(String::from_str(alloc, "bye")?))?;
+    edits.push(ScriptEdit::Fault(String::from_str(alloc, "gone")?))?;
+    Ok(edits)
+}
+
 /// Returns an input of the reads `given`, and of two edits: the answer `bye`, and then the fault
 /// `gone`.
 pub(crate) fn script(
@@ -40,9 +48,7 @@ pub(crate) fn script(
     height: usize,
     given: &[Read],
 ) -> Result<ScriptInput, RecordError> {
-    let mut edits = Vec::new(alloc);
-    edits.push(ScriptEdit::Answer(String::from_str(alloc, "bye")?))?;
-    edits.push(ScriptEdit::Fault(String::from_str(alloc, "gone")?))?;
+    let edits = two_edits(alloc)?;
     ScriptInput::new(alloc, width, height, reads_of(alloc, given)?, edits)
 }
 
@@ -173,7 +179,7 @@ const MENU: Event = Event::Click { row: 0, column: 15 };
 const ITEM: Event = Event::Click { row: 2, column: 15 };
 
 /// The rows of the table.
-const ROWS: [Row; 13] = [
+const ROWS: &[Row] = &[
     // events after the accepting one are not handled, and the next read is left
     (
         HELLO,
@@ -329,19 +335,18 @@ fn check_outcome(
 
 /// Runs `row` and checks it.
 fn check_row(rt: &impl Abort, alloc: Global, row: Row) -> Result<(), RecordError> {
-    let (message, reads, wanted, frames, left, next) = row;
-    let mut input = script(alloc, 80, 24, reads)?;
-    check_equal(rt, input.batches_left(), reads.len());
-    check_outcome(rt, alloc, message, &mut input, (wanted, frames))?;
-    check_equal(rt, (wanted, input.batches_left()), (wanted, left));
-    check_next(rt, alloc, &mut input, next)?;
+    let mut input = script(alloc, 80, 24, row.1)?;
+    check_equal(rt, input.batches_left(), row.1.len());
+    check_outcome(rt, alloc, row.0, &mut input, (row.2, row.3))?;
+    check_equal(rt, (row.2, input.batches_left()), (row.2, row.4));
+    check_next(rt, alloc, &mut input, row.5)?;
     Ok(())
 }
 
 #[test]
 fn a_script_keeps_what_is_left(rt: HostRuntime) -> Result<(), RecordError> {
     for row in ROWS {
-        check_row(&rt, rt.alloc(), row)?;
+        check_row(&rt, rt.alloc(), *row)?;
     }
     Ok(())
 }

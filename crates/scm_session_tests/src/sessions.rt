@@ -5,7 +5,7 @@ use std::alloc::Global;
 use std::process::Abort;
 
 /// The events of letters. The capitals `A` to `D` open a menu.
-const EVENTS: [(char, Event); 15] = [
+const EVENTS: &[(char, Event)] = &[
     ('l', Event::FocusInner),
     ('h', Event::FocusOuter { fold_section: true }),
     ('j', Event::FocusNext),
@@ -26,8 +26,8 @@ const EVENTS: [(char, Event); 15] = [
 /// Returns the event of `letter`, or `None` for `-`.
 fn event_of(letter: char) -> Event {
     for (name, event) in EVENTS {
-        if name == letter {
-            return event;
+        if *name == letter {
+            return *event;
         }
     }
     Event::None

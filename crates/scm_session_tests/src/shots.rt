@@ -25,7 +25,7 @@ const DOWN: Event = Event::ScrollDown;
 type Row = (&'static [Read], &'static str, &'static str);
 
 /// The runs, all over one store.
-const ROWS: [Row; 4] = [
+const ROWS: &[Row] = &[
     (
         &[OPEN, Read::Batch(&[]), SHOT, ACCEPT],
         "accepted 00",
@@ -57,11 +57,10 @@ fn check_row(
     shot: TestingScreenshot,
     row: Row,
 ) -> Result<(), RecordError> {
-    let (reads, wanted, text) = row;
-    let mut input = script(alloc, 3, 3, reads)?;
+    let mut input = script(alloc, 3, 3, row.0)?;
     let outcome = outcome_of(rt, alloc, None, &mut input, screens)?;
-    check_equal(rt, outcome.as_str(), wanted);
-    check_equal(rt, screens.text(shot), text);
+    check_equal(rt, outcome.as_str(), row.1);
+    check_equal(rt, screens.text(shot), row.2);
     Ok(())
 }
 
@@ -70,7 +69,7 @@ fn screenshots_are_kept_at_their_places(rt: HostRuntime) -> Result<(), RecordErr
     let mut screens = Screens::new(rt.alloc());
     let first = screens.place()?;
     for row in ROWS {
-        check_row(&rt, rt.alloc(), &mut screens, first, row)?;
+        check_row(&rt, rt.alloc(), &mut screens, first, *row)?;
     }
     // a move has two frames, each other read one
     check_equal(&rt, screens.frames(), 5 + 5 + 5 + 4);

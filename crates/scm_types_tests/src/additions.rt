@@ -58,7 +58,7 @@ enum Given {
 
 /// All additions: two commits, and a file with lines in three sections, its deletion and a binary
 /// change.
-const GIVEN: [Given; 12] = [
+const GIVEN: &[Given] = &[
     Given::Commit(Some("m")),
     Given::Commit(None),
     Given::File,
@@ -101,7 +101,7 @@ fn addition_of(given: Given) -> Addition<'static> {
 }
 
 /// The sections of the file that the additions make.
-const PARTS: [parts::Part; 5] = [
+const PARTS: &[parts::Part] = &[
     parts::Part::Context(&["a\n", "\n", "b\n"]),
     parts::Part::Changes(&[
         (true, REMOVED, "c\n"),
@@ -115,7 +115,7 @@ const PARTS: [parts::Part; 5] = [
 
 /// Returns the file that the additions make.
 fn file_made(alloc: Global) -> Result<File<'static>, RecordError> {
-    parts::file_with_parts(alloc, DEFAULT, &PARTS)
+    parts::file_with_parts(alloc, DEFAULT, PARTS)
 }
 
 /// Returns the state that the additions make.
@@ -142,7 +142,7 @@ fn add(
 fn builder_made(alloc: Global) -> Result<StateBuilder, BuildError> {
     let mut builder = StateBuilder::new(alloc, true);
     for given in GIVEN {
-        add(alloc, &mut builder, addition_of(given))?;
+        add(alloc, &mut builder, addition_of(*given))?;
     }
     Ok(builder)
 }
@@ -196,24 +196,87 @@ fn refused_additions_leave_the_state(rt: HostRuntime) -> Result<(), Fail> {
     Ok(())
 }
 
+/// A file, one of its sections and one of that section's lines, counted from 0, and the mark of the
+/// innermost one that is given.
+type Marked = (usize, Option<usize>, Option<usize>, Option<Tristate>);
+
+/// Items of the state that the additions make, and items that it does not have.
+const MARKED: &[Marked] = &[
+    (0, None, None, Some(Tristate::Partial)),
+    (0, Some(2), None, Some(Tristate::True)),
+    (0, Some(1), Some(0), Some(Tristate::True)),
+    (0, Some(1), Some(1), Some(Tristate::False)),
+    (0, Some(0), Some(0), None),
+    (0, Some(5), None, None),
+    (1, None, None, None),
+];
+
+/// Checks the mark of the item of `state` that `row` names.
+fn check_mark(rt: &impl Abort, state: &RecordState<'_>, row: &Marked) {
+    check_equal(rt, &mark_of(state, row.0, row.1, row.2), &row.3);
+}
+
 #[test]
 fn items_have_their_marks(rt: HostRuntime) -> Result<(), Fail> {
     let state = state_made(rt.alloc())?;
-    check_equal(&rt, mark_of(&state, 0, None, None), Some(Tristate::Partial));
-    check_equal(&rt, mark_of(&state, 0, Some(2), None), Some(Tristate::True));
-    check_equal(
-        &rt,
-        mark_of(&state, 0, Some(1), Some(0)),
-        Some(Tristate::True),
-    );
-    check_equal(
-        &rt,
-        mark_of(&state, 0, Some(1), Some(1)),
-        Some(Tristate::False),
-    );
-    check_equal(&rt, mark_of(&state, 0, Some(0), Some(0)), None);
-    check_equal(&rt, mark_of(&state, 0, Some(5), None), None);
-    check_equal(&rt, mark_of(&state, 1, None, None), None);
+    for row in MARKED {
+        check_mark(&rt, &state, row);
+    }
+    Ok(())
+}
+
+/// The marks of the file that the additions make, handed in as bytes, and the section and the line of
+/// which one mark is asked then, with that mark.
+type HandedIn = (&'static [u8], usize, Option<usize>, Option<Tristate>);
+
+/// Marks that fit. Any byte but 1 is of an item that is not checked.
+const HANDED_IN: &[HandedIn] = &[
+    (&[0, 0, 0, 0, 0, 0], 1, None, Some(Tristate::False)),
+    (&[0, 1, 0, 0, 0, 0], 1, None, Some(Tristate::Partial)),
+    (&[2, 1, 0, 0, 0, 0], 1, Some(0), Some(Tristate::False)),
+    (&[1, 1, 1, 0, 0, 0], 2, Some(0), Some(Tristate::False)),
+    (&[0, 0, 0, 1, 1, 0], 3, None, Some(Tristate::True)),
+    (&[0, 0, 0, 0, 0, 1], 4, None, Some(Tristate::True)),
+];
+
+/// Hands in the marks of `row`, and checks one of them.
+fn check_handed_in(rt: &impl Abort, builder: &mut StateBuilder, row: &HandedIn) {
+    check_equal(rt, builder.set_marks(0, row.0), true);
+    let mark = mark_of(builder.state(), 0, Some(row.1), row.2);
+    check_equal(rt, (row.0, &mark), (row.0, &row.3));
+}
+
+#[test]
+fn marks_are_handed_in(rt: HostRuntime) -> Result<(), Fail> {
+    let mut builder = builder_made(rt.alloc())?;
+    for row in HANDED_IN {
+        check_handed_in(&rt, &mut builder, row);
+    }
+    Ok(())
+}
+
+/// Files, and marks that do not fit them.
+const UNFIT: &[(usize, &[u8])] = &[(0, &[0; 5]), (0, &[0; 7]), (0, &[]), (1, &[])];
+
+/// Hands in marks that do not fit, and checks that the state is `wanted`.
+fn check_unfit(
+    rt: &impl Abort,
+    builder: &mut StateBuilder,
+    wanted: &RecordState<'_>,
+    file: usize,
+    marks: &[u8],
+) {
+    check_equal(rt, builder.set_marks(file, marks), false);
+    check_equal(rt, builder.state(), wanted);
+}
+
+#[test]
+fn marks_that_do_not_fit_leave_the_state(rt: HostRuntime) -> Result<(), Fail> {
+    let wanted = state_made(rt.alloc())?;
+    let mut builder = builder_made(rt.alloc())?;
+    for (file, marks) in UNFIT {
+        check_unfit(&rt, &mut builder, &wanted, *file, *marks);
+    }
     Ok(())
 }
 
@@ -241,18 +304,21 @@ fn check_refusal(rt: &impl Abort, outcome: Result<(), BuildError>) -> Result<(),
     }
 }
 
+/// A file, and lines in two sections.
+const FEW: &[Given] = &[
+    Given::File,
+    Given::Context("a\nb\n"),
+    Given::Context("c\n"),
+    Given::Changes(true, ADDED, "d\ne\n"),
+    Given::Changes(false, REMOVED, "g"),
+];
+
 #[test]
 fn refused_memory_leaves_the_state(rt: HostRuntime) -> Result<(), RecordError> {
     let alloc = rt.alloc();
     let mut builder = StateBuilder::new(alloc, false);
-    for given in [
-        Given::File,
-        Given::Context("a\nb\n"),
-        Given::Context("c\n"),
-        Given::Changes(true, ADDED, "d\ne\n"),
-        Given::Changes(false, REMOVED, "g"),
-    ] {
-        check_memory(&rt, alloc, &mut builder, addition_of(given))?;
+    for given in FEW {
+        check_memory(&rt, alloc, &mut builder, addition_of(*given))?;
     }
     Ok(())
 }

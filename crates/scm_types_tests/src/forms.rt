@@ -34,15 +34,11 @@ fn check_refused<'a, T: Deserialize<'a> + Drop>(rt: &impl Abort, alloc: Global, 
 }
 
 /// Returns a changed line.
-fn line_of(
-    is_checked: bool,
-    change_type: ChangeType,
-    text: &'static str,
-) -> SectionChangedLine<'static> {
+fn line_of(line: Line) -> SectionChangedLine<'static> {
     SectionChangedLine {
-        is_checked,
-        change_type,
-        line: Text::from(text),
+        is_checked: line.0,
+        change_type: line.1,
+        line: Text::from(line.2),
     }
 }
 
@@ -65,7 +61,7 @@ fn mode_change(is_checked: bool, mode: FileMode) -> Section<'static> {
 }
 
 /// A section of each kind.
-const PARTS: [Part; 4] = [
+const PARTS: &[Part] = &[
     Part::Context(&["a\n"]),
     Part::Changes(&[(true, ADDED, "b\n")]),
     Part::Mode(false, FileMode::Absent),
@@ -78,7 +74,7 @@ fn renamed_file(alloc: Global) -> Result<File<'static>, RecordError> {
         old_path: Some(Text::from("o")),
         path: Text::from("a/日本.txt"),
         file_mode: FileMode::Absent,
-        sections: Items::from(sections_of(alloc, &PARTS)?),
+        sections: Items::from(sections_of(alloc, PARTS)?),
     })
 }
 
@@ -101,79 +97,173 @@ fn state_with_file(alloc: Global) -> Result<RecordState<'static>, RecordError> {
     })
 }
 
+/// The JSON of both sides of a changed line.
+const CHANGES: &[(&str, ChangeType)] = &[(r#""Added""#, ADDED), (r#""Removed""#, REMOVED)];
+
+/// The JSON of modes.
+const MODES: &[(&str, FileMode)] = &[
+    (r#"{"Unix":33188}"#, DEFAULT),
+    (r#"{"Unix":0}"#, FileMode::Unix(0)),
+    (
+        r#"{"Unix":18446744073709551615}"#,
+        FileMode::Unix(usize::MAX),
+    ),
+    (r#""Absent""#, FileMode::Absent),
+];
+
+/// The JSON of changed lines.
+const LINES: &[(&str, Line)] = &[
+    (
+        r#"{"is_checked":true,"change_type":"Added","line":"b\n"}"#,
+        (true, ADDED, "b\n"),
+    ),
+    (
+        r#"{"is_checked":false,"change_type":"Removed","line":""}"#,
+        (false, REMOVED, ""),
+    ),
+];
+
+/// Checks the JSON of each side of a changed line.
+fn check_changes(rt: &impl Abort, alloc: Global) -> Result<(), Fail> {
+    for (text, change_type) in CHANGES {
+        check_form(rt, alloc, *text, *change_type)?;
+    }
+    Ok(())
+}
+
+/// Checks the JSON of each mode.
+fn check_modes(rt: &impl Abort, alloc: Global) -> Result<(), Fail> {
+    for (text, mode) in MODES {
+        check_form(rt, alloc, *text, *mode)?;
+    }
+    Ok(())
+}
+
+/// Checks the JSON of each changed line.
+fn check_lines(rt: &impl Abort, alloc: Global) -> Result<(), Fail> {
+    for (text, line) in LINES {
+        check_form(rt, alloc, *text, line_of(*line))?;
+    }
+    Ok(())
+}
+
 #[test]
 fn modes_and_lines_have_their_forms(rt: HostRuntime) -> Result<(), Fail> {
-    let alloc = rt.alloc();
-    check_form(&rt, alloc, r#""Added""#, ADDED)?;
-    check_form(&rt, alloc, r#""Removed""#, REMOVED)?;
-    check_form(&rt, alloc, r#"{"Unix":33188}"#, DEFAULT)?;
-    check_form(&rt, alloc, r#"{"Unix":0}"#, FileMode::Unix(0))?;
-    let greatest = r#"{"Unix":18446744073709551615}"#;
-    check_form(&rt, alloc, greatest, FileMode::Unix(usize::MAX))?;
-    check_form(&rt, alloc, r#""Absent""#, FileMode::Absent)?;
-    let added = r#"{"is_checked":true,"change_type":"Added","line":"b\n"}"#;
-    check_form(&rt, alloc, added, line_of(true, ADDED, "b\n"))?;
-    let removed = r#"{"is_checked":false,"change_type":"Removed","line":""}"#;
-    check_form(&rt, alloc, removed, line_of(false, REMOVED, ""))
+    check_changes(&rt, rt.alloc())?;
+    check_modes(&rt, rt.alloc())?;
+    check_lines(&rt, rt.alloc())
 }
 
-/// Checks that `text` is the JSON of a section of context with `lines`.
-fn check_context(
-    rt: &impl Abort,
-    alloc: Global,
-    text: &'static str,
-    lines: &[&'static str],
-) -> Result<(), Fail> {
-    check_form(rt, alloc, text, context(alloc, lines)?)
+/// The JSON of sections of context, and their lines.
+const CONTEXTS: &[(&str, &[&str])] = &[
+    (r#"{"Unchanged":{"lines":[]}}"#, &[]),
+    (
+        r#"{"Unchanged":{"lines":["a\n","","日\"\\"]}}"#,
+        &["a\n", "", "日\"\\"],
+    ),
+];
+
+/// The JSON of sections of changed lines, and these lines.
+const CHANGED: &[(&str, &[Line])] = &[
+    (r#"{"Changed":{"lines":[]}}"#, &[]),
+    (
+        r#"{"Changed":{"lines":[{"is_checked":true,"change_type":"Added","line":"b\n"},{"is_checked":false,"change_type":"Removed","line":"c"}]}}"#,
+        &[(true, ADDED, "b\n"), (false, REMOVED, "c")],
+    ),
+];
+
+/// Checks the JSON of each section of context.
+fn check_contexts(rt: &impl Abort, alloc: Global) -> Result<(), Fail> {
+    for (text, lines) in CONTEXTS {
+        check_form(rt, alloc, *text, context(alloc, *lines)?)?;
+    }
+    Ok(())
 }
 
-/// Checks that `text` is the JSON of a section of the lines `changes`.
-fn check_changed(
-    rt: &impl Abort,
-    alloc: Global,
-    text: &'static str,
-    changes: &[Line],
-) -> Result<(), Fail> {
-    check_form(rt, alloc, text, changed(alloc, changes)?)
+/// Checks the JSON of each section of changed lines.
+fn check_changed(rt: &impl Abort, alloc: Global) -> Result<(), Fail> {
+    for (text, lines) in CHANGED {
+        check_form(rt, alloc, *text, changed(alloc, *lines)?)?;
+    }
+    Ok(())
 }
 
 #[test]
 fn sections_of_lines_have_their_forms(rt: HostRuntime) -> Result<(), Fail> {
-    let alloc = rt.alloc();
-    check_context(&rt, alloc, r#"{"Unchanged":{"lines":[]}}"#, &[])?;
-    let context = r#"{"Unchanged":{"lines":["a\n","","日\"\\"]}}"#;
-    check_context(&rt, alloc, context, &["a\n", "", "日\"\\"])?;
-    check_changed(&rt, alloc, r#"{"Changed":{"lines":[]}}"#, &[])?;
-    let changed =
-        r#"{"Changed":{"lines":[{"is_checked":true,"change_type":"Added","line":"b\n"},{"is_checked":false,"change_type":"Removed","line":"c"}]}}"#;
-    check_changed(
-        &rt,
-        alloc,
-        changed,
-        &[(true, ADDED, "b\n"), (false, REMOVED, "c")],
-    )
+    check_contexts(&rt, rt.alloc())?;
+    check_changed(&rt, rt.alloc())
+}
+
+/// The JSON of mode changes, their marks and their modes.
+const MODE_CHANGES: &[(&str, bool, FileMode)] = &[
+    (
+        r#"{"FileMode":{"is_checked":true,"mode":{"Unix":33261}}}"#,
+        true,
+        FileMode::Unix(0o100755),
+    ),
+    (
+        r#"{"FileMode":{"is_checked":false,"mode":"Absent"}}"#,
+        false,
+        FileMode::Absent,
+    ),
+];
+
+/// The JSON of a binary change, its mark, and its old and its new description.
+type BytesForm = (
+    &'static str,
+    bool,
+    Option<&'static str>,
+    Option<&'static str>,
+);
+
+/// The JSON of binary changes.
+const BYTES: &[BytesForm] = &[
+    (
+        r#"{"Binary":{"is_checked":true,"old_description":"a","new_description":"b"}}"#,
+        true,
+        Some("a"),
+        Some("b"),
+    ),
+    (
+        r#"{"Binary":{"is_checked":false,"old_description":"","new_description":null}}"#,
+        false,
+        Some(""),
+        None,
+    ),
+    (
+        r#"{"Binary":{"is_checked":true,"old_description":null,"new_description":"x"}}"#,
+        true,
+        None,
+        Some("x"),
+    ),
+    (
+        r#"{"Binary":{"is_checked":false,"old_description":null,"new_description":null}}"#,
+        false,
+        None,
+        None,
+    ),
+];
+
+/// Checks the JSON of each mode change.
+fn check_mode_changes(rt: &impl Abort, alloc: Global) -> Result<(), Fail> {
+    for (text, is_checked, mode) in MODE_CHANGES {
+        check_form(rt, alloc, *text, mode_change(*is_checked, *mode))?;
+    }
+    Ok(())
+}
+
+/// Checks the JSON of each binary change.
+fn check_bytes(rt: &impl Abort, alloc: Global) -> Result<(), Fail> {
+    for (text, is_checked, old, new) in BYTES {
+        check_form(rt, alloc, *text, binary(*is_checked, *old, *new))?;
+    }
+    Ok(())
 }
 
 #[test]
 fn sections_of_modes_and_bytes_have_their_forms(rt: HostRuntime) -> Result<(), Fail> {
-    let alloc = rt.alloc();
-    let mode = r#"{"FileMode":{"is_checked":true,"mode":{"Unix":33261}}}"#;
-    check_form(
-        &rt,
-        alloc,
-        mode,
-        mode_change(true, FileMode::Unix(0o100755)),
-    )?;
-    let deletion = r#"{"FileMode":{"is_checked":false,"mode":"Absent"}}"#;
-    check_form(&rt, alloc, deletion, mode_change(false, FileMode::Absent))?;
-    let both = r#"{"Binary":{"is_checked":true,"old_description":"a","new_description":"b"}}"#;
-    check_form(&rt, alloc, both, binary(true, Some("a"), Some("b")))?;
-    let old = r#"{"Binary":{"is_checked":false,"old_description":"","new_description":null}}"#;
-    check_form(&rt, alloc, old, binary(false, Some(""), None))?;
-    let new = r#"{"Binary":{"is_checked":true,"old_description":null,"new_description":"x"}}"#;
-    check_form(&rt, alloc, new, binary(true, None, Some("x")))?;
-    let none = r#"{"Binary":{"is_checked":false,"old_description":null,"new_description":null}}"#;
-    check_form(&rt, alloc, none, binary(false, None, None))
+    check_mode_changes(&rt, rt.alloc())?;
+    check_bytes(&rt, rt.alloc())
 }
 
 /// Returns a commit with `message`.
@@ -183,66 +273,86 @@ fn commit_with(message: OwnedText) -> Commit {
     }
 }
 
-#[test]
-fn files_and_states_have_their_forms(rt: HostRuntime) -> Result<(), Fail> {
-    let alloc = rt.alloc();
-    check_form(&rt, alloc, r#"{"message":null}"#, Commit::default())?;
-    let commit = commit_with(owned(alloc, "m\n")?);
-    check_form(&rt, alloc, r#"{"message":"m\n"}"#, commit)?;
-    let commit = commit_with(owned(alloc, "")?);
-    check_form(&rt, alloc, r#"{"message":""}"#, commit)?;
-    let plain = r#"{"old_path":null,"path":"f","file_mode":{"Unix":33188},"sections":[]}"#;
-    check_form(&rt, alloc, plain, file_of(DEFAULT, Vec::new(alloc)))?;
-    check_form(&rt, alloc, RENAMED, renamed_file(alloc)?)?;
-    let empty = r#"{"is_read_only":false,"commits":[],"files":[]}"#;
-    check_form(&rt, alloc, empty, RecordState::empty(alloc))?;
-    check_form(&rt, alloc, WITH_FILE, state_with_file(alloc)?)
+/// The JSON of commits, and their messages.
+const MESSAGES: &[(&str, &str)] = &[(r#"{"message":"m\n"}"#, "m\n"), (r#"{"message":""}"#, "")];
+
+/// The JSON of a file without sections.
+const PLAIN: &str = r#"{"old_path":null,"path":"f","file_mode":{"Unix":33188},"sections":[]}"#;
+
+/// The JSON of the empty state.
+const EMPTY: &str = r#"{"is_read_only":false,"commits":[],"files":[]}"#;
+
+/// Checks the JSON of each commit.
+fn check_commits(rt: &impl Abort, alloc: Global) -> Result<(), Fail> {
+    for (text, message) in MESSAGES {
+        check_form(rt, alloc, *text, commit_with(owned(alloc, *message)?))?;
+    }
+    check_form(rt, alloc, r#"{"message":null}"#, Commit::default())
+}
+
+/// Checks the JSON of files.
+fn check_files(rt: &impl Abort, alloc: Global) -> Result<(), Fail> {
+    check_form(rt, alloc, PLAIN, file_of(DEFAULT, Vec::new(alloc)))?;
+    check_form(rt, alloc, RENAMED, renamed_file(alloc)?)
+}
+
+/// Checks the JSON of states.
+fn check_states(rt: &impl Abort, alloc: Global) -> Result<(), Fail> {
+    check_form(rt, alloc, EMPTY, RecordState::empty(alloc))?;
+    check_form(rt, alloc, WITH_FILE, state_with_file(alloc)?)
 }
 
 #[test]
+fn files_and_states_have_their_forms(rt: HostRuntime) -> Result<(), Fail> {
+    check_commits(&rt, rt.alloc())?;
+    check_files(&rt, rt.alloc())?;
+    check_states(&rt, rt.alloc())
+}
+
+/// No JSON of a side of a changed line.
+const NO_CHANGES: &[&str] = &[r#""Moved""#, "null", r#"["Added"]"#];
+
+/// No JSON of a mode.
+const NO_MODES: &[&str] = &[r#""Gone""#, r#"{"Mode":1}"#, r#"{"Unix":-1}"#, "33188"];
+
+/// No JSON of a changed line.
+const NO_LINES: &[&str] = &[
+    r#"{"is_checked":true,"change_type":"Added"}"#,
+    r#"{"is_checked":true,"change_type":"Moved","line":"b\n"}"#,
+];
+
+/// No JSON of a section.
+const NO_SECTIONS: &[&str] = &[
+    r#"{"Moved":{"lines":[]}}"#,
+    r#"{"Changed":{}}"#,
+    r#"{"Unchanged":{"lines":[1]}}"#,
+    r#"{"FileMode":{"is_checked":true}}"#,
+    r#"{"Binary":{"old_description":null,"new_description":null}}"#,
+];
+
+/// No JSON of a commit.
+const NO_COMMITS: &[&str] = &[r#"{"message":1}"#, r#""m""#];
+
+/// No JSON of a file.
+const NO_FILES: &[&str] = &[
+    r#"{"old_path":null,"file_mode":"Absent","sections":[]}"#,
+    r#"{"old_path":null,"path":"f","file_mode":"Gone","sections":[]}"#,
+];
+
+/// No JSON of a state.
+const NO_STATES: &[&str] = &[
+    r#"{"is_read_only":false,"commits":[]}"#,
+    r#"{"is_read_only":null,"commits":[],"files":[]}"#,
+    "",
+];
+
+#[test]
 fn other_forms_are_refused(rt: HostRuntime) {
-    let alloc = rt.alloc();
-    check_refused::<ChangeType>(&rt, alloc, &[r#""Moved""#, "null", r#"["Added"]"#]);
-    check_refused::<FileMode>(
-        &rt,
-        alloc,
-        &[r#""Gone""#, r#"{"Mode":1}"#, r#"{"Unix":-1}"#, "33188"],
-    );
-    check_refused::<SectionChangedLine<'static>>(
-        &rt,
-        alloc,
-        &[
-            r#"{"is_checked":true,"change_type":"Added"}"#,
-            r#"{"is_checked":true,"change_type":"Moved","line":"b\n"}"#,
-        ],
-    );
-    check_refused::<Section<'static>>(
-        &rt,
-        alloc,
-        &[
-            r#"{"Moved":{"lines":[]}}"#,
-            r#"{"Changed":{}}"#,
-            r#"{"Unchanged":{"lines":[1]}}"#,
-            r#"{"FileMode":{"is_checked":true}}"#,
-            r#"{"Binary":{"old_description":null,"new_description":null}}"#,
-        ],
-    );
-    check_refused::<Commit>(&rt, alloc, &[r#"{"message":1}"#, r#""m""#]);
-    check_refused::<File<'static>>(
-        &rt,
-        alloc,
-        &[
-            r#"{"old_path":null,"file_mode":"Absent","sections":[]}"#,
-            r#"{"old_path":null,"path":"f","file_mode":"Gone","sections":[]}"#,
-        ],
-    );
-    check_refused::<RecordState<'static>>(
-        &rt,
-        alloc,
-        &[
-            r#"{"is_read_only":false,"commits":[]}"#,
-            r#"{"is_read_only":null,"commits":[],"files":[]}"#,
-            "",
-        ],
-    );
+    check_refused::<ChangeType>(&rt, rt.alloc(), NO_CHANGES);
+    check_refused::<FileMode>(&rt, rt.alloc(), NO_MODES);
+    check_refused::<SectionChangedLine<'static>>(&rt, rt.alloc(), NO_LINES);
+    check_refused::<Section<'static>>(&rt, rt.alloc(), NO_SECTIONS);
+    check_refused::<Commit>(&rt, rt.alloc(), NO_COMMITS);
+    check_refused::<File<'static>>(&rt, rt.alloc(), NO_FILES);
+    check_refused::<RecordState<'static>>(&rt, rt.alloc(), NO_STATES);
 }

@@ -42,11 +42,13 @@ fn check_texts(rt: &impl Abort, alloc: Global, count: usize) -> Result<(), Recor
     check_commit(rt, alloc, text.as_str())
 }
 
+/// The numbers of bytes of the texts.
+const COUNTS: &[usize] = &[0, 1, 10_000];
+
 #[test]
 fn texts_of_any_size_are_copied(rt: HostRuntime) -> Result<(), RecordError> {
-    let alloc = rt.alloc();
-    for count in [0, 1, 10_000] {
-        check_texts(&rt, alloc, count)?;
+    for count in COUNTS {
+        check_texts(&rt, rt.alloc(), *count)?;
     }
     Ok(())
 }
@@ -54,7 +56,7 @@ fn texts_of_any_size_are_copied(rt: HostRuntime) -> Result<(), RecordError> {
 // ---- calls that take no memory
 
 /// A section of each kind, partly checked.
-const PARTS: [Part; 4] = [
+const PARTS: &[Part] = &[
     Part::Context(&["a\n"]),
     Part::Changes(&[(false, ADDED, "b\n"), (true, ADDED, "c\n")]),
     Part::Mode(false, DEFAULT),
@@ -63,7 +65,7 @@ const PARTS: [Part; 4] = [
 
 /// Returns the file of `PARTS`.
 fn marked_file(alloc: Global) -> Result<File<'static>, RecordError> {
-    file_with_parts(alloc, DEFAULT, &PARTS)
+    file_with_parts(alloc, DEFAULT, PARTS)
 }
 
 /// Returns a state of one file with a section of each kind, partly checked.

@@ -29,7 +29,7 @@ fn check_held(rt: &impl Abort, alloc: Global, held: Held) -> Result<(), RecordEr
 #[test]
 fn refused_memory_keeps_files(rt: HostRuntime) -> Result<(), RecordError> {
     for held in HELD {
-        check_held(&rt, rt.alloc(), held)?;
+        check_held(&rt, rt.alloc(), *held)?;
     }
     Ok(())
 }

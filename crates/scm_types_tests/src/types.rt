@@ -15,10 +15,10 @@ use std::process::Abort;
 use std::test::Fail;
 
 /// A checked line of a new file.
-const CHECKED: [Line; 1] = [(true, ADDED, "n\n")];
+const CHECKED: &[Line] = &[(true, ADDED, "n\n")];
 
 /// An unchecked line of a new file.
-const UNCHECKED: [Line; 1] = [(false, ADDED, "n\n")];
+const UNCHECKED: &[Line] = &[(false, ADDED, "n\n")];
 
 /// Returns a new file: `lines`, and its creation.
 fn new_file(
@@ -31,7 +31,7 @@ fn new_file(
 }
 
 /// Added and removed lines: of each kind one checked and one unchecked.
-const MIXED: [Line; 4] = [
+const MIXED: &[Line] = &[
     (true, ADDED, "b\n"),
     (false, REMOVED, "c\n"),
     (false, ADDED, "d\n"),
@@ -40,7 +40,7 @@ const MIXED: [Line; 4] = [
 
 /// Returns a file of a line of context, and the lines of `MIXED`.
 fn mixed_file(alloc: Global) -> Result<File<'static>, RecordError> {
-    file_with(alloc, &["a\n"], &MIXED)
+    file_with(alloc, &["a\n"], MIXED)
 }
 
 /// A checked removed line.
@@ -52,11 +52,8 @@ const EMPTIED: &[Part] = &[REMOVAL];
 /// A file that is deleted.
 const DELETED: &[Part] = &[REMOVAL, Part::Mode(true, FileMode::Absent)];
 
-/// Returns a file of a checked binary change, and a line of context after it.
-fn binary_file(alloc: Global) -> Result<File<'static>, RecordError> {
-    let parts = [Part::Bytes(Some("old"), None), Part::Context(&["z\n"])];
-    file_with_parts(alloc, DEFAULT, &parts)
-}
+/// A checked binary change, and a line of context after it.
+const BYTES: &[Part] = &[Part::Bytes(Some("old"), None), Part::Context(&["z\n"])];
 
 /// The expected contents of a side.
 #[derive(Clone, Copy)]
@@ -112,16 +109,34 @@ fn files_are_split(rt: HostRuntime) -> Result<(), RecordError> {
     check_split(&rt, alloc, &mixed, second, first)
 }
 
+/// The sections of a file with the default mode, and the mode and the contents of its selected and
+/// of its unselected side.
+type Split = (&'static [Part], (FileMode, Side), (FileMode, Side));
+
+/// Splits the file of `row`, and checks its sides.
+fn check_sides_of(rt: &impl Abort, alloc: Global, row: Split) -> Result<(), RecordError> {
+    let file = file_with_parts(alloc, DEFAULT, row.0)?;
+    check_split(rt, alloc, &file, row.1, row.2)
+}
+
+/// Files without their last line, and deleted.
+const REMOVALS: &[Split] = &[
+    (
+        EMPTIED,
+        (DEFAULT, Side::Text("")),
+        (DEFAULT, Side::Text("x\n")),
+    ),
+    (
+        DELETED,
+        (FileMode::Absent, Side::Unchanged),
+        (DEFAULT, Side::Text("x\n")),
+    ),
+];
+
 #[test]
 fn removals_are_split(rt: HostRuntime) -> Result<(), RecordError> {
-    let alloc = rt.alloc();
-    let rest = (DEFAULT, Side::Text("x\n"));
-    for (parts, selected) in [
-        (EMPTIED, (DEFAULT, Side::Text(""))),
-        (DELETED, (FileMode::Absent, Side::Unchanged)),
-    ] {
-        let file = file_with_parts(alloc, DEFAULT, parts)?;
-        check_split(&rt, alloc, &file, selected, rest)?;
+    for row in REMOVALS {
+        check_sides_of(&rt, rt.alloc(), *row)?;
     }
     Ok(())
 }
@@ -130,25 +145,51 @@ fn removals_are_split(rt: HostRuntime) -> Result<(), RecordError> {
 fn bytes_are_split(rt: HostRuntime) -> Result<(), RecordError> {
     let bytes = (DEFAULT, Side::OldBinary);
     let tail = (DEFAULT, Side::Text("z\n"));
-    let file = binary_file(rt.alloc())?;
-    check_split(&rt, rt.alloc(), &file, bytes, tail)
+    check_sides_of(&rt, rt.alloc(), (BYTES, bytes, tail))
+}
+
+/// The lines of a new file, the mark of its creation, and the mode and the contents of its selected
+/// and of its unselected side.
+type NewSplit = (&'static [Line], bool, (FileMode, Side), (FileMode, Side));
+
+/// New files, with each pair of marks.
+const NEW_FILES: &[NewSplit] = &[
+    (
+        CHECKED,
+        true,
+        (DEFAULT, Side::Text("n\n")),
+        (FileMode::Absent, Side::Unchanged),
+    ),
+    (
+        UNCHECKED,
+        true,
+        (DEFAULT, Side::Text("")),
+        (FileMode::Absent, Side::Text("n\n")),
+    ),
+    (
+        UNCHECKED,
+        false,
+        (FileMode::Absent, Side::Unchanged),
+        (DEFAULT, Side::Text("n\n")),
+    ),
+    (
+        CHECKED,
+        false,
+        (FileMode::Absent, Side::Text("n\n")),
+        (DEFAULT, Side::Text("")),
+    ),
+];
+
+/// Splits the new file of `row`, and checks its sides.
+fn check_new_file(rt: &impl Abort, alloc: Global, row: NewSplit) -> Result<(), RecordError> {
+    let file = new_file(alloc, row.0, row.1)?;
+    check_split(rt, alloc, &file, row.2, row.3)
 }
 
 #[test]
 fn new_files_are_split(rt: HostRuntime) -> Result<(), RecordError> {
-    let alloc = rt.alloc();
-    let nowhere = (FileMode::Absent, Side::Unchanged);
-    let lost = (FileMode::Absent, Side::Text("n\n"));
-    let emptied = (DEFAULT, Side::Text(""));
-    let written = (DEFAULT, Side::Text("n\n"));
-    for (lines, is_created, selected, unselected) in [
-        (&CHECKED, true, written, nowhere),
-        (&UNCHECKED, true, emptied, lost),
-        (&UNCHECKED, false, nowhere, written),
-        (&CHECKED, false, lost, emptied),
-    ] {
-        let file = new_file(alloc, lines, is_created)?;
-        check_split(&rt, alloc, &file, selected, unselected)?;
+    for row in NEW_FILES {
+        check_new_file(&rt, rt.alloc(), *row)?;
     }
     Ok(())
 }
@@ -257,7 +298,7 @@ fn the_empty_state_has_nothing(rt: HostRuntime) {
 /// Returns a state of a new file.
 fn new_state(alloc: Global) -> Result<RecordState<'static>, RecordError> {
     let mut state = RecordState::empty(alloc);
-    state.files.push(new_file(alloc, &UNCHECKED, false)?)?;
+    state.files.push(new_file(alloc, UNCHECKED, false)?)?;
     Ok(state)
 }
 
@@ -282,7 +323,7 @@ fn check_sections(
 #[test]
 fn copies_of_files_equal_them(rt: HostRuntime) -> Result<(), RecordError> {
     let alloc = rt.alloc();
-    let file = new_file(alloc, &UNCHECKED, false)?;
+    let file = new_file(alloc, UNCHECKED, false)?;
     check_copy(&rt, file.try_clone(alloc), &file)?;
     check_sections(&rt, alloc, file.sections.as_slice())
 }
@@ -339,7 +380,7 @@ fn copies_of_sides_equal_them(rt: HostRuntime) -> Result<(), RecordError> {
     let alloc = rt.alloc();
     check_copies(&rt, alloc, &mixed_file(alloc)?)?;
     for held in HELD {
-        check_copies(&rt, alloc, &file_holding(alloc, held)?)?;
+        check_copies(&rt, alloc, &file_holding(alloc, *held)?)?;
     }
     Ok(())
 }
@@ -368,12 +409,20 @@ fn marks_are_counted_and_written(rt: HostRuntime) -> Result<(), RecordError> {
     Ok(())
 }
 
+/// An unchecked removed line.
+const KEPT: Part = Part::Changes(&[(false, REMOVED, "x\n")]);
+
+/// An unchecked removed line, and the unchecked deletion of its file.
+const HALF: &[Part] = &[KEPT, Part::Mode(false, FileMode::Absent)];
+
+/// An unchecked removed line, and the checked deletion of its file.
+const HALF_DELETED: &[Part] = &[KEPT, Part::Mode(true, FileMode::Absent)];
+
 /// Returns a file with an unchecked removed line and the file's deletion, with the mark
 /// `is_checked`.
 fn half_removed(alloc: Global, is_checked: bool) -> Result<File<'static>, RecordError> {
-    let lines = Part::Changes(&[(false, REMOVED, "x\n")]);
-    let parts = [lines, Part::Mode(is_checked, FileMode::Absent)];
-    file_with_parts(alloc, DEFAULT, &parts)
+    let parts = if is_checked { HALF_DELETED } else { HALF };
+    file_with_parts(alloc, DEFAULT, parts)
 }
 
 /// Checks that `file` is a file with an unchecked removed line and its deletion, with the mark
@@ -413,8 +462,8 @@ fn check_made(
 fn files_are_made_to_fit(rt: HostRuntime) -> Result<(), RecordError> {
     check_half_removed(&rt, rt.alloc(), true)?;
     check_half_removed(&rt, rt.alloc(), false)?;
-    check_made(&rt, rt.alloc(), &CHECKED, false)?;
-    check_made(&rt, rt.alloc(), &UNCHECKED, true)
+    check_made(&rt, rt.alloc(), CHECKED, false)?;
+    check_made(&rt, rt.alloc(), UNCHECKED, true)
 }
 
 #[test]
@@ -430,8 +479,8 @@ fn marks_are_made_to_fit(rt: HostRuntime) -> Result<(), RecordError> {
 #[test]
 fn three_commits_are_not_accepted(rt: HostRuntime) -> Result<(), RecordError> {
     let mut state = RecordState::empty(rt.alloc());
-    for is_accepted in [true, true, true, false] {
-        check_equal(&rt, state.is_accepted(), is_accepted);
+    for count in 0..4 {
+        check_equal(&rt, state.is_accepted(), count < 3);
         state.commits.push(Commit::default())?;
     }
     Ok(())
@@ -461,95 +510,112 @@ fn check_caused<F: FnOnce(String) -> RecordError>(
     check_error(rt, alloc, error_of(String::from_str(alloc, "T")?), text)
 }
 
+/// The texts of errors of a terminal and of files.
+const SET_UP: &str = "failed to set up terminal: T";
+
+const CLEAN_UP: &str = "failed to clean up terminal: T";
+
+const RENDER: &str = "failed to render new frame: T";
+
+const READ: &str = "failed to read user input: T";
+
+const SERIALIZE: &str = "failed to serialize JSON: T";
+
+const WRITE: &str = "failed to wrote file: T";
+
+/// Checks the texts of errors of a terminal.
+fn check_terminal_errors(rt: &impl Abort, alloc: Global) -> Result<(), AllocError> {
+    check_caused(rt, alloc, RecordError::SetUpTerminal, SET_UP)?;
+    check_caused(rt, alloc, RecordError::CleanUpTerminal, CLEAN_UP)?;
+    check_caused(rt, alloc, RecordError::RenderFrame, RENDER)?;
+    check_caused(rt, alloc, RecordError::ReadInput, READ)
+}
+
+/// Checks the texts of errors of files, and of others with a cause.
+fn check_other_errors(rt: &impl Abort, alloc: Global) -> Result<(), AllocError> {
+    check_caused(rt, alloc, RecordError::SerializeJson, SERIALIZE)?;
+    check_caused(rt, alloc, RecordError::WriteFile, WRITE)?;
+    check_caused(rt, alloc, RecordError::Other, "T")?;
+    check_caused(rt, alloc, RecordError::Bug, "bug: T")
+}
+
 #[test]
 fn errors_have_their_texts(rt: HostRuntime) -> Result<(), RecordError> {
-    let alloc = rt.alloc();
-    check_caused(
-        &rt,
-        alloc,
-        RecordError::SetUpTerminal,
-        "failed to set up terminal: T",
-    )?;
-    check_caused(
-        &rt,
-        alloc,
-        RecordError::CleanUpTerminal,
-        "failed to clean up terminal: T",
-    )?;
-    check_caused(
-        &rt,
-        alloc,
-        RecordError::RenderFrame,
-        "failed to render new frame: T",
-    )?;
-    check_caused(
-        &rt,
-        alloc,
-        RecordError::ReadInput,
-        "failed to read user input: T",
-    )?;
-    check_caused(
-        &rt,
-        alloc,
-        RecordError::SerializeJson,
-        "failed to serialize JSON: T",
-    )?;
-    check_caused(
-        &rt,
-        alloc,
-        RecordError::WriteFile,
-        "failed to wrote file: T",
-    )?;
-    check_caused(&rt, alloc, RecordError::Other, "T")?;
-    check_caused(&rt, alloc, RecordError::Bug, "bug: T")?;
-    check_error(&rt, alloc, RecordError::Cancelled, "cancelled by user")?;
-    check_error(&rt, alloc, RecordError::OutOfMemory, "out of memory")?;
+    check_terminal_errors(&rt, rt.alloc())?;
+    check_other_errors(&rt, rt.alloc())?;
+    check_error(&rt, rt.alloc(), RecordError::Cancelled, "cancelled by user")?;
+    check_error(&rt, rt.alloc(), RecordError::OutOfMemory, "out of memory")?;
+    Ok(())
+}
+
+/// Checks that `mode` is printed as `text`.
+fn check_mode(
+    rt: &impl Abort,
+    alloc: Global,
+    mode: FileMode,
+    text: &str,
+) -> Result<(), AllocError> {
+    let shown = format!(in alloc; "{mode}")?;
+    check_equal(rt, shown.as_str(), text);
+    check_equal(rt, mode.is_absent(), text == "<absent>");
     Ok(())
 }
 
 #[test]
 fn modes_are_converted_and_printed(rt: HostRuntime) -> Result<(), Fail> {
     let alloc = rt.alloc();
-    for (mode, text) in [
-        (FileMode::from(0o100755_usize), "100755"),
-        (FileMode::try_from(0o100644_u32)?, "100644"),
-        (FileMode::try_from(8_i32)?, "10"),
-        (DEFAULT, "100644"),
-        (FileMode::Absent, "<absent>"),
-    ] {
-        let shown = format!(in alloc; "{mode}")?;
-        check_equal(&rt, shown.as_str(), text);
-        check_equal(&rt, mode.is_absent(), text == "<absent>");
-    }
+    check_mode(&rt, alloc, FileMode::from(0o100755_usize), "100755")?;
+    check_mode(&rt, alloc, FileMode::try_from(0o100644_u32)?, "100644")?;
+    check_mode(&rt, alloc, FileMode::try_from(8_i32)?, "10")?;
+    check_mode(&rt, alloc, DEFAULT, "100644")?;
+    check_mode(&rt, alloc, FileMode::Absent, "<absent>")?;
     assert!(rt; FileMode::try_from(-1_i32).is_err());
     Ok(())
 }
+
+/// Sizes, and the nearest numbers of 16 bits.
+const SIZES: &[(usize, u16)] = &[(7, 7), (65_535, 65_535), (65_536, 65_535)];
+
+/// Places, the nearest numbers of 16 bits, and the nearest sizes.
+const PLACES: &[(isize, u16, usize)] = &[(-7, 0, 0), (7, 7, 7), (65_536, 65_535, 65_536)];
 
 #[test]
 fn sizes_are_converted(rt: HostRuntime) {
     check_equal(&rt, 7_usize.unwrap_isize(), 7);
     check_equal(&rt, 7_isize.unwrap_usize(), 7);
-    for (size, nearest) in [(7, 7), (65_535, 65_535), (65_536, 65_535)] {
-        check_equal(&rt, UsizeExt::clamp_into_u16(size), nearest);
+    for (size, nearest) in SIZES {
+        check_equal(&rt, UsizeExt::clamp_into_u16(*size), *nearest);
     }
-    for (place, nearest, size) in [(-7, 0, 0), (7, 7, 7), (65_536, 65_535, 65_536)] {
-        check_equal(&rt, IsizeExt::clamp_into_u16(place), nearest);
-        check_equal(&rt, IsizeExt::clamp_into_usize(place), size);
+    for (place, nearest, size) in PLACES {
+        check_equal(&rt, IsizeExt::clamp_into_u16(*place), *nearest);
+        check_equal(&rt, IsizeExt::clamp_into_usize(*place), *size);
     }
     assert!(rt; ENV_VAR_DUMP_UI_STATE == "SCM_RECORD_DUMP_UI_STATE");
     assert!(rt; DUMP_UI_STATE_FILENAME == "scm_record_ui_state.json");
     assert!(rt; ENV_VAR_DEBUG_UI == "SCM_RECORD_DEBUG_UI");
 }
 
+/// A hash, a size and their description.
+type Described = (&'static str, u64, &'static str);
+
+/// Descriptions of bytes.
+const DESCRIBED: &[Described] = &[
+    ("", 0, " (0 bytes)"),
+    ("abc123", 42, "abc123 (42 bytes)"),
+    ("é", u64::MAX, "é (18446744073709551615 bytes)"),
+];
+
+/// Checks the description of `row`.
+fn check_described(rt: &impl Abort, alloc: Global, row: Described) -> Result<(), RecordError> {
+    let description = make_binary_description(alloc, row.0, row.1)?;
+    check_equal(rt, description.as_str(), row.2);
+    Ok(())
+}
+
 #[test]
 fn bytes_are_described(rt: HostRuntime) -> Result<(), RecordError> {
-    for (hash, size, text) in [
-        ("", 0, " (0 bytes)"),
-        ("abc123", 42, "abc123 (42 bytes)"),
-        ("é", u64::MAX, "é (18446744073709551615 bytes)"),
-    ] {
-        let description = make_binary_description(rt.alloc(), hash, size)?;
-        check_equal(&rt, description.as_str(), text);
+    for row in DESCRIBED {
+        check_described(&rt, rt.alloc(), *row)?;
     }
     Ok(())
 }
@@ -575,9 +641,8 @@ fn change_numbers(rt: &impl Abort, items: &mut Items<u8>) {
 fn check_numbers(rt: &impl Abort, items: &Items<u8>) {
     assert!(rt; items.len() == 3);
     check_equal(rt, items[0], 5);
-    for (index, expected) in [(1, Some(4)), (3, None)] {
-        check_equal(rt, items.get(index).copied(), expected);
-    }
+    check_equal(rt, items.get(1).copied(), Some(4));
+    check_equal(rt, items.get(3).copied(), None);
     assert!(rt; items.iter().all(|item| *item > 3));
 }
 
@@ -601,6 +666,14 @@ fn gone_through(alloc: Global, items: Items<u8>) -> Result<Items<u8>, AllocError
     Ok(rest)
 }
 
+/// Takes both elements from a list.
+fn check_rest(rt: &impl Abort, rest: &mut Items<u8>) {
+    check_equal(rt, rest.as_slice(), [2, 4].as_slice());
+    check_equal(rt, rest.pop(), Some(4));
+    check_equal(rt, rest.pop(), Some(2));
+    check_equal(rt, rest.pop(), None);
+}
+
 #[test]
 fn lists_are_collected_and_gone_through(rt: HostRuntime) -> Result<(), RecordError> {
     let alloc = rt.alloc();
@@ -610,10 +683,7 @@ fn lists_are_collected_and_gone_through(rt: HostRuntime) -> Result<(), RecordErr
     }
     check_equal(&rt, items.pop(), Some(9));
     let mut rest = gone_through(alloc, items)?;
-    check_equal(&rt, rest.as_slice(), [2, 4].as_slice());
-    for expected in [Some(4), Some(2), None] {
-        check_equal(&rt, rest.pop(), expected);
-    }
+    check_rest(&rt, &mut rest);
     Ok(())
 }
 
@@ -627,13 +697,17 @@ fn lists_are_made_with_room_and_extended(rt: HostRuntime) -> Result<(), RecordEr
     Ok(())
 }
 
+/// Checks whether the error of a read that fails with `text` is that of a script that ends.
+fn check_end(rt: &impl Abort, alloc: Global, text: &str, is_end: bool) -> Result<(), RecordError> {
+    let error = RecordError::ReadInput(String::from_str(alloc, text)?);
+    check_equal(rt, error.is_no_events_left(), is_end);
+    Ok(())
+}
+
 #[test]
 fn a_script_that_ends_is_told_by_its_kind(rt: HostRuntime) -> Result<(), RecordError> {
-    let alloc = rt.alloc();
-    for (text, is_end) in [("no events left", true), ("gone", false)] {
-        let error = RecordError::ReadInput(String::from_str(alloc, text)?);
-        check_equal(&rt, error.is_no_events_left(), is_end);
-    }
+    check_end(&rt, rt.alloc(), "no events left", true)?;
+    check_end(&rt, rt.alloc(), "gone", false)?;
     assert!(rt; !RecordError::Cancelled.is_no_events_left());
     Ok(())
 }

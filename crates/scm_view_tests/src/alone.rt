@@ -209,23 +209,36 @@ pub(crate) fn has_short_menus(menus: &[Menu<'_>]) -> bool
     menus.iter().all(|menu| is_short_menu(menu))
 }
 
-/// Returns a menu with the label `label` and the items `items`.
-fn menu_of(
+/// Returns the items of a menu.
+fn items_of(
     alloc: Global,
-    label: &'static str,
-    items: &[&'static str],
-) -> Result<Menu<'static>, RecordError> {
-    let mut menu = Menu {
-        label: Text::from(label),
-        items: Items::new(alloc),
-    };
-    for item in items {
-        menu.items.push(MenuItem {
-            label: Text::from(*item),
+    labels: &[&'static str],
+) -> Result<Items<MenuItem<'static>>, RecordError> {
+    let mut items = Items::new(alloc);
+    for label in labels {
+        items.push(MenuItem {
+            label: Text::from(*label),
         })?;
     }
-    Ok(menu)
+    Ok(items)
 }
+
+/// The label of a menu, and those of its items.
+type Labels = (&'static str, &'static [&'static str]);
+
+/// Returns the menu with these labels.
+fn menu_of(alloc: Global, labels: Labels) -> Result<Menu<'static>, RecordError> {
+    Ok(Menu {
+        label: Text::from(labels.0),
+        items: items_of(alloc, labels.1)?,
+    })
+}
+
+/// A menu of two items.
+const MENU: Labels = ("M", &["a", "long"]);
+
+/// The menus of a bar.
+const MENUS: &[Labels] = &[("File", &["a"]), ("Edit", &["long"])];
 
 /// Draws a menu with short labels.
 fn draw_menu(
@@ -244,16 +257,22 @@ fn draw_menu(
     Ok(())
 }
 
+/// Returns the menus of `MENUS`.
+fn menus_of(alloc: Global) -> Result<Items<Menu<'static>>, RecordError> {
+    let mut menus = Items::new(alloc);
+    for labels in MENUS {
+        menus.push(menu_of(alloc, *labels)?)?;
+    }
+    Ok(menus)
+}
+
 /// Returns a bar of two menus, of which `expanded_menu_idx` is open, if any.
 fn bar_of(
     alloc: Global,
     expanded_menu_idx: Option<usize>,
 ) -> Result<MenuBar<'static>, RecordError> {
-    let mut menus = Items::new(alloc);
-    menus.push(menu_of(alloc, "File", &["a"])?)?;
-    menus.push(menu_of(alloc, "Edit", &["long"])?)?;
     Ok(MenuBar {
-        menus,
+        menus: menus_of(alloc)?,
         expanded_menu_idx,
     })
 }
@@ -441,6 +460,18 @@ fn draw_text(
     draw_message(rt, viewport, x, y, &view)
 }
 
+/// Draws a button.
+fn draw_go(
+    rt: &impl Abort,
+    viewport: &mut Viewport<ComponentId>,
+    x: isize,
+    y: isize,
+    is_focused: bool,
+) -> Result<(), RecordError> {
+    let button = button_of(ComponentId::App, "Go", is_focused);
+    draw_button(rt, viewport, x, y, &button)
+}
+
 /// Draws the component `shown`. A dialog is in the middle of the screen.
 fn draw_shown(
     rt: &impl Abort,
@@ -451,13 +482,10 @@ fn draw_shown(
     shown: Shown,
 ) -> Result<(), RecordError> {
     match shown {
-        Shown::Button(is_focused) => {
-            let button = button_of(ComponentId::App, "Go", is_focused);
-            draw_button(rt, viewport, x, y, &button)
-        }
+        Shown::Button(is_focused) => draw_go(rt, viewport, x, y, is_focused),
         Shown::Changed(change_type) => draw_line(rt, viewport, x, y, &changed_line(change_type)),
         Shown::Context(line_num) => draw_line(rt, viewport, x, y, &context_line(line_num)),
-        Shown::Menu => draw_menu(rt, viewport, x, y, &menu_of(alloc, "M", &["a", "long"])?),
+        Shown::Menu => draw_menu(rt, viewport, x, y, &menu_of(alloc, MENU)?),
         Shown::Bar(open) => draw_bar(rt, viewport, x, y, &bar_of(alloc, open)?),
         Shown::Dialog => draw_line_and_button(rt, viewport),
         Shown::Quit => draw_quit(rt, viewport, &QUIT),
@@ -486,7 +514,7 @@ pub(crate) fn check_shown(
 const MESSAGE: Shown = Shown::Message("hi\nmore");
 
 /// The components, each on a blank screen.
-const ROWS: [Row; 48] = [
+const ROWS: &[Row] = &[
     // a button: one call each, even off the screen; it is no row of the document
     (Shown::Button(false), (0, 20, 3, 1), "\n   [Go]\n\n", (0, 1)),
     (Shown::Button(true), (0, 20, 3, 1), "\n   (Go)\n\n", (0, 1)),
@@ -632,10 +660,15 @@ const ROWS: [Row; 48] = [
     (MESSAGE, (0, 20, 0, 3), "\n\n\n", (0, 0)),
 ];
 
+/// Draws the component of `row` on a blank screen, and checks it.
+fn check_alone(rt: &impl Abort, alloc: Global, row: Row) -> Result<(), RecordError> {
+    check_shown(rt, alloc, Grid::new(alloc, 20, 3)?, row)
+}
+
 #[test]
 fn components_are_drawn_alone(rt: HostRuntime) -> Result<(), RecordError> {
     for row in ROWS {
-        check_shown(&rt, rt.alloc(), Grid::new(rt.alloc(), 20, 3)?, row)?;
+        check_alone(&rt, rt.alloc(), *row)?;
     }
     Ok(())
 }

@@ -44,37 +44,35 @@ fn sample_state(alloc: Global) -> Result<RecordState<'static>, RecordError> {
     Ok(state)
 }
 
-/// Draws `sample_state` from row `scroll` on, on 30 columns and 3 rows. Checks the screen and the
-/// counts.
-fn check_app(
-    rt: &impl Abort,
-    alloc: Global,
-    scroll: usize,
-    rows: &str,
-    counts: (usize, usize),
-) -> Result<(), RecordError> {
-    let state = sample_state(alloc)?;
+/// The first row of the document on the screen, the screen's rows, and the counted rows and calls.
+type Row = (usize, &'static str, (usize, usize));
+
+/// Draws `sample_state` as `row` says, on 30 columns and 3 rows. Checks the screen and the counts.
+fn check_app(rt: &impl Abort, alloc: Global, row: Row) -> Result<(), RecordError> {
     let mut grid = Grid::new(alloc, 30, 3)?;
-    draw_app(rt, alloc, &mut grid, scroll, state)?;
-    check_screen(rt, alloc, &grid, rows, counts)
+    draw_app(rt, alloc, &mut grid, row.0, sample_state(alloc)?)?;
+    check_screen(rt, alloc, &grid, row.1, row.2)
 }
+
+/// The menu bar.
+const BAR: &str = "[File] [Edit] [Select] [View]\n\n\n";
+
+/// The menu bar, and the header of a file.
+const HEADER: &str = "[File] [Edit] [Select] [View]\n[ ] f                      [+]\n\n";
+
+/// The menu bar takes a blank and four titles at any scroll. The header is a row of four calls if
+/// it is on the screen, even where the menu bar hides it on the first row.
+const ROWS: &[Row] = &[
+    (0, HEADER, (1, 9)),
+    (1, BAR, (1, 9)),
+    (2, BAR, (0, 5)),
+    (1000, BAR, (0, 5)),
+];
 
 #[test]
 fn apps_are_drawn_alone(rt: HostRuntime) -> Result<(), RecordError> {
-    // the menu bar takes a blank and four titles at any scroll; the header is a row of four calls
-    // if it is on the screen, even where the menu bar hides it on the first row
-    let bar = "[File] [Edit] [Select] [View]\n\n\n";
-    for (scroll, rows, counts) in [
-        (
-            0,
-            "[File] [Edit] [Select] [View]\n[ ] f                      [+]\n\n",
-            (1, 9),
-        ),
-        (1, bar, (1, 9)),
-        (2, bar, (0, 5)),
-        (1000, bar, (0, 5)),
-    ] {
-        check_app(&rt, rt.alloc(), scroll, rows, counts)?;
+    for row in ROWS {
+        check_app(&rt, rt.alloc(), *row)?;
     }
     Ok(())
 }
@@ -131,31 +129,28 @@ fn draw_state(
     draw_view(rt, viewport, x, &view)
 }
 
-/// Draws `sample_state` from column `x` on, on 20 columns and 3 rows under `mask`, its first column
-/// and its number of columns. Checks the screen.
-fn check_masked(
-    rt: &impl Abort,
-    alloc: Global,
-    mask: (isize, usize),
-    x: isize,
-    rows: &str,
-) -> Result<(), RecordError> {
-    let state = sample_state(alloc)?;
-    let mut viewport = viewport_under(rt, alloc, mask.0, mask.1)?;
-    draw_state(rt, alloc, &mut viewport, x, state)?;
-    check_drawing(rt, alloc, viewport, rows, (1, 9))
+/// A mask's first column and its number of columns, the view's first column, and the screen's rows.
+type Masked = (isize, usize, isize, &'static str);
+
+/// Draws `sample_state` as `row` says, on 20 columns and 3 rows. Checks the screen.
+fn check_masked(rt: &impl Abort, alloc: Global, row: Masked) -> Result<(), RecordError> {
+    let mut viewport = viewport_under(rt, alloc, row.0, row.1)?;
+    draw_state(rt, alloc, &mut viewport, row.2, sample_state(alloc)?)?;
+    check_drawing(rt, alloc, viewport, row.3, (1, 9))
 }
+
+/// The mask clips the menu bar. The document sets a mask of its own, which replaces it.
+const MASKED: &[Masked] = &[
+    (0, 20, 0, "[File] [Edit] [Selec\n[ ] f            [+]\n\n"),
+    (4, 2, 0, "    e]\n[ ] f            [+]\n\n"),
+    (0, 0, 0, "\n[ ] f            [+]\n\n"),
+    (0, 20, -3, "le] [Edit] [Select]\n f            [+]\n\n"),
+];
 
 #[test]
 fn apps_are_drawn_under_masks(rt: HostRuntime) -> Result<(), RecordError> {
-    // the mask clips the menu bar; the document sets a mask of its own, which replaces it
-    for (mask, x, rows) in [
-        ((0, 20), 0, "[File] [Edit] [Selec\n[ ] f            [+]\n\n"),
-        ((4, 2), 0, "    e]\n[ ] f            [+]\n\n"),
-        ((0, 0), 0, "\n[ ] f            [+]\n\n"),
-        ((0, 20), -3, "le] [Edit] [Select]\n f            [+]\n\n"),
-    ] {
-        check_masked(&rt, rt.alloc(), mask, x, rows)?;
+    for row in MASKED {
+        check_masked(&rt, rt.alloc(), *row)?;
     }
     Ok(())
 }

@@ -28,30 +28,41 @@ fn grid_of_letters(rt: &impl Abort, alloc: Global) -> Result<Grid, RecordError> 
 
 // ---- messages
 
+/// A place, the screen's rows, and the counted rows and calls.
+type Over = (Place, &'static str, (usize, usize));
+
+/// A message blanks its first and its third row from its column to the end of the mask. Letters
+/// stay between the texts of the middle row.
+const MESSAGES: &[Over] = &[
+    ((0, 20, 0, 0), "\n[Edit message]o • s…\n\n", (3, 5)),
+    ((0, 20, 4, 0), "abcd\nabcd[Edit message]s…\nabcd\n", (3, 5)),
+    (
+        (4, 8, 0, 0),
+        "abcd        mnopqrst\nabcdt messa…mnopqrst\nabcd        mnopqrst\n",
+        (3, 5),
+    ),
+    (
+        (0, 4, 6, 0),
+        "abcdefghijklmnopqrst\nabc…efghijklmnopqrst\nabcdefghijklmnopqrst\n",
+        (3, 5),
+    ),
+    (
+        (0, 20, 10, 2),
+        "abcdefghijklmnopqrst\nabcdefghijklmnopqrst\nabcdefghij\n",
+        (1, 1),
+    ),
+];
+
+/// Draws a message over the letters, and checks the screen and the counts.
+fn check_message(rt: &impl Abort, alloc: Global, row: Over) -> Result<(), RecordError> {
+    let shown = (Shown::Message("hi"), row.0, row.1, row.2);
+    check_shown(rt, alloc, grid_of_letters(rt, alloc)?, shown)
+}
+
 #[test]
 fn messages_blank_their_first_and_third_row(rt: HostRuntime) -> Result<(), RecordError> {
-    // from their column to the end of the mask; letters stay between the texts of the middle row
-    for (place, rows, counts) in [
-        ((0, 20, 0, 0), "\n[Edit message]o • s…\n\n", (3, 5)),
-        ((0, 20, 4, 0), "abcd\nabcd[Edit message]s…\nabcd\n", (3, 5)),
-        (
-            (4, 8, 0, 0),
-            "abcd        mnopqrst\nabcdt messa…mnopqrst\nabcd        mnopqrst\n",
-            (3, 5),
-        ),
-        (
-            (0, 4, 6, 0),
-            "abcdefghijklmnopqrst\nabc…efghijklmnopqrst\nabcdefghijklmnopqrst\n",
-            (3, 5),
-        ),
-        (
-            (0, 20, 10, 2),
-            "abcdefghijklmnopqrst\nabcdefghijklmnopqrst\nabcdefghij\n",
-            (1, 1),
-        ),
-    ] {
-        let row = (Shown::Message("hi"), place, rows, counts);
-        check_shown(&rt, rt.alloc(), grid_of_letters(&rt, rt.alloc())?, row)?;
+    for row in MESSAGES {
+        check_message(&rt, rt.alloc(), *row)?;
     }
     Ok(())
 }
@@ -87,48 +98,63 @@ fn draw_middle_section(
     draw_section(rt, viewport, x, y, &view)
 }
 
-/// Draws a section of context without lines over the letters, and checks the screen and the counts.
-fn check_section_of_no_lines(
+/// Returns a viewport over the letters, under the mask of `place`.
+fn viewport_over_letters(
     rt: &impl Abort,
     alloc: Global,
     place: Place,
-    rows: &str,
-    counts: (usize, usize),
-) -> Result<(), RecordError> {
-    let (left, width, x, y) = place;
-    let section = context(alloc, &[])?;
+) -> Result<Viewport<ComponentId>, RecordError> {
     let grid = grid_of_letters(rt, alloc)?;
-    let mut viewport = viewport_on(rt, alloc, grid, left, width);
-    let _ = draw_middle_section(rt, &mut viewport, x, y, &section)?;
-    check_drawing(rt, alloc, viewport, rows, counts)
+    Ok(viewport_on(rt, alloc, grid, place.0, place.1))
 }
+
+/// Draws a section of context with `lines`, and returns its box.
+fn draw_context(
+    rt: &impl Abort,
+    alloc: Global,
+    viewport: &mut Viewport<ComponentId>,
+    place: Place,
+    lines: &[&'static str],
+) -> Result<Rect, RecordError> {
+    let section = context(alloc, lines)?;
+    draw_middle_section(rt, viewport, place.2, place.3, &section)
+}
+
+/// Draws a section of context without lines over the letters, and checks the screen and the counts.
+fn check_section_of_no_lines(rt: &impl Abort, alloc: Global, row: Over) -> Result<(), RecordError> {
+    let mut viewport = viewport_over_letters(rt, alloc, row.0)?;
+    let _ = draw_context(rt, alloc, &mut viewport, row.0, &[])?;
+    check_drawing(rt, alloc, viewport, row.1, row.2)
+}
+
+/// Context without lines blanks its row from its column to the end of the mask.
+const NO_LINES: &[Over] = &[
+    (
+        (0, 20, 2, 1),
+        "abcdefghijklmnopqrst\nab\nabcdefghijklmnopqrst\n",
+        (1, 1),
+    ),
+    (
+        (4, 8, 2, 0),
+        "abcd        mnopqrst\nabcdefghijklmnopqrst\nabcdefghijklmnopqrst\n",
+        (1, 1),
+    ),
+    (
+        (0, 10, 6, 2),
+        "abcdefghijklmnopqrst\nabcdefghijklmnopqrst\nabcdef    klmnopqrst\n",
+        (1, 1),
+    ),
+    (
+        (0, 20, 2, 3),
+        "abcdefghijklmnopqrst\nabcdefghijklmnopqrst\nabcdefghijklmnopqrst\n",
+        (0, 0),
+    ),
+];
 
 #[test]
 fn context_without_lines_blanks_its_row(rt: HostRuntime) -> Result<(), RecordError> {
-    // from its column to the end of the mask
-    for (place, rows, counts) in [
-        (
-            (0, 20, 2, 1),
-            "abcdefghijklmnopqrst\nab\nabcdefghijklmnopqrst\n",
-            (1, 1),
-        ),
-        (
-            (4, 8, 2, 0),
-            "abcd        mnopqrst\nabcdefghijklmnopqrst\nabcdefghijklmnopqrst\n",
-            (1, 1),
-        ),
-        (
-            (0, 10, 6, 2),
-            "abcdefghijklmnopqrst\nabcdefghijklmnopqrst\nabcdef    klmnopqrst\n",
-            (1, 1),
-        ),
-        (
-            (0, 20, 2, 3),
-            "abcdefghijklmnopqrst\nabcdefghijklmnopqrst\nabcdefghijklmnopqrst\n",
-            (0, 0),
-        ),
-    ] {
-        check_section_of_no_lines(&rt, rt.alloc(), place, rows, counts)?;
+    for row in NO_LINES {
+        check_section_of_no_lines(&rt, rt.alloc(), *row)?;
     }
     Ok(())
 }
@@ -141,27 +167,26 @@ fn check_columns(
     place: Place,
     columns: (isize, usize),
 ) -> Result<(), RecordError> {
-    let (left, width, x, y) = place;
-    let section = context(alloc, &["a\n"])?;
-    let grid = grid_of_letters(rt, alloc)?;
-    let mut viewport = viewport_on(rt, alloc, grid, left, width);
-    let rect = draw_middle_section(rt, &mut viewport, x, y, &section)?;
+    let mut viewport = viewport_over_letters(rt, alloc, place)?;
+    let rect = draw_context(rt, alloc, &mut viewport, place, &["a\n"])?;
     check_equal(rt, (rect.x, rect.width), columns);
-    check_equal(rt, (rect.y, rect.height), (y, 1));
+    check_equal(rt, (rect.y, rect.height), (place.3, 1));
     Ok(())
 }
 
+/// Places, and the first columns and numbers of columns of boxes there. A line covers all columns
+/// of the mask, so the box begins at the mask's first column if that is further left.
+const COLUMNS: &[(Place, (isize, usize))] = &[
+    ((0, 20, 2, 1), (0, 20)),
+    ((2, 18, 2, 1), (2, 18)),
+    ((8, 6, 2, 0), (2, 12)),
+    ((5, 12, 3, 3), (3, 14)),
+];
+
 #[test]
 fn boxes_of_context_begin_at_their_column(rt: HostRuntime) -> Result<(), RecordError> {
-    // a line covers all columns of the mask, so the box begins at the mask's first column if that
-    // is further left
-    for (place, columns) in [
-        ((0, 20, 2, 1), (0, 20)),
-        ((2, 18, 2, 1), (2, 18)),
-        ((8, 6, 2, 0), (2, 12)),
-        ((5, 12, 3, 3), (3, 14)),
-    ] {
-        check_columns(&rt, rt.alloc(), place, columns)?;
+    for (place, columns) in COLUMNS {
+        check_columns(&rt, rt.alloc(), *place, *columns)?;
     }
     Ok(())
 }

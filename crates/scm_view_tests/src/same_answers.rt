@@ -21,7 +21,7 @@ use std::alloc::Global;
 use std::process::Abort;
 
 /// A section of each kind, with context first, between and last.
-const PARTS: [Part; 8] = [
+const PARTS: &[Part] = &[
     Part::Context(&["a\n", "b\n", "c\n", "d\n"]),
     Part::Changes(&[(true, REMOVED, "e\n"), (false, ADDED, "f\n")]),
     Part::Context(&["g\n"]),
@@ -124,46 +124,89 @@ fn change(
     Ok(())
 }
 
-#[test]
+/// Checks the frame of `view_state`, scrolled by a random number.
 #[tactic(auto, unfolding(scm_types::specs::Limits::max_items, scm_types::specs::Limits::max_scroll))]
-fn both_indexes_answer_alike(rt: HostRuntime) -> Result<(), RecordError> {
-    let alloc = rt.alloc();
-    let state = state_with(alloc, &PARTS, 2)?;
-    let mut keys = all_keys(alloc, state.files.as_slice())?;
-    keys.push(SelectionKey::None)?;
-    let expanded = key_set_of(alloc, keys.as_slice())?;
-    let mut view_state = ViewState::new(state, SelectionKey::None, expanded);
+fn check_scrolled(
+    rt: &impl Abort,
+    alloc: Global,
+    view_state: &ViewState<'_>,
+    keys: &[SelectionKey],
+    seed: usize,
+) -> Result<(), RecordError> {
+    let scroll = seed % 40;
+    assert!(rt; view_state.state.is_accepted());
+    assert!(rt; matches!(&view_state.view_mode, CommitViewMode::Inline));
+    assert!(rt; scroll <= RecordState::MAX_SCROLL);
+    check_frame(rt, alloc, view_state, keys, scroll)
+}
+
+/// Checks 40 frames, each after a random change of `view_state`.
+fn check_frames(
+    rt: &impl Abort,
+    alloc: Global,
+    view_state: &mut ViewState<'static>,
+    keys: &[SelectionKey],
+) -> Result<(), RecordError> {
     let mut seed: usize = 1;
     for _ in 0..40 {
-        let scroll = seed % 40;
-        assert!(rt; view_state.state.is_accepted());
-        assert!(rt; matches!(&view_state.view_mode, CommitViewMode::Inline));
-        assert!(rt; scroll <= RecordState::MAX_SCROLL);
-        check_frame(&rt, alloc, &view_state, keys.as_slice(), scroll)?;
+        check_scrolled(rt, alloc, view_state, keys, seed)?;
         seed = seed.wrapping_mul(75).wrapping_add(74) % 65_537;
-        change(&mut view_state, keys.as_slice(), seed)?;
+        change(view_state, keys, seed)?;
     }
     Ok(())
 }
 
+/// Returns the keys of `state`, and the key of nothing.
+fn keys_of(alloc: Global, state: &RecordState<'static>) -> Result<Vec<SelectionKey>, RecordError> {
+    let mut keys = all_keys(alloc, state.files.as_slice())?;
+    keys.push(SelectionKey::None)?;
+    Ok(keys)
+}
+
+/// Returns a view state over `state` with the keys `keys` unfolded.
+fn unfolded(
+    alloc: Global,
+    state: RecordState<'static>,
+    keys: &[SelectionKey],
+) -> Result<ViewState<'static>, RecordError> {
+    let expanded = key_set_of(alloc, keys)?;
+    Ok(ViewState::new(state, SelectionKey::None, expanded))
+}
+
+#[test]
+fn both_indexes_answer_alike(rt: HostRuntime) -> Result<(), RecordError> {
+    let state = state_with(rt.alloc(), PARTS, 2)?;
+    let keys = keys_of(rt.alloc(), &state)?;
+    let mut view_state = unfolded(rt.alloc(), state, keys.as_slice())?;
+    check_frames(&rt, rt.alloc(), &mut view_state, keys.as_slice())
+}
+
+/// The first column of a rectangle, its columns, a column, and the end of the run there.
+const RUNS: &[(isize, usize, usize, usize)] = &[
+    (2, 3, 0, 2),
+    (2, 3, 2, 5),
+    (2, 3, 5, 10),
+    (-1, 3, 0, 2),
+    (-1, 3, 2, 10),
+    (20, 3, 0, 10),
+];
+
+/// Checks the end of the run at `column`, in ten columns with a rectangle.
+fn check_run(rt: &impl Abort, x: isize, width: usize, column: usize, expected: usize) {
+    let rect = Rect {
+        x,
+        y: 0,
+        width,
+        height: 1,
+    };
+    assert!(rt; column < 10);
+    let end = rect_end(rect, column, 10);
+    check_equal(rt, (x, column, end), (x, column, expected));
+}
+
 #[test]
 fn runs_end_at_sides_of_rectangles(rt: HostRuntime) {
-    for (x, width, column, expected) in [
-        (2, 3, 0, 2),
-        (2, 3, 2, 5),
-        (2, 3, 5, 10),
-        (-1, 3, 0, 2),
-        (-1, 3, 2, 10),
-        (20, 3, 0, 10),
-    ] {
-        let rect = Rect {
-            x,
-            y: 0,
-            width,
-            height: 1,
-        };
-        assert!(rt; column < 10);
-        let end = rect_end(rect, column, 10);
-        check_equal(&rt, (x, column, end), (x, column, expected));
+    for (x, width, column, expected) in RUNS {
+        check_run(&rt, *x, *width, *column, *expected);
     }
 }

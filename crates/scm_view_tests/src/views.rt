@@ -314,13 +314,13 @@ fn rows_of(alloc: Global, grid: &Grid) -> Result<String, RecordError> {
 // ---- documents
 
 /// A line of context, and two changes after it.
-const CONTEXT_BEFORE_CHANGES: [Part; 2] = [
+const CONTEXT_BEFORE_CHANGES: &[Part] = &[
     Part::Context(&["a\n"]),
     Part::Changes(&[(false, REMOVED, "b\n"), (true, ADDED, "c\n")]),
 ];
 
 /// Two changes with seven lines between them.
-const CONTEXT_BETWEEN_CHANGES: [Part; 3] = [
+const CONTEXT_BETWEEN_CHANGES: &[Part] = &[
     Part::Changes(&[(false, ADDED, "x\n")]),
     Part::Context(&["a\n", "b\n", "c\n", "d\n", "e\n", "f\n", "g\n"]),
     Part::Changes(&[(false, REMOVED, "y\n")]),
@@ -339,10 +339,10 @@ type Row = (
 );
 
 /// The rows of the table.
-const DOCUMENTS: [Row; 5] = [
+const DOCUMENTS: &[Row] = &[
     (
         true,
-        &CONTEXT_BEFORE_CHANGES,
+        CONTEXT_BEFORE_CHANGES,
         Some(1),
         24,
         5,
@@ -351,7 +351,7 @@ const DOCUMENTS: [Row; 5] = [
     ),
     (
         true,
-        &CONTEXT_BEFORE_CHANGES,
+        CONTEXT_BEFORE_CHANGES,
         Some(1),
         24,
         5,
@@ -360,7 +360,7 @@ const DOCUMENTS: [Row; 5] = [
     ),
     (
         false,
-        &CONTEXT_BEFORE_CHANGES,
+        CONTEXT_BEFORE_CHANGES,
         None,
         24,
         5,
@@ -369,7 +369,7 @@ const DOCUMENTS: [Row; 5] = [
     ),
     (
         true,
-        &CONTEXT_BETWEEN_CHANGES,
+        CONTEXT_BETWEEN_CHANGES,
         Some(0),
         24,
         12,
@@ -378,7 +378,7 @@ const DOCUMENTS: [Row; 5] = [
     ),
     (
         false,
-        &CONTEXT_BETWEEN_CHANGES,
+        CONTEXT_BETWEEN_CHANGES,
         None,
         24,
         3,
@@ -450,26 +450,40 @@ pub(crate) fn check_screen(
     Ok(())
 }
 
+/// Returns the key of section `selected`, if any.
+fn key_of_section(selected: Option<usize>) -> SelectionKey {
+    match selected {
+        Some(index) => SelectionKey::Section(section_key(index)),
+        None => SelectionKey::None,
+    }
+}
+
+/// Draws the document of `files`, which are those of `row`, and checks the screen.
+fn check_files_of(
+    rt: &impl Abort,
+    alloc: Global,
+    files: &[File<'_>],
+    row: Row,
+) -> Result<(), RecordError> {
+    let look = Look {
+        use_unicode: row.0,
+        selection: key_of_section(row.2),
+    };
+    let mut grid = Grid::new(alloc, row.3, row.4)?;
+    draw_files(rt, alloc, look, files, &mut grid, row.5)?;
+    check_rows(rt, alloc, &grid, row.6)
+}
+
 /// Draws the document of `row`, and checks the screen.
 fn check_document(rt: &impl Abort, alloc: Global, row: Row) -> Result<(), RecordError> {
-    let (use_unicode, parts, selected, width, height, y, wanted) = row;
-    let look = Look {
-        use_unicode,
-        selection: match selected {
-            Some(index) => SelectionKey::Section(section_key(index)),
-            None => SelectionKey::None,
-        },
-    };
-    let files = files_with(alloc, parts, 1)?;
-    let mut grid = Grid::new(alloc, width, height)?;
-    draw_files(rt, alloc, look, files.as_slice(), &mut grid, y)?;
-    check_rows(rt, alloc, &grid, wanted)
+    let files = files_with(alloc, row.1, 1)?;
+    check_files_of(rt, alloc, files.as_slice(), row)
 }
 
 #[test]
 fn documents_are_drawn_alone(rt: HostRuntime) -> Result<(), RecordError> {
     for row in DOCUMENTS {
-        check_document(&rt, rt.alloc(), row)?;
+        check_document(&rt, rt.alloc(), *row)?;
     }
     Ok(())
 }
@@ -501,7 +515,7 @@ fn documents_without_files_say_so(rt: HostRuntime) -> Result<(), RecordError> {
 // ---- context
 
 /// The texts of lines of context.
-const TEXTS: [&str; 7] = ["a\n", "b\n", "c\n", "d\n", "e\n", "f\n", "g\n"];
+const TEXTS: &[&str] = &["a\n", "b\n", "c\n", "d\n", "e\n", "f\n", "g\n"];
 
 /// Returns the rows of context named by `names`: a digit is the number of a line, and a dot is the
 /// row in place of hidden lines.
@@ -580,20 +594,37 @@ fn check_context(
     check_section_rows(rt, alloc, index, total, &section, names)
 }
 
+/// A number of lines, and the rows of the first section of three, of the one in the middle, of the
+/// last one, and of the only one of a file.
+type Left = (
+    usize,
+    &'static str,
+    &'static str,
+    &'static str,
+    &'static str,
+);
+
+/// Sections of context.
+const LEFT: &[Left] = &[
+    (0, " ", " ", " ", " "),
+    (1, "1", "1", "1", ""),
+    (3, "123", "123", "123", ""),
+    (6, ".456", "123456", "123.", "."),
+    (7, ".567", "123.567", "123.", "."),
+];
+
+/// Draws the sections of `row` alone, and checks their rows.
+fn check_left(rt: &impl Abort, alloc: Global, row: Left) -> Result<(), RecordError> {
+    check_context(rt, alloc, row.0, 0, 3, row.1)?;
+    check_context(rt, alloc, row.0, 1, 3, row.2)?;
+    check_context(rt, alloc, row.0, 2, 3, row.3)?;
+    check_context(rt, alloc, row.0, 0, 1, row.4)
+}
+
 #[test]
 fn lines_of_context_are_left_out(rt: HostRuntime) -> Result<(), RecordError> {
-    let alloc = rt.alloc();
-    for (count, first, middle, last, only) in [
-        (0, " ", " ", " ", " "),
-        (1, "1", "1", "1", ""),
-        (3, "123", "123", "123", ""),
-        (6, ".456", "123456", "123.", "."),
-        (7, ".567", "123.567", "123.", "."),
-    ] {
-        check_context(&rt, alloc, count, 0, 3, first)?;
-        check_context(&rt, alloc, count, 1, 3, middle)?;
-        check_context(&rt, alloc, count, 2, 3, last)?;
-        check_context(&rt, alloc, count, 0, 1, only)?;
+    for row in LEFT {
+        check_left(&rt, rt.alloc(), *row)?;
     }
     Ok(())
 }
@@ -612,31 +643,58 @@ fn check_box(
     check_rows(rt, alloc, &grid, wanted)
 }
 
+/// A box: whether symbols beyond ASCII may be used, whether it has the focus, whether it is
+/// read-only, its mark, which is `None` if it is partial, whether it is a toggle box, and the
+/// screen.
+type Boxed = (bool, bool, bool, Option<bool>, bool, &'static str);
+
+/// Boxes of each kind.
+const BOXES: &[Boxed] = &[
+    (false, false, false, Some(false), true, "[ ]\n"),
+    (false, true, false, None, true, "(~)\n"),
+    (false, false, false, Some(true), true, "[*]\n"),
+    (false, false, false, Some(false), false, "[+]\n"),
+    (false, false, false, None, false, "[~]\n"),
+    (false, true, false, Some(true), false, "(-)\n"),
+    (false, true, true, Some(true), true, "<*>\n"),
+    (true, false, true, None, false, "<±>\n"),
+    (true, false, false, None, true, "[◐]\n"),
+    (true, true, false, Some(true), true, "(●)\n"),
+];
+
+/// Returns the mark `mark`, which is `None` if it is partial.
+fn tristate_of(mark: Option<bool>) -> Tristate {
+    match mark {
+        Some(is_checked) => Tristate::from(is_checked),
+        None => Tristate::Partial,
+    }
+}
+
+/// Returns the style of a toggle box or of an expand box.
+fn style_of(is_toggle_box: bool) -> TristateIconStyle {
+    if is_toggle_box {
+        TristateIconStyle::Check
+    } else {
+        TristateIconStyle::Expand
+    }
+}
+
+/// Returns the box of `row`.
+fn box_of(row: Boxed) -> TristateBox<ComponentId> {
+    TristateBox {
+        use_unicode: row.0,
+        is_focused: row.1,
+        is_read_only: row.2,
+        id: ComponentId::App,
+        tristate: tristate_of(row.3),
+        icon_style: style_of(row.4),
+    }
+}
+
 #[test]
 fn boxes_are_drawn_alone(rt: HostRuntime) -> Result<(), RecordError> {
-    use Tristate::{False, Partial, True};
-    use TristateIconStyle::{Check, Expand};
-    for (use_unicode, is_focused, is_read_only, tristate, icon_style, wanted) in [
-        (false, false, false, False, Check, "[ ]\n"),
-        (false, true, false, Partial, Check, "(~)\n"),
-        (false, false, false, True, Check, "[*]\n"),
-        (false, false, false, False, Expand, "[+]\n"),
-        (false, false, false, Partial, Expand, "[~]\n"),
-        (false, true, false, True, Expand, "(-)\n"),
-        (false, true, true, True, Check, "<*>\n"),
-        (true, false, true, Partial, Expand, "<±>\n"),
-        (true, false, false, Partial, Check, "[◐]\n"),
-        (true, true, false, True, Check, "(●)\n"),
-    ] {
-        let view = TristateBox {
-            use_unicode,
-            is_focused,
-            is_read_only,
-            id: ComponentId::App,
-            tristate,
-            icon_style,
-        };
-        check_box(&rt, rt.alloc(), &view, wanted)?;
+    for row in BOXES {
+        check_box(&rt, rt.alloc(), &box_of(*row), row.5)?;
     }
     Ok(())
 }

@@ -18,7 +18,7 @@ use std::alloc::Global;
 use std::process::Abort;
 
 /// Ten sections: three groups of changed lines between context, and a binary change.
-const PARTS: [Part; 10] = [
+const PARTS: &[Part] = &[
     Part::Context(&["a\n", "b\n", "c\n", "d\n"]),
     Part::Changes(&[(true, REMOVED, "e\n"), (false, ADDED, "f\n")]),
     Part::Context(&["g\n"]),
@@ -90,7 +90,7 @@ fn check_state(
     step: usize,
     most: usize,
 ) -> Result<(), RecordError> {
-    let state = state_with(alloc, &PARTS, 6)?;
+    let state = state_with(alloc, PARTS, 6)?;
     let expanded = sample_keys(alloc, &state, step)?;
     assert!(rt; state.is_accepted());
     let layout = Layout::new(alloc, &state, &expanded)?;
@@ -101,14 +101,17 @@ fn check_state(
     Ok(())
 }
 
+/// The distance of folded keys, and the most views of sections of a file. 170 rows hold the
+/// message, and of each file a header, 8 rows of each of three groups of sections, and a binary
+/// change. Where all are unfolded but the first file, six rows show at most four sections of a
+/// file, and one is kept on either side. Seven rows have at most nine views, and one of them is
+/// that of a file.
+const STEPS: &[(usize, usize)] = &[(2, 8), (3, 8), (7, 8), (1000, 6)];
+
 #[test]
 fn visible_views_show_the_document(rt: HostRuntime) -> Result<(), RecordError> {
-    // 170 rows hold the message, and of each file a header, 8 rows of each of three groups of
-    // sections, and a binary change; where all are unfolded but the first file, six rows show at most
-    // four sections of a file, and one is kept on either side; seven rows have at most nine views, and
-    // one of them is that of a file
-    for (step, most) in [(2, 8), (3, 8), (7, 8), (1000, 6)] {
-        check_state(&rt, rt.alloc(), step, most)?;
+    for (step, most) in STEPS {
+        check_state(&rt, rt.alloc(), *step, *most)?;
     }
     Ok(())
 }

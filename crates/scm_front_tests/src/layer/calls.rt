@@ -1,6 +1,6 @@
 //! Calls without a session.
 use crate::layer::states::state_of_files;
-use scm_front::{AcceptedState, Action, Logging, Mode, Typing, Way, action_of, item_towards};
+use scm_front::{AcceptedState, Action, Logging, Mode, Typing, Way, action_of, item_around};
 use scm_record::key_lists::{file_key, line_key};
 use scm_record::keys::is_key;
 use scm_record::{
@@ -30,15 +30,15 @@ fn keys_are_known_without_a_session(rt: HostRuntime) -> Result<(), Fail> {
 /// Returns the item that a search for `pattern` finds from file 0.
 fn found(alloc: Global, way: Way, pattern: &str) -> Result<Option<SelectionKey>, RecordError> {
     let state = state_of_files(alloc)?;
-    Ok(item_towards(way, pattern, state.files.as_slice(), file_key(0)))
+    Ok(item_around(way, pattern, state.files.as_slice(), file_key(0)))
 }
 
 #[test]
 fn items_are_found_without_a_session(rt: HostRuntime) -> Result<(), Fail> {
     let below = found(rt.alloc(), Way::Down, "two")?;
     assert!(rt; matches!(below, Some(key) if is_key(key, line_key(0, 1, 1))));
-    let above = found(rt.alloc(), Way::Up, "two")?;
-    assert!(rt; above.is_none());
+    let around = found(rt.alloc(), Way::Up, "two")?;
+    assert!(rt; matches!(around, Some(key) if is_key(key, line_key(1, 1, 0))));
     Ok(())
 }
 
