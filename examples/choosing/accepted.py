@@ -1,6 +1,6 @@
 """What a front end wrote of an accepted choice: the sides of each file, the marks, and the messages. And marks that are kept."""
 from .change import ABSENT, digest_of
-from .folders import read_named
+from .named import read_named
 from .records import records_in
 from .words import Stop, shown
 
@@ -16,44 +16,70 @@ class Accepted:
         with open(path, "rb") as file:
             data = file.read()
         try:
-            files = self.files_in(data)
+            self.messages, files = files_in(data, "accepted")
             self.marks = [file["marks"].decode() for file in files]
             self.found = [{side: side_in(file, side, change) for side in SIDES} for file, change in zip(files, changes)]
-            is_whole = data.startswith(b"accepted ") and (len(self.messages), len(files)) == (count, len(changes))
+            is_whole = (len(self.messages), len(files)) == (count, len(changes))
         except (ValueError, LookupError):
             is_whole = False
         if not is_whole:
             raise Stop("the front end did not write the sides of %d files" % len(changes))
 
-    def files_in(self, data):
-        """Returns the records of each file, by their words, and keeps the messages."""
-        files = []
-        for word, value in records_in(data):
-            if word == "message":
-                self.messages.append(value.decode())
-            elif word == "marks":
-                files.append({word: value})
-            elif word != "accepted":
-                files[-1][word] = value
-        return files
-
     def sides(self, side):
-        """Yields each change with the mode and the bytes that it has on a side: `selected` or `unselected`."""
+        """Yields each change with the mode at each of its paths and the bytes that it has on a side: `selected` or `unselected`."""
         return ((change, *found[side]) for change, found in zip(self.changes, self.found))
 
     def kept(self):
-        """Returns the marks as they are kept: what has to be the same for them to be taken up is with them."""
-        import json
+        """Returns the marks as they are kept."""
+        return kept_text(self.changes, self.marks, self.messages)
 
-        files = [{"path": shown(it.path), "sides": sides_of(it), "marks": marks} for it, marks in zip(self.changes, self.marks)]
-        return json.dumps({"messages": self.messages, "files": files})
+
+def files_in(data, first):
+    """Returns the messages in the records of a front end, of which the first one has the word `first`, and the records of each file by their
+    words."""
+    messages, files = [], []
+    for number, (word, value) in enumerate(records_in(data)):
+        if (word == first) != (number == 0):
+            raise ValueError(word)
+        if word == "message":
+            messages.append(value.decode())
+        elif word == "marks":
+            files.append({word: value})
+        elif number:
+            files[-1][word] = value
+    return messages, files
+
+
+def kept_text(changes, marks, messages):
+    """Returns the marks of changes as they are kept: what has to be the same for them to be taken up is with them."""
+    import json
+
+    files = [{"path": shown(it.path), "sides": sides_of(it), "marks": of_one} for it, of_one in zip(changes, marks)]
+    return json.dumps({"messages": messages, "files": files})
+
+
+def left_marks(path, changes):
+    """Returns the marks that a front end has left in a file, which was killed while the user chose, as they are kept. Returns None if it left
+    none, or if nothing is marked."""
+    try:
+        with open(path, "rb") as file:
+            messages, files = files_in(file.read(), "kept")
+        marks = [file["marks"].decode() for file in files]
+    except (OSError, ValueError, LookupError):
+        return None
+    is_whole = len(marks) == len(changes) and any("1" in of_one for of_one in marks)
+    return kept_text(changes, marks, messages) if is_whole else None
 
 
 def side_in(file, side, change):
-    """Returns the mode and the bytes of a side, by the records of its file. Contents that are one item are those of a version."""
-    mode = file.get(side + "-mode", ABSENT.encode()).decode("ascii")
+    """Returns the mode that a side has at each path of a file, and the side's bytes, by the records of the file. Contents that are one
+    item are those of a version."""
+    version = file.get(side + "-version")
+    if version:
+        return change.version_in_place({b"old": False, b"new": True}[version])
+    modes = [file.get("%s-%s" % (side, word), ABSENT.encode()).decode("ascii") for word in change.modes]
     versions = {b"old": change.old_data, b"new": change.new_data}
-    return mode, file[side] if side in file else versions[file[side + "-is"]]
+    return modes, file[side] if side in file else versions[file[side + "-is"]]
 
 
 def sides_of(change):

@@ -40,6 +40,8 @@ class Change:
     end says of it, and `marks` the marks to begin with: a `1` or a `0` for each item, or nothing."""
 
     note = marks = ""
+    # the words behind that of a side in the records that have the mode at each of its paths
+    modes = "mode",
     # the renamed file of which this is one path
     whole = None
 
@@ -63,7 +65,8 @@ class Change:
         """Returns the records that hand it in. What has no lines, and a link, goes without its bytes: it is one item, or none."""
         path, has_words = shown(self.path).encode(), not self.is_surely_shown()
         if not has_words and ABSENT not in (self.old.mode, self.new.mode):
-            versions = (it for _, side, data in self.versions() for it in (side.mode.encode(), len(data), data))
+            old, new = self.old_data, self.new_data
+            versions = self.old.mode.encode(), len(old), old, self.new.mode.encode(), len(new), new
             return OF_A_TEXT % (len(path), path, *versions) + self.more_records()
         made = record("path", path)
         for word, side, data in self.versions():
@@ -79,19 +82,25 @@ class Change:
 
     def more_records(self):
         """Returns the records of what is said and marked of it."""
+        if not self.note and not self.marks:
+            # most have none
+            return b""
         return b"".join([record(word, text) for word, text in (("note", self.note), ("marks", self.marks)) if text])
 
-    def chosen(self, side, mode, data):
-        """Returns what a choice leaves by `side`, `selected` or `unselected`: a change, with its mode and its bytes."""
-        if mode == ABSENT and side == "unselected" and data:
-            # where lines stay, the file stays too
-            mode = self.new.mode if self.old.mode == ABSENT else self.old.mode
-        return [(self, mode, b"" if mode == ABSENT else data)]
+    def paths(self):
+        """Returns the change of each of its paths by itself."""
+        return (self,)
+
+    def version_in_place(self, is_new):
+        """Returns the mode at each of its paths, and the bytes, where the new or the old version is in place."""
+        return ([self.new.mode], self.new_data) if is_new else ([self.old.mode], self.old_data)
 
 
 class Renamed(Change):
     """A file that has another path by now, shown as one file: its path is an item. `gone` and `come` are the changes of the old path
     and of the new one by themselves."""
+
+    modes = "old-path", "mode"
 
     def __init__(self, gone, come, contents):
         super().__init__(come.path, (gone.old, come.new), contents)
@@ -105,11 +114,11 @@ class Renamed(Change):
     def records(self):
         return super().records() + record("old-path", shown(self.gone.path))
 
-    def chosen(self, side, mode, data):
-        # where the file keeps its old path, the front end gives it another mode than any file has
-        if mode == self.new.mode:
-            return [(self.gone, ABSENT, b""), (self.come, mode, data)]
-        return [(self.gone, self.old.mode, data), (self.come, ABSENT, b"")]
+    def paths(self):
+        return self.gone, self.come
+
+    def version_in_place(self, is_new):
+        return ([ABSENT, self.new.mode], self.new_data) if is_new else ([self.old.mode, ABSENT], self.old_data)
 
 
 class Choice(collections.namedtuple("Choice", "change mode data")):

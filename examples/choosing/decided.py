@@ -49,7 +49,7 @@ def given_of(rows):
     for row in rows:
         files.setdefault(row.path if row.file is None else (row.file,), []).append(row)
     ordered = ((row, number > 0) for found in files.values() for number, row in enumerate(found))
-    return b"".join(b"%s%s\0" % (head_of(row, is_second).encode(), os.fsencode(row.path)) for row, is_second in ordered)
+    return os.fsencode("".join([head_of(row, is_second) + row.path + "\0" for row, is_second in ordered]))
 
 
 def head_of(row, is_second):

@@ -7,6 +7,7 @@ import stat
 
 from .change import ABSENT, LINK, digest_of
 from .folders import AT_ONCE, IS_FOLDER, IS_PLAIN, closing, read_whole
+from .named import IS_OF_ANOTHER, is_trusted
 from .paths import check_path
 from .permissions import OF_ANY_FILE, give, permissions_of_file, permissions_of_folder, permissions_of_new
 from .plans import Entry, in_order
@@ -76,10 +77,14 @@ def give_to_new_folder(at, name, permissions):
 
 class Files:
     """The files below the folder `top`. With `follows`, a link to a file counts as that file. `room` is where the plan of a change
-    is kept, if they are changed (see rooms.py). `folders` has by path the permissions of folders that are made."""
+    is kept, if they are changed (see rooms.py). `at` is that folder, if it is open already. `name` is the file in it that the user
+    names, if that is all: it is refused if it is another user's, and all may put theirs there. `folders` has by path the permissions of
+    folders that are made."""
 
-    def __init__(self, top, follows=False, room=None):
-        self.top, self.follows, self.room, self.folders = top, follows, room, {}
+    def __init__(self, top, follows=False, room=None, at=None, name=None):
+        self.top, self.follows, self.room, self.name, self.folders = top, follows, room, name, {}
+        if at is not None:
+            self.at = at
 
     @functools.cached_property
     def at(self):
@@ -131,6 +136,7 @@ class Files:
             found = os.stat(name, dir_fd=folder, follow_symlinks=False)
         except FileNotFoundError:
             return ABSENT_SIDE, None
+        self.check(folder, name, found)
         flags = IS_PLAIN
         if stat.S_ISLNK(found.st_mode):
             found = self.target(folder, name)
@@ -140,7 +146,13 @@ class Files:
         if not stat.S_ISREG(found.st_mode):
             return ABSENT_SIDE, None
         with closing(os.open(name, os.O_RDONLY | flags, dir_fd=folder)) as file:
+            self.check(folder, name, os.fstat(file))
             return read_open(file)
+
+    def check(self, folder, name, found):
+        """Stops if what was found in a folder is what the user names, and came there by another user since its folder was opened."""
+        if name == self.name and not is_trusted(folder, found):
+            raise Stop(IS_OF_ANOTHER % shown(os.path.join(self.top, name)))
 
     def target(self, folder, name):
         """Returns what a link leads to, or None if it counts as a link."""

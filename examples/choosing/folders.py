@@ -46,17 +46,6 @@ def is_ours(opened, is_kind):
     return is_kind(found.st_mode) and found.st_uid == os.geteuid() and not found.st_mode & 0o022
 
 
-def read_named(path):
-    """Returns the bytes of the file that the user names by `path`. Links are followed. Raises OSError if it is no file, or too large."""
-    with closing(os.open(path, os.O_RDONLY | AT_ONCE)) as opened:
-        if not stat.S_ISREG(os.fstat(opened).st_mode):
-            raise OSError(errno.EINVAL, "it is no file", path)
-        try:
-            return read_whole(opened)
-        except OSError as error:
-            raise OSError(error.errno, error.strerror, path) from None
-
-
 def read_whole(opened):
     """Returns the bytes of the open file `opened`. Raises OSError if they are more than MOST_BYTES, or change meanwhile."""
     size = os.fstat(opened).st_size

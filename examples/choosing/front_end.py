@@ -2,7 +2,7 @@
 import os
 import signal
 
-from .accepted import Accepted
+from .accepted import Accepted, left_marks
 from .change import ABSENT, Choice
 from .faults import step
 from .git import run_in_terminal
@@ -75,20 +75,22 @@ def records_of(changes, messages, settings):
     yield from (change.records() for change in changes)
 
 
-def ask(changes, folder, task, messages=(), environment=None, settings=()):
-    """Has the user choose in the front end, whose title says the `task`. `settings` may have `read-only` and `mark-all`. Returns the
-    front end's status, and the path of what it wrote."""
+def ask(changes, folder, task, messages=(), environment=None, settings=(), words=None):
+    """Has the user choose in the front end, whose title says the `task`. `settings` may have `read-only` and `mark-all`. If the front end is
+    killed, keeps the marks that it left, if the command `words` can take them up. Returns the front end's status, and the path of what it wrote."""
     handed, accepted = os.path.join(folder, "changes"), os.path.join(folder, "accepted")
     with open(handed, "wb", AT_ONCE) as file:
         file.writelines(records_of(changes, messages, settings))
     open(accepted, "w").close()
     more = {"SELECT_TITLE": "%s: %s" % (program(), task), **(environment or {})}
-    return status_in_terminal([*front_end(), "--changes", handed, accepted], {**os.environ, **more}), accepted
+    status = status_in_terminal([*front_end(), "--changes", handed, accepted], {**os.environ, **more})
+    if status not in STATUSES:
+        tell_end(status, left_marks(accepted, changes) if words else None, words)
+    return status, accepted
 
 
 def status_in_terminal(command, environment):
-    """Runs the front end, and returns its status. If it ends in a way of its own, the terminal is given back as it was, and that is
-    said."""
+    """Runs the front end, and returns its status. If it ends in a way of its own, the terminal is given back as it was."""
     terminal = Kept()
     try:
         status = run_in_terminal(command, environment)[0]
@@ -96,14 +98,20 @@ def status_in_terminal(command, environment):
         raise Stop("the front end cannot be run: " + words_of(error)) from None
     if status not in STATUSES:
         terminal.give_back()
-        say("the front end " + words_on(status))
     return status
+
+
+def tell_end(status, kept, words):
+    """Says how a front end has ended in a way of its own, and keeps the marks that it left, if there are any."""
+    say("the front end " + words_on(status) + ("" if kept or status >= 0 else ": the marks are lost"))
+    if kept:
+        keep(kept, words)
 
 
 def words_on(status):
     """Returns how a program has ended: by a signal, if `status` is the negative number of one."""
     names = {-it: it.name for it in signal.Signals}
-    return "was killed by %s: the marks are lost" % names.get(status, -status) if status < 0 else "ended with status %d" % status
+    return "was killed by %s" % names.get(status, -status) if status < 0 else "ended with status %d" % status
 
 
 def choose(changes, folder, given_up, task, messages=(), failed=None, **more):
@@ -120,23 +128,24 @@ def choices_in(accepted, side, now):
     """Returns what is to be of each change by what was accepted, if it is not so now. `side` is `selected` or `unselected`, and `now`
     says which side of a change is in place: `old` or `new`."""
     choices = []
-    for whole, *found in accepted.sides(side):
-        for change, *wanted in whole.chosen(side, *found):
-            if wanted != [getattr(change, now).mode, getattr(change, now + "_data")]:
+    for whole, modes, data in accepted.sides(side):
+        for change, mode in zip(whole.paths(), modes):
+            wanted = mode, b"" if mode == ABSENT else data
+            if wanted != (getattr(change, now).mode, getattr(change, now + "_data")):
                 choices.append(Choice(change, *wanted))
     return choices
 
 
-def keep(accepted, words):
-    """Keeps the marks that were accepted in a file, and says where. `words` are the command that takes them up."""
+def keep(kept, words):
+    """Writes marks as they are kept into a file, and says where. `words` are the command that takes them up."""
     import shlex
 
     try:
-        kept = write_new(accepted.kept(), words[0] + "-", ".marks")
+        path = write_new(kept, words[0] + "-", ".marks")
     except OSError as error:
         say("your marks cannot be kept: " + words_of(error))
     else:
-        say("your marks are kept; to take them up: %s --marks %s" % (" ".join(words), shlex.quote(kept)))
+        say("your marks are kept; to take them up: %s --marks %s" % (" ".join(words), shlex.quote(path)))
 
 
 def write_new(text, prefix, suffix):

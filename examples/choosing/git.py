@@ -1,6 +1,7 @@
 """Git, as the programs call it."""
 import contextlib
 import functools
+import itertools
 import os
 import re
 import signal
@@ -130,11 +131,12 @@ class Git:
         """The name of the algorithm that names objects."""
         return self.git("rev-parse", "--show-object-format").decode().strip()
 
-    def store(self, contents):
-        """Stores each of `contents` as an object. Returns the names of the objects."""
+    def store(self, contents, known=()):
+        """Stores each of `contents` as an object. Returns the names of the objects. `known` are those that are known already, each
+        of the others being None."""
         if not contents:
             return []
-        names = [name_of(data, self.algorithm) for data in contents]
+        names = [name or name_of(data, self.algorithm) for data, name in itertools.zip_longest(contents, known)]
         different = dict(zip(names, contents))
         words = self.taking if len(different) < MANY else PACKING
         self.git(*words, given=pack_of(different.values(), self.algorithm))

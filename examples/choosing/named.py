@@ -1,45 +1,129 @@
-"""The path of a file or a folder that the user names, where links are followed one by one."""
+"""The file or the folder that the user names by a path, where links are followed one by one. Each folder is opened from the one before it:
+so what was looked at is what is used, whatever a name leads to by then."""
 import errno
 import os
 import stat
 
+from .folders import AT_ONCE, IS_FOLDER, IS_PLAIN, closing, read_whole
 from .words import Stop, shown
 
 MOST_LINKS = 40  # as the kernel follows
 IS_OF_ANOTHER = "%s: it is another user's, in a folder that all may write to"
+# a folder on the way need not be one that the user may list
+IS_ON_THE_WAY = getattr(os, "O_PATH", os.O_RDONLY) | os.O_DIRECTORY | os.O_CLOEXEC
 
 
-def find(path):
-    """Returns what lstat says of a path, or None if nothing is there."""
+def find(name, folder):
+    """Returns what lstat says of a name in an open folder, or None if nothing is there."""
     try:
-        return os.lstat(path)
-    except OSError:
+        return os.stat(name, dir_fd=folder, follow_symlinks=False)
+    except FileNotFoundError:
         return None
 
 
 def is_trusted(folder, found):
-    """Whether what lies in `folder` is this user's, or the folder's owner's, or came there by a right that not all have. So the kernel
+    """Whether what lies in an open folder is this user's, or the folder's owner's, or came there by a right that not all have. So the kernel
     looks at links, if it is told to (fs.protected_symlinks)."""
-    around = os.stat(folder)
+    around = os.fstat(folder)
     is_shared = around.st_mode & stat.S_ISVTX and around.st_mode & 0o022
     return not is_shared or found.st_uid in (os.geteuid(), around.st_uid)
 
 
-def real_path(path):
-    """Returns the path of what `path` names, in which no link is left. Stops if a link, or what is named and is no folder, is another
-    user's, and all may put theirs there."""
-    left, at, links = os.path.join(os.getcwd(), path).split("/")[::-1], "/", 0
-    while left:
-        name = left.pop()
-        # `..` is followed where no link is left
-        at, above = os.path.normpath(os.path.join(at, name)), at
-        found = find(at)
-        if found and not stat.S_ISDIR(found.st_mode) and not is_trusted(above, found):
-            raise Stop(IS_OF_ANOTHER % shown(path))
-        if found and stat.S_ISLNK(found.st_mode):
-            links += 1
-            if links > MOST_LINKS:
-                raise OSError(errno.ELOOP, os.strerror(errno.ELOOP), path)
-            left += os.readlink(at).split("/")[::-1]
-            at = "/" if os.path.isabs(os.readlink(at)) else above
-    return at
+def is_of_processes(folder):
+    """Whether an open folder is one of /proc: a link there leads to what is open, which may have no name any more."""
+    try:
+        return os.fstat(folder).st_dev == os.stat("/proc").st_dev
+    except OSError:
+        return False
+
+
+class Named:
+    """What `path` names: in the open folder `at`, whose path without a link is `folder`, the file `name`, which need not be there; or the
+    folder itself, then `name` is None. Stops if a link, or what is named and is no folder, is another user's, and all may put theirs
+    there. If it `is_to_be_read`, only links are refused, and what is named may be a link of /proc."""
+
+    def __init__(self, path, is_to_be_read=False):
+        self.asked, self.left, self.links, self.name = path, path.split("/")[::-1], 0, None
+        self.is_to_be_read = is_to_be_read
+        self.at, self.parts = os.open(os.curdir, IS_ON_THE_WAY), [part for part in os.getcwd().split("/") if part]
+        if os.path.isabs(path):
+            self.begin()
+        while self.left:
+            self.step(self.left.pop())
+
+    @property
+    def folder(self):
+        return "/" + "/".join(self.parts)
+
+    @property
+    def path(self):
+        return self.folder if self.name is None else os.path.join(self.folder, self.name)
+
+    def open_folder(self):
+        """Opens the folder once more, to be listed."""
+        return os.open(os.curdir, IS_FOLDER, dir_fd=self.at)
+
+    def check_is_folder(self):
+        """Raises OSError if a file is named, or nothing."""
+        if self.name is not None:
+            number = errno.ENOTDIR if find(self.name, self.at) else errno.ENOENT
+            raise OSError(number, os.strerror(number), self.path)
+
+    def go(self, path, parts, **below):
+        """Goes on in the folder at `path`, whose path without a link has these parts."""
+        try:
+            at = os.open(path, IS_ON_THE_WAY | os.O_NOFOLLOW, **below)
+        except OSError as error:
+            raise OSError(error.errno, error.strerror, "/" + "/".join(parts)) from None
+        os.close(self.at)
+        self.at, self.parts = at, parts
+
+    def begin(self):
+        self.go("/", [])
+
+    def step(self, name):
+        if name in ("", os.curdir):
+            return
+        self.check_is_folder()
+        if name == os.pardir:
+            self.go(name, self.parts[:-1], dir_fd=self.at)
+            return
+        found = find(name, self.at)
+        if found and stat.S_ISDIR(found.st_mode):
+            self.go(name, [*self.parts, name], dir_fd=self.at)
+            return
+        is_link = found and stat.S_ISLNK(found.st_mode)
+        if found and (is_link or not self.is_to_be_read):
+            self.check(found)
+        if is_link and not (self.is_to_be_read and not any(self.left) and is_of_processes(self.at)):
+            self.follow(name)
+        else:
+            self.name = name
+
+    def check(self, found):
+        """Stops if what was found in the folder, and is no folder, is not to be used."""
+        if not is_trusted(self.at, found):
+            raise Stop(IS_OF_ANOTHER % shown(self.asked))
+
+    def follow(self, name):
+        """Goes on along a link."""
+        self.links += 1
+        if self.links > MOST_LINKS:
+            raise OSError(errno.ELOOP, os.strerror(errno.ELOOP), self.asked)
+        target = os.readlink(name, dir_fd=self.at)
+        self.left += target.split("/")[::-1]
+        if os.path.isabs(target):
+            self.begin()
+
+
+def read_named(path):
+    """Returns the bytes of the file that the user names by `path`, as Named finds it. Raises OSError if it is no file, or too large."""
+    found = Named(path, is_to_be_read=True)
+    flags = AT_ONCE if is_of_processes(found.at) else IS_PLAIN
+    try:
+        with closing(os.open(found.name or os.curdir, os.O_RDONLY | flags, dir_fd=found.at)) as opened:
+            if not stat.S_ISREG(os.fstat(opened).st_mode):
+                raise OSError(errno.EINVAL, "it is no file")
+            return read_whole(opened)
+    except OSError as error:
+        raise OSError(error.errno, error.strerror, path) from None

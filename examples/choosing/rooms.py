@@ -5,20 +5,43 @@ import os
 import stat
 
 from .folders import IS_FOLDER, closing, is_ours
+from .named import Named
 from .words import Stop, shown
 
 NAME = "gabrosty"
 ANOTHER_STATE = "; XDG_STATE_HOME names another folder"
 
 
-def make_folders(path):
-    """Makes the folder `path`, and those above it, for this user alone, if they are not there. Raises PermissionError if `path` belongs
-    to another user: nothing is made in it then."""
-    if not os.path.isdir(path):
-        make_folders(os.path.dirname(path))
-        os.mkdir(path, 0o700)
-    if os.stat(path).st_uid not in (0, os.geteuid()):
+def check_own(found):
+    """Raises PermissionError if what was found belongs to another user than this one and root."""
+    if found.st_uid not in (0, os.geteuid()):
         raise PermissionError(errno.EPERM, "it lies in a folder of another user")
+
+
+class Made(Named):
+    """The folder that a path names. It is made for this user alone if it is not there, and so are those above it. Raises PermissionError if
+    it is another user's, or lies in a folder of theirs that was to be made, or if a link of theirs leads to it."""
+
+    def __init__(self, path):
+        super().__init__(path)
+        check_own(os.fstat(self.at))
+
+    def check(self, found):
+        check_own(found)
+
+    def step(self, name):
+        super().step(name)
+        if self.name is not None:
+            self.make(name)
+
+    def make(self, name):
+        check_own(os.fstat(self.at))
+        try:
+            os.mkdir(name, 0o700, dir_fd=self.at)
+        except FileExistsError:
+            raise NotADirectoryError(errno.ENOTDIR, "%s is no folder" % shown(self.path)) from None
+        self.name = None
+        self.go(name, [*self.parts, name], dir_fd=self.at)
 
 
 class Room:
@@ -98,11 +121,8 @@ class UserRoom(Room):
 
     def make(self):
         self.check_absolute()
-        above = os.path.dirname(self.path)
-        try:
-            make_folders(above)
-        except FileExistsError as error:
-            raise NotADirectoryError(errno.ENOTDIR, "%s is no folder" % shown(error.filename)) from None
+        above, self.name = os.path.split(self.path)
+        self.above = Made(above).at
         super().make()
 
     def open(self):

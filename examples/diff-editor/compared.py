@@ -10,7 +10,7 @@ from choosing.decided import ABSENT as NOTHING, CHOSEN, KEPT, Row, decide
 from choosing.files import ABSENT_SIDE, Files
 from choosing.folders import MOST_BYTES, TOO_LARGE, below
 from choosing.git import Git
-from choosing.named import real_path
+from choosing.named import Named, is_of_processes
 from choosing.paths import is_own
 from choosing.permissions import permissions_of_both
 from choosing.plans import BESIDE, WITHIN
@@ -73,24 +73,40 @@ def is_folder_at(path):
     return os.path.isdir(path) and not is_link(path)
 
 
-def place_of(path):
-    """Returns the folder that a file which is named lies in, without links on its path, and its name there. Stops if git names a file
-    of its working tree, which has no links on its path, and there is one by now."""
+def place_of(path, is_to_be_read=False):
+    """Returns the folder that a file which is named lies in, and the file's name there (see Named). Stops if git names a file of its working
+    tree, which has no links on its path, and there is one by now."""
     if is_link(path):
         folder, name = os.path.split(os.path.abspath(path))
-        return real_path(folder), name
-    found = real_path(path)
-    if IS_FOR_ONE_FILE and not os.path.isabs(path) and found != os.path.abspath(path):
+        return folder_at(folder), name
+    found = Named(path, is_to_be_read)
+    if IS_FOR_ONE_FILE and not os.path.isabs(path) and found.path != os.path.abspath(path):
         raise Stop("%s changed meanwhile" % shown(path))
-    return os.path.split(found)
+    if found.name is None:
+        raise Stop("%s is no file" % shown(path))
+    return found, found.name
+
+
+def folder_at(path):
+    """Returns the folder that `path` names. Stops if it is none."""
+    found = Named(path)
+    if found.name is not None:
+        raise Stop("%s is no folder" % shown(path))
+    return found
+
+
+def files_in(folder, room, follows=False, name=None):
+    """Returns the files of a folder that was found."""
+    return Files(folder.folder, follows, room, folder.open_folder(), name)
 
 
 def target_of(options):
-    """Returns the files that are changed: those of the folder RIGHT or OUTPUT, or of the folder that such a file lies in."""
+    """Returns the files that are changed: those of the folder RIGHT or OUTPUT, or of the folder that such a file lies in, with its `name`."""
     path = options.output or options.right
     if is_folder(options):
-        return Files(real_path(path), follows=IS_DIFFTOOL and not options.output, room=UserRoom(BESIDE))
-    return Files(place_of(path)[0], room=UserRoom(WITHIN))
+        return files_in(folder_at(path), UserRoom(BESIDE), IS_DIFFTOOL and not options.output)
+    folder, name = place_of(path)
+    return files_in(folder, UserRoom(WITHIN), name=name)
 
 
 def compared(options, target):
@@ -113,8 +129,8 @@ class Folders:
     """Two folders, LEFT and RIGHT, and the files of RIGHT or of OUTPUT that are changed."""
 
     def __init__(self, options, target):
-        self.left, self.target = Files(real_path(options.left), room=target.room), target
-        self.right = Files(real_path(options.right), follows=IS_DIFFTOOL, room=target.room) if options.output else target
+        self.left, self.target = files_in(folder_at(options.left), target.room), target
+        self.right = files_in(folder_at(options.right), target.room, IS_DIFFTOOL) if options.output else target
         self.pairs = {}  # the two sides of each file that differs, by path
         self.total, self.sizes = 0, []  # how many bytes they have, and each by a number below 0, with its path: a heap
         self.sources = {}  # the permissions that a new file may have, by path
@@ -224,8 +240,8 @@ class Folders:
 def file_at(path):
     """Returns the mode and the bytes of a file, and its permissions. What is no file has to be the device for none."""
     if os.path.isfile(path) or is_link(path):
-        folder, name = os.path.split(os.path.abspath(path))
-        return Files(folder, follows=not is_link(path)).read(name)
+        folder, name = place_of(path, is_to_be_read=True)
+        return files_in(folder, None, follows=is_of_processes(folder.at)).read(name)
     if os.path.exists(path) and os.path.samefile(path, os.devnull):
         return ABSENT_SIDE, None
     raise Stop("%s is no file" % shown(path))
@@ -245,7 +261,7 @@ class TwoFiles:
         changed = options.output or options.right
         if not options.output and new_mode == ABSENT and not options.read_only:
             raise Stop("%s is no file to write to: name one by --output, or show the changes by --read-only" % shown(changed))
-        self.target, self.target_name = target, place_of(changed)[1]
+        self.target, self.target_name = target, target.name
         self.sources = {self.target_name: permissions_of_both(for_old, for_new)}
         self.now = target.read(self.target_name)[0]
         # its path may have led elsewhere when the folder was opened

@@ -3,8 +3,8 @@ import functools
 import os
 
 from choosing.faults import half_done, step
-from choosing.folders import read_named
 from choosing.git import reason_in
+from choosing.named import read_named
 from choosing.said import say
 from choosing.signals import status_of
 from choosing.waiting import counted

@@ -23,8 +23,7 @@ REFUSED = b"Ignoring path "
 
 def index_lines(entries):
     """Returns paths with their sides in the form that `git update-index --index-info` reads."""
-    lines = [b"%s %s\t%s\0" % (side.mode.encode(), side.name.encode(), os.fsencode(path)) for path, side in entries]
-    return b"".join(lines)
+    return os.fsencode("".join(["%s %s\t%s\0" % (side.mode, side.name, path) for path, side in entries]))
 
 
 def update_index(git, entries, **more):
@@ -126,9 +125,7 @@ class Repository(Git):
 
     def files(self):
         """Returns the files of the working tree. Plans of their changes are kept in the git directory."""
-        files = Files(self.top, room=self.room)
-        files.at = self.opened[self.top]
-        return files
+        return Files(self.top, room=self.room, at=self.opened[self.top])
 
     def path_to(self, path):
         """Returns a path to a folder that is open, by which it is found whatever its name leads to, where the system has one."""
@@ -336,6 +333,10 @@ class Repository(Git):
     def indexed(self):
         """Returns the paths in the index."""
         return split_by_zeros(self.git("ls-files", "-z"))
+
+    def unindexed(self):
+        """Returns the paths that only the working tree has, with those that git is told to ignore."""
+        return split_by_zeros(self.git("ls-files", "-z", "--others"))
 
     def update(self, entries, **more):
         """Writes paths with their sides into the index (see update_index)."""

@@ -35,10 +35,14 @@ class Restore(Way):
         self.repository.check_is_top(self.files.at)
         self.files_now = {choice.change.path: self.files.read(choice.change.path)[0] for choice in choices}
 
+    def paths_there(self):
+        # those of the index are in no way of one another
+        return self.repository.unindexed()
+
     def write(self, choices, scratch, accepted, lock):
         """Writes files of the working tree, under the `lock` of the index. What they have now is stored in git first, and
         named."""
-        entries = self.entries(choices, scratch)
+        entries = self.entries(self.all_of(choices), scratch)
         names = keep_lost(self.repository, entries)
         self.notes += self.files.change(entries)
         self.written.append("the files")

@@ -134,8 +134,9 @@ class Scratch(Git):
             return {name: len(data) for name, data in found.items()}
         given = names_to_ask(names)
         lines = self.git("cat-file", "--batch-check", "--buffer", given=given).decode().splitlines() if given else []
+        # of an object that git does not have it says that alone
         found = (line.split() for line in lines)
-        return {name: int(size) for name, _, size in found if size.isdigit()}
+        return {words[0]: int(words[-1]) for words in found if words[-1].isdigit()}
 
     def contents(self, names):
         """Returns the bytes of objects, by name."""

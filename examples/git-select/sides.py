@@ -48,9 +48,9 @@ def changed_in_tree(way, scratch, only=None, is_new_shown=True):
     sizes = scratch.sizes((side.name for side, _ in found.values() if side.name), way.most_read()) if way.unread is None else {}
     old_sizes = {path: sizes[side.name] for path, (side, _) in found.items() if side.name in sizes}
     modes = {path: mode for path, (_, mode) in found.items() if mode != ABSENT}
-    new = Look(scratch, modes, old_sizes, way.unread, way.most_read()).found()
+    new = Look(scratch, modes, old_sizes, way.unread, way.most_read(), way.names).found()
     left_out.update(new.left_out)
-    way.unread = new.unread
+    way.unread, way.names = new.unread, new.names
     scratch.known.update(new.contents)
     scratch.leave_unread({found[path][0].name: old_sizes[path] for path in new.unread if path in old_sizes})
     sides = {path: (found[path][0], new.sides.get(path, GONE)) for path in found if path not in left_out}

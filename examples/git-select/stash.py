@@ -9,6 +9,7 @@ from choosing.git import Git
 from choosing.waiting import waits
 from choosing.words import HalfDone, Stop, printable, shown
 from restore import Restore
+from ways import Stage
 
 
 def write_out(top, entries):
@@ -71,9 +72,10 @@ class Stash(Restore):
 
     def write(self, choices, scratch, accepted, lock):
         """Takes files of the working tree back, as Restore does, once git has what is marked as a stash."""
-        entries = self.entries(choices, scratch)
+        entries = self.entries(self.all_of(choices), scratch)
         kept = self.kept(entries)
-        stashed = self.stored(choices_in(accepted, "selected", "old"), "old")
+        staged = Stage(self.repository, self.options, self.start, self.folder)
+        stashed = self.stored(staged.all_of(choices_in(accepted, staged.side, staged.now)), staged.now)
         stash = self.repository.store_stash(stashed, self.options.message, self.folder, lock.copy)
         try:
             self.notes += self.files.change(entries)

@@ -22,11 +22,6 @@ def file_of(change):
     return change.whole or change
 
 
-def paths_of(file):
-    """Returns the changes of the paths of a file as it is shown."""
-    return (file.gone, file.come) if isinstance(file, Renamed) else (file,)
-
-
 def name_of(change):
     """Returns what a change is called in a message."""
     return "%s => %s" % (shown(change.gone.path), shown(change.path)) if isinstance(change, Renamed) else shown(change.path)
@@ -46,6 +41,7 @@ class Way:
 
     def __init__(self, repository, options, start, folder):
         self.repository, self.options, self.start, self.folder = repository, options, start, folder
+        self.names = {}  # of the contents of files that were read, by what shows that they still have them
         self.notes, self.written = [], []  # what is said once all is written, and which of `writes` are
 
     def check(self):
@@ -105,9 +101,9 @@ class Way:
         """Stores the contents of `choices` that the repository does not have. Returns what an index that has their sides `now` is to
         have of them."""
         names = [getattr(choice.change, now).name if choice.mode == ABSENT else self.name_of(choice) for choice in choices]
-        missing = [choice.data for choice, name in zip(choices, names) if not name]
+        missing = [choice for choice, name in zip(choices, names) if not name]
         with waits("storing %s .." % counted(len(missing), "file")):
-            stored = iter(self.repository.store(missing))
+            stored = iter(self.repository.store([choice.data for choice in missing], [choice.name() for choice in missing]))
         return [(choice.change.path, Side(choice.mode, name or next(stored))) for choice, name in zip(choices, names)]
 
     def is_now(self, choice):
@@ -129,23 +125,6 @@ class Way:
             return ["%s: %s" % (self.done, counted(len(paths), "file"))]
         return ["%s: %s" % (self.done, shown(path)) for path in paths]
 
-    def locked_index(self):
-        """Keeps others from the index, as git does, and gives a copy of it that can take its place. Stops if the repository is
-        another one by now."""
-        self.repository.check_same()
-        return Lock(self.repository.index, os.path.join(self.folder, "index"))
-
-
-class Stage(Way):
-    done, nothing, no_change = "staged", "nothing was staged", "there is nothing to stage"
-    words, does = ("git-select",), "stages what is marked"
-    accepts = "stages"
-
-    def read(self, scratch, only=None):
-        """Returns the sides of each file that differs, by path, and notes on what is left out. With `only`, a set of paths, others may
-        be passed over."""
-        return changed_in_tree(self, scratch, only)
-
     def paths_there(self):
         """Returns the paths that are beside those of a choice."""
         return self.repository.indexed()
@@ -165,7 +144,7 @@ class Stage(Way):
         """Returns the rows of the files of `choices`, and if a path of these comes also those of the paths beside them."""
         chosen = {choice.change.path: choice for choice in choices}
         files = dict.fromkeys(file_of(choice.change) for choice in choices)
-        rows = [self.row(change, chosen.get(change.path), file) for file in files for change in paths_of(file)]
+        rows = [self.row(change, chosen.get(change.path), file) for file in files for change in file.paths()]
         if all(row.is_there or row.wanted == NOTHING for row in rows):
             return rows
         others = dict.fromkeys(self.paths_there())
@@ -187,6 +166,23 @@ class Stage(Way):
         if len(self.without_blocked(choices)) < len(choices):
             raise Stop("what is left out is named above")
         return choices
+
+    def locked_index(self):
+        """Keeps others from the index, as git does, and gives a copy of it that can take its place. Stops if the repository is
+        another one by now."""
+        self.repository.check_same()
+        return Lock(self.repository.index, os.path.join(self.folder, "index"))
+
+
+class Stage(Way):
+    done, nothing, no_change = "staged", "nothing was staged", "there is nothing to stage"
+    words, does = ("git-select",), "stages what is marked"
+    accepts = "stages"
+
+    def read(self, scratch, only=None):
+        """Returns the sides of each file that differs, by path, and notes on what is left out. With `only`, a set of paths, others may
+        be passed over."""
+        return changed_in_tree(self, scratch, only)
 
     def write(self, choices, scratch, accepted, lock):
         """Puts `choices` in place, under the `lock` of the index. Returns what to report, and whether something was left."""

@@ -111,12 +111,12 @@ def with_other_marks(part):
     return [with_other_marks(it) for it in part] if isinstance(part, list) else part
 
 
-def marked_at_random(place, command, seed, folder=None, refused=None):
+def marked_at_random(place, command, seed, folder=None, refused=()):
     """Runs a command with marks that `seed` chooses. Returns the files that it showed, with their marks, by path. If it refuses
-    them, it says `refused`."""
+    them, it says one of `refused`."""
     marked, front = os.path.join(place.top, "marked"), os.path.join(place.prefix, "bin", "scm-select")
     status, said = place.type(command, ["c", "c"], folder, SELECT=MARKER, FRONT=front, MARKED=marked, SEED=str(seed))
-    if status and not (refused and refused in said):
+    if status and not any(words in said for words in refused):
         raise RuntimeError(said)
     if not os.path.exists(marked):
         return {}
@@ -174,7 +174,7 @@ def some_in_two_commits(place, seed, old, new):
     that is refused, and if nothing is, nothing is done."""
     repository = Repository(place, old, new)
     repository.commit()
-    words, refused = ["git", "select", "--split"], "all of it is marked"
+    words, refused = ["git", "select", "--split"], ["all of it is marked"]
     marked = marked_at_random(place, words, seed, repository.folder, refused)
     place.forget_marks()
     wanted, count = chosen(marked, old, new), int(repository.git("rev-list", "--count", "HEAD"))

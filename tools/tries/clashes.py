@@ -1,16 +1,17 @@
 """What cannot be chosen without another file, for tools/try-tools: a choice of files against a search among all sets of them, and
 git-select where a renamed file has to be left out, and random choices in repositories and folders against the same search."""
+import collections
 import itertools
 import os
 import random
 
 from choosing.decided import ABSENT, CHOSEN, GOAL, NOW, Decided, Row, given_of
 import changed
-from choices import chosen, marked_at_random
+from choices import chosen, marked_at_random, with_other_marks
 from places import Repository
 
 NAMES = "a", "b", "a-", "ab", "B"
-CASES, MOST_PATHS, CHOICES = 1_500, 8, 20
+CASES, MOST_PATHS, CHOICES = 1_500, 8, 12
 
 
 def lies_in(outer, inner):
@@ -145,35 +146,95 @@ def random_change(chance):
     return old, new
 
 
-def wanted_of(files, old, new):
-    """Returns the rows of all paths of two tables, with what the marks of shown files ask for."""
-    rows = {path: row_of(path, path in old, path in new, False) for path in {**old, **new}}
+def rows_of(files, now, goal, ends):
+    """Returns the rows of all paths of two tables, with what the marks of shown files ask for. `ends` has by name what these leave of
+    the paths of each file alone."""
+    rows = {path: row_of(path, path in now, path in goal, False) for path in {**now, **goal}}
     for name, file in files.items():
-        alone = chosen({name: file}, old, new)
-        for path in filter(None, (name, file["old_path"])):
-            rows[path] = rows[path]._replace(wanted=CHOSEN if path in alone else ABSENT, file=name)
+        for path in paths_of(name, file):
+            rows[path] = rows[path]._replace(wanted=CHOSEN if path in ends[name] else ABSENT, file=name)
     return list(rows.values())
 
 
-def expected_of(files, old, new):
-    """Returns which files of a choice have to be left out, and the table that it leaves without them."""
-    refused = least(wanted_of(files, old, new))
-    return refused, chosen({name: file for name, file in files.items() if name not in refused}, old, new)
+def paths_of(name, file):
+    return filter(None, (name, file["old_path"]))
+
+
+def expected_of(files, old, new, is_back=False):
+    """Returns which files of a choice have to be left out, and the table that it leaves without them: what it leads to from `old`, or
+    with `is_back` what stays of `new`."""
+    now, goal, files = (new, old, with_other_marks(files)) if is_back else (old, new, files)
+    ends = {name: chosen({name: file}, old, new) for name, file in files.items()}
+    refused, made = least(rows_of(files, now, goal, ends)), dict(now)
+    taken = [(name, path) for name, file in files.items() if name not in refused for path in paths_of(name, file)]
+    for name, path in taken:
+        made.pop(path, None)
+    made.update((path, ends[name][path]) for name, path in taken if path in ends[name])
+    return refused, made
+
+
+# A way of git-select: its words, how the repository is made ready, whether what is marked is taken back, whether it is done whole or not
+# at all, and what it changes.
+Tried = collections.namedtuple("Tried", "words ready is_back is_whole changed")
+
+
+def stage_all(repository):
+    repository.git("add", "--all")
+
+
+def stay(repository):
+    """Leaves a repository as it is."""
+
+
+def last_files(repository):
+    return repository.files_of("HEAD")
+
+
+def first_files(repository):
+    """Returns the files of the first of two commits, or of the one that is not split."""
+    is_split = repository.git("rev-list", "--count", "HEAD") == "3\n"
+    return repository.files_of("HEAD^" if is_split else "HEAD")
+
+
+WAYS = {
+    "stage": Tried([], stay, False, False, Repository.index_files),
+    "unstage": Tried(["--unstage"], stage_all, True, False, Repository.index_files),
+    "restore": Tried(["--restore"], stay, True, True, Repository.files),
+    "stash": Tried(["--stash"], stay, True, True, Repository.files),
+    "commit": Tried(["--commit", "-m", "x"], stay, False, True, last_files),
+    "split": Tried(["--split"], Repository.commit, False, True, first_files),
+}
+
+
+def is_as_expected(place, name, way, seed):
+    """Tries a random choice in a new repository. Returns whether files were left out, or None if a file is not as the search says."""
+    old, new = random_change(random.Random(seed))
+    repository = Repository(place, old, new, "%s-%d" % (name, seed))
+    way.ready(repository)
+    before = way.changed(repository)
+    refused_by = ": that would remove", "all of it is marked"
+    marked = marked_at_random(place, ["git", "select", *way.words], seed, repository.folder, refused_by)
+    place.forget_marks()
+    refused, wanted = expected_of(marked, old, new, way.is_back)
+    is_done = not (way.is_whole and refused) and (name != "split" or wanted not in (old, new))
+    is_right = way.changed(repository) == (wanted if is_done else before) and repository.is_sound()
+    is_right = is_right and (way.changed == Repository.files or repository.files() == new)
+    return bool(refused) if is_right else None
 
 
 def random_choices_in_repositories(place):
-    """The index has what the marks of each file ask for, but for the least set of files that has to be left out."""
-    counts = [0, 0]
-    for seed in range(CHOICES):
-        old, new = random_change(random.Random(seed))
-        repository = Repository(place, old, new, "repository-%d" % seed)
-        marked = marked_at_random(place, ["git", "select"], seed, repository.folder, "is not staged: that would remove")
-        refused, wanted = expected_of(marked, old, new)
-        place.forget_marks()
-        if repository.index_files() != wanted or repository.files() != new:
+    """Whatever a choice is used for, its files are as the marks of each ask for, but for the least set of files that has to be left out.
+    What is done whole or not at all is not done then."""
+    for name, way in WAYS.items():
+        counts = {True: 0, False: 0}
+        for seed in range(CHOICES):
+            found = is_as_expected(place, name, way, seed)
+            if found is None:
+                return False
+            counts[found] += 1
+        if not all(counts.values()):
             return False
-        counts[bool(refused)] += 1
-    return min(counts) > 0
+    return True
 
 
 def random_choices_in_folders(place):
@@ -182,7 +243,7 @@ def random_choices_in_folders(place):
     for seed in range(CHOICES):
         old, new = random_change(random.Random(seed))
         left, right = place.folder("left-%d" % seed, old), place.folder("right-%d" % seed, new)
-        marked = marked_at_random(place, ["gabrosty-diff-editor", left, right], seed, refused="cannot both be there")
+        marked = marked_at_random(place, ["gabrosty-diff-editor", left, right], seed, refused=["cannot both be there"])
         refused, wanted = expected_of(marked, old, new)
         place.forget_marks()
         if changed.read(right) != (new if refused else wanted) or changed.read(left) != old:
@@ -191,4 +252,26 @@ def random_choices_in_folders(place):
     return min(counts) > 0
 
 
-ALL = files_that_need_others, a_renamed_file_that_would_remove_another, random_choices_in_repositories, random_choices_in_folders
+def a_restored_file_that_would_remove_others(place):
+    """Nothing is taken back or stashed where a file that was deleted would remove others, which git does not know, or is told to ignore:
+    each is named. Once they are away all is taken back."""
+    old = {".gitignore": b"*.o\n", "a": b"1\n", "b/c": b"2\n", "d": b"3\n", "e": b"4\n"}
+    new = {".gitignore": b"*.o\n", "a/x.o": b"5\n", "b": b"6\n", "d": b"7\n"}
+    repository = Repository(place, old, new)
+    words = "a is not %s: that would remove a/x.o, which is not marked\n", "b/c is not %s: that would remove b, which is not marked\n"
+    for option, done in ("--stash", "stashed"), ("--restore", "restored"):
+        status, said = repository.select(option, keys=["a", "c"])
+        place.forget_marks()
+        is_named = status == 1 and all(word % done in said for word in words) and "nothing was %s\n" % done in said
+        if not is_named or repository.files() != new or repository.git("stash", "list"):
+            return False
+    for path in "a/x.o", "b":
+        os.unlink(os.path.join(repository.folder, path))
+    os.rmdir(os.path.join(repository.folder, "a"))
+    return repository.select("--restore", keys=["a", "c"])[0] == 0 and repository.files() == old and repository.is_sound()
+
+
+ALL = (
+    files_that_need_others, a_renamed_file_that_would_remove_another, a_restored_file_that_would_remove_others,
+    random_choices_in_repositories, random_choices_in_folders,
+)

@@ -74,11 +74,11 @@ def in_a_stash(place):
 
 
 def a_stash_that_cannot_be_taken(place):
-    """A file changes meanwhile: no stash stays, and all is as it was."""
+    """A file that git does not know is where a folder was: no stash is made, and all is as it was."""
     repository = Repository(place, {"a": b"1\n", "b/c": b"1\n"}, {"a": b"2\n", "b": b"2\n"})
     status, said = repository.select("--stash", keys=["a", "c"])
     place.forget_marks()
-    is_named = status == 1 and "b/c cannot be written: " in said and said.count("nothing was stashed") == 1
+    is_named = status == 1 and "b/c is not stashed: that would remove b, which is not marked\n" in said and said.count("nothing was stashed") == 1
     is_left = repository.git("stash", "list") == "" and repository.files() == {"a": b"2\n", "b": b"2\n"}
     return is_named and is_left and repository.is_sound()
 

@@ -63,7 +63,7 @@ def of_files(place):
         changed.write_file(path, OLD)
     yield place.call("scm-select", old, new + "x")[1]
     yield place.call("scm-select", "-o", os.path.join(place.top, HOSTILE, "x"), old, new)[1]
-    yield place.call("scm-select", old, new, "-o", "/dev/null")[1]
+    yield place.call("scm-select", "-o", "/dev/null", old, new)[1]
     yield place.call("env", "SELECT_THEME=" + HOSTILE, "scm-select", old, new)[1]
     changed.write_file(new, NEW)
     yield typed(place, ["scm-select", old, new], ["q"])

@@ -268,11 +268,11 @@ def a_lock_that_is_left(place):
 
 
 def a_template_that_is_not_there(place):
-    """The setting is named."""
+    """The setting is named, and the first part of its path that is not there."""
     repository = Repository(place, OLD, NEW)
     repository.git("config", "commit.template", "no/such/file")
     status, said = select(repository, "--commit")
-    return status == 1 and "commit.template" in said and "no/such/file: No such file" in said and said.count("\n") == 1
+    return status == 1 and "commit.template" in said and "/no: No such file" in said and said.count("\n") == 1
 
 
 def what_is_staged_before(place):

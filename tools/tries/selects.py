@@ -91,6 +91,17 @@ def what_is_wrong(place):
     return all(ends) and said == [(2, "scm-select: wrong arguments: try scm-select --help\n")] * len(wrong) and is_malformed
 
 
+def a_path_like_an_option(place):
+    """A file whose name is that of an option is a file behind the first path: what it names is not written to."""
+    files = {"old": OLD, "-oother": OLD, "--json": OLD, "--": OLD, "other": b"mine\n"}
+    folder = place.folder("files", files)
+    for name in "-oother", "--json", "--":
+        end = place.call("scm-select", "old", name, folder=folder)
+        if end != (0, "scm-select: old and %s are equal: there is nothing to choose\n" % name + OLD.decode()):
+            return False
+    return changed.read(folder) == files
+
+
 def as_json(place):
     """With --json what is accepted is written as JSON, of files and of folders, and RIGHT stays."""
     left, right = place.folder("left", {"a": OLD}), place.folder("right", {"a": NEW})
@@ -408,7 +419,7 @@ def links_as_json(place):
 
 
 ALL = (
-    two_files_alone, contents_of_all_kinds, two_equal_files, what_is_wrong, as_json, folders_with_more,
+    two_files_alone, contents_of_all_kinds, two_equal_files, what_is_wrong, a_path_like_an_option, as_json, folders_with_more,
     permissions_of_what_is_new, links_in_the_way, a_spare_folder_that_is_swapped, names_that_hide_nothing, names_of_git_and_jj,
     a_deep_tree, files_that_change_while_they_are_read, what_is_said_of_each_kind, a_text_in_the_place_of_a_link,
     what_accepting_does, links_as_json,

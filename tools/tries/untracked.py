@@ -1,11 +1,18 @@
 """git-select where the working tree has large files, many files, and files that git does not know, for tools/try-tools."""
 import os
+import shutil
+import subprocess
+import time
 
 import changed
+from faults import ACCEPTS
 from places import Repository
 from settings import UPPER, configure
 
 MB = 1_000_000
+STRACE = shutil.which("strace")
+# how long ago a file has to be written to be known by its times, in nanoseconds
+REST = 2_000_000_000
 # a front end that keeps what it is handed, and gives up
 KEEP = "#!/bin/sh\ncp \"$2\" '%s'\nexit 1\n"
 
@@ -175,7 +182,42 @@ def renamed_among_many(place):
     return b"old-path 1\na\n" in data and repository.git("count-objects") == before and repository.is_sound()
 
 
+def times_read(place, repository, name, meanwhile="true"):
+    """Has git select stage all, by a front end without a terminal that runs the command `meanwhile`. Returns how often the file `name` is
+    opened, and what was said."""
+    log = os.path.join(place.top, "log")
+    command = [STRACE, "-f", "-o", log, "-e", "trace=openat", os.path.join(place.prefix, "bin", "git-select")]
+    words = ["%s=%s" % it for it in {**ACCEPTS, "MEANWHILE": meanwhile}.items()]
+    said = place.call("env", *words, *command, folder=repository.folder)[1]
+    with open(log) as file:
+        return file.read().count('"%s"' % name), said
+
+
+def what_is_read_once(place):
+    """A file that was written some seconds ago is read once, and one that was written just now is looked at again before it is staged. One
+    that changes while the user chooses is seen, also if its size and its time stay. Skipped where no program can be traced."""
+    if not STRACE or subprocess.run([STRACE, "-o", os.devnull, "true"], stderr=subprocess.DEVNULL).returncode:
+        return "there is no strace that works"
+    old, new = {"resting": b"1\n", "fresh": b"1\n"}, {"resting": b"2\n", "fresh": b"2\n"}
+    repository = Repository(place, old, new)
+    time.sleep(REST / 1e9 + 0.1)
+    os.utime(os.path.join(repository.folder, "fresh"))
+    before = repository.index()
+    change = "cp -p resting ../times; echo 3 > resting; touch -r ../times resting"
+    _, said = times_read(place, repository, "resting", change)
+    is_seen = "resting changed meanwhile: nothing was staged" in said and repository.index() == before
+    place.forget_marks()
+    changed.write(repository.folder, new)
+    time.sleep(REST / 1e9 + 0.1)
+    os.utime(os.path.join(repository.folder, "fresh"))
+    count, _ = times_read(place, repository, "resting")
+    is_once = count == 1 and repository.index_files() == new
+    repository.git("reset", "--quiet")
+    os.utime(os.path.join(repository.folder, "fresh"))
+    return is_seen and is_once and times_read(place, repository, "fresh")[0] == 2 and repository.is_sound()
+
+
 ALL = (
     what_git_does_not_know, what_is_too_much_to_read, a_large_file_that_is_gone, a_large_file_that_changes, what_stands_for_a_large_file,
-    nothing_is_stored_before, as_git_add_stores_it, a_line_end_that_git_refuses, many_files, renamed_among_many,
+    nothing_is_stored_before, as_git_add_stores_it, a_line_end_that_git_refuses, many_files, renamed_among_many, what_is_read_once,
 )
