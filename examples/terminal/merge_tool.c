@@ -1,6 +1,7 @@
 /* Merges two changed versions of a file in a terminal, over the library for C: reads three files, has the user settle the conflicts, and
  * writes the merge. No proof covers this file, nor those beside it, of which it is made. */
 #define _GNU_SOURCE
+#include "keys.h"
 #include "merging.h"
 #include "program.h"
 #include "shown.h"
@@ -22,38 +23,15 @@ static const char HELP[] =
     "  --version, --help      print the version, or this text\n\n"
     "The status is 0 if the merge was written, 1 if you left it or conflicts are open, and 2 for an error. Unless it is 0, OUTPUT stays,\n"
     "but for --markers.\n\n"
-    /* keys: made by tools/make-keys */
-    "Keys:\n"
-    "  Down, j                   moves down, to the next item\n"
-    "  Up, k                     moves up, to the previous item\n"
-    "  Right, l, Shift-Right, L  moves in: to the first section of a file, or the\n"
-    "                            first line of a section\n"
-    "  Left, h                   moves out: to the section of a line, or the file of\n"
-    "                            a folded section; folds an open section, and a file\n"
-    "  Space                     marks the selected item, or takes its mark away; of\n"
-    "                            a file or section, everything in it\n"
-    "  a                         inverts all marks\n"
-    "  F                         unfolds everything, or folds all if everything is\n"
-    "                            unfolded\n"
-    "  c                         accepts what is marked\n"
-    "  q                         gives up; asks first if something is marked or a\n"
-    "                            message is not empty (then Enter quits, and q goes\n"
-    "                            back)\n"
-    "  ?                         opens or closes the help, which names the keys\n"
-    "  /                         searches for a text, downwards\n"
-    "  n, N                      searches for it again, downwards or upwards\n"
-    "  v                         begins a range at the selected line; ends it\n"
-    "  Space                     while a range is begun: marks its lines, or takes\n"
-    "                            their marks away, and ends it\n"
-    "  Esc                       while a range is begun: ends it\n"
-    "  u                         undoes the last change of marks\n"
-    "  ctrl-r                    does again what was undone last\n"
-    "  >, <                      shows the columns further right or left\n"
-    /* end of keys */
+    KEYS
+    "  ], [                      goes to the next or the previous open conflict\n"
     "\nThe man page says how git, jj and hg call this program, and names the variables that choose colours and keys.\n";
 
 /* A no-break space, which no path has as it is shown, is between a path and how many conflicts there are. */
 #define AFTER_PATH "\xc2\xa0"
+
+/* The keys that go to another open conflict, and how many open conflicts are named. */
+enum { NEXT_OPEN = ']', PREVIOUS_OPEN = '[', MOST_NAMED = 10 };
 
 /* What the arguments ask for, and what was read for it. */
 typedef struct task {
@@ -65,7 +43,7 @@ typedef struct task {
     labels labels;
     layer layer;
     merge merge;
-    size_t open; /* how many conflicts are open */
+    size_t open; /* how many conflicts the marks leave open */
 } task;
 
 /* ---- What is read ---- */
@@ -101,6 +79,16 @@ static bool add_count(text *into, const task *task) {
     return append_words(into, all == 1 ? "1 conflict" : "%zu conflicts", all) && (open == all || append_words(into, ", %zu open", open));
 }
 
+/* Has the status row say how many conflicts are open, before what accepting does. */
+static void show_open(scm_session *session, const task *task) {
+    text words = {0};
+    const char *next = task->open > 0 ? "  ]: next" : "";
+    if (append_words(&words, "open: %zu/%zu%s  %s", task->open, task->merge.conflicts, next, task->layer.accept)) {
+        scm_accept_text(session, words.bytes, words.length);
+    }
+    free(words.bytes);
+}
+
 /* Begins a session that shows the merge, with the first open conflict selected. */
 static void begin(scm_session *session, const task *task, int terminal) {
     text title = {0};
@@ -116,17 +104,45 @@ static void begin(scm_session *session, const task *task, int terminal) {
     prepare(session, &task->layer, terminal);
     if (task->layer.is_on) {
         check_code(label_conflicts(session, &task->merge, &task->labels), "the merge cannot be shown");
-        scm_key first = first_open(&task->merge);
+        scm_key first = next_open(&task->merge, SCM_NO_INDEX, true);
         check_code(scm_start(session, SCM_AS_IT_IS, &first), "cannot go on");
+        show_open(session, task);
+    }
+}
+
+/* Follows the marks: keeps them, and says in the status row how many conflicts they leave open. Nothing fails if there is no memory for it: the
+ * row then says what it did. */
+static void follow_marks(void *context, scm_session *session) {
+    task *task = context;
+    if (scm_stage(session) == SCM_WAITING && keep_marks(session, &task->merge) == SCM_DONE) {
+        size_t open = open_by_marks(&task->merge);
+        bool is_other = open != task->open;
+        task->open = open;
+        if (is_other) {
+            show_open(session, task);
+        }
+    }
+}
+
+/* Goes to the next open conflict, or to the previous one. */
+static void press_key(void *context, scm_session *session, uint32_t key) {
+    const task *task = context;
+    scm_key selected;
+    if (key == NEXT_OPEN || key == PREVIOUS_OPEN) {
+        follow_marks(context, session);
+        size_t section = scm_selected(session, &selected) == SCM_DONE ? selected.section : SCM_NO_INDEX;
+        scm_key next = next_open(&task->merge, section, key == NEXT_OPEN);
+        scm_select(session, &next);
     }
 }
 
 /* Runs the session, under a title that says how many conflicts there are. Returns whether the terminal is still there. */
-static bool run(scm_session *session, const task *task, int terminal) {
+static bool run(scm_session *session, task *task, int terminal) {
     text title = {0};
     const char *asked = getenv("SELECT_TITLE");
+    const scm_hooks hooks = {.context = task, .changed = follow_marks, .pressed = press_key};
     check(append_words(&title, NAME ": ") && add_count(&title, task), "cannot go on", NULL);
-    bool is_there = run_in_terminal(session, terminal, asked ? asked : title.bytes);
+    bool is_there = run_in_terminal(session, terminal, asked ? asked : title.bytes, task->layer.is_on ? &hooks : NULL);
     free(title.bytes);
     return is_there;
 }
@@ -141,12 +157,24 @@ static int read_letter(int terminal) {
     return count <= 0 ? -1 : line[0] == '\n' ? 0 : (unsigned char)line[0];
 }
 
+/* Adds how many conflicts are open, and in brackets their numbers, or the first ones. */
+static bool add_open(text *into, const task *task) {
+    const merge *merge = &task->merge;
+    size_t named = 0;
+    bool is_added = append_words(into, "%zu of %zu conflicts %s open (", task->open, merge->conflicts, task->open == 1 ? "is" : "are");
+    for (size_t i = 0; i < merge->conflicts && named < MOST_NAMED && is_added; i++) {
+        if (is_open(merge, &merge->found[i])) {
+            is_added = append_words(into, named++ > 0 ? ", %zu" : "%zu", i + 1);
+        }
+    }
+    return is_added && append_words(into, "%s", task->open > named ? " ..)" : ")");
+}
+
 /* Asks whether the user goes back to the conflicts that are open. Returns the letter of the answer, as read_letter does. */
 static int ask(const task *task, int terminal) {
     text words = {0};
-    size_t open = task->open, all = task->merge.conflicts;
     const char *left = task->has_markers ? "leaves the file with conflict markers" : "leaves the file as it is";
-    bool is_made = append_words(&words, "%zu of %zu conflicts %s open. Enter goes back, l %s: ", open, all, open == 1 ? "is" : "are", left);
+    bool is_made = add_open(&words, task) && append_words(&words, ". Enter goes back, l %s: ", left);
     bool is_asked = is_made && write_bytes(terminal, words.bytes, words.length);
     free(words.bytes);
     return is_asked ? read_letter(terminal) : -1;
@@ -192,15 +220,17 @@ static int settle(task *task) {
             return status;
         }
     } while (task->open > 0 && !leaves_open(letter = ask(task, terminal)));
-    bool is_open = task->open > 0, is_written = !is_open || (task->has_markers && letter > 0);
+    bool has_open = task->open > 0, is_written = !has_open || (task->has_markers && letter > 0);
     if (is_written) {
         write_output(task);
     }
-    if (is_open) {
-        say("%zu of %zu conflicts %s open: %s %s", task->open, task->merge.conflicts, task->open == 1 ? "is" : "are", task->output,
-            is_written ? "has conflict markers" : "stays as it is");
+    if (has_open) {
+        text words = {0};
+        check(add_open(&words, task), task->output, NULL);
+        say("%s: %s %s", words.bytes, task->output, is_written ? "has conflict markers" : "stays as it is");
+        free(words.bytes);
     }
-    return is_open ? GIVEN_UP : 0;
+    return has_open ? GIVEN_UP : 0;
 }
 
 /* ---- The arguments ---- */
@@ -215,7 +245,8 @@ static int read_options(int argc, char **argv, task *task) {
     };
     int letter;
     opterr = 0;
-    while ((letter = getopt_long(argc, argv, "h", options, NULL)) != -1) {
+    /* behind the first path are paths alone: git hands in the name of a file, which may be that of an option */
+    while ((letter = getopt_long(argc, argv, "+h", options, NULL)) != -1) {
         check(letter != '?', "wrong arguments", "try " NAME " --help");
         switch (letter) {
         case 'p': task->path = optarg; break;

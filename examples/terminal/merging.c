@@ -11,6 +11,9 @@ enum { AGREED = ' ', OURS = 'o', BASE = 'b', THEIRS = 't', NUMBER = 8, HEAD = 1 
 /* The line ends that lines get which have none: each version has at most one. */
 enum { LINE_ENDS = 3 };
 
+/* The versions of a conflict, and for how many conflicts there is room at first. */
+enum { VERSIONS = 3, FIRST_CONFLICTS = 64 };
+
 /* ---- Records ---- */
 
 /* The record of a line: where it comes from, and its text. `section` is the index of the section that shows it. */
@@ -54,10 +57,32 @@ static bool take_line(records *records, line *line) {
 
 /* ---- What the library makes of the versions ---- */
 
-/* Reads the records of the lines. */
+/* Returns how many lines a text has at most. */
+static size_t count_lines(const text *text) {
+    size_t count = 1;
+    const char *at = text->bytes, *end = text->bytes + text->length;
+    while (at < end && (at = memchr(at, '\n', (size_t)(end - at)))) {
+        at++;
+        count++;
+    }
+    return count;
+}
+
+/* Returns a guess of how many bytes the records of the lines have: those of the longest version, and a quarter more for conflicts. */
+static size_t room_for_records(const merge *merge) {
+    const text *const versions[VERSIONS] = {&merge->base, &merge->ours, &merge->theirs};
+    size_t most = 0;
+    for (size_t i = 0; i < VERSIONS; i++) {
+        size_t bytes = versions[i]->length + HEAD * count_lines(versions[i]);
+        most = bytes > most ? bytes : most;
+    }
+    return FIRST_ROOM + most + most / 4;
+}
+
+/* Reads the records of the lines. The merge is made anew if they do not fit into the room. */
 static uint32_t read_lines(merge *merge) {
     const text *base = &merge->base, *ours = &merge->ours, *theirs = &merge->theirs;
-    size_t length = FIRST_ROOM;
+    size_t length = room_for_records(merge);
     uint32_t code = SCM_NO_MEMORY;
     do {
         if (!make_room(&merge->lines, length)) {
@@ -70,15 +95,41 @@ static uint32_t read_lines(merge *merge) {
     return code;
 }
 
+/* Begins a conflict with the first of its lines. Returns false if there is no memory for it. */
+static bool begin_conflict(merge *merge, const line *line) {
+    if (merge->conflicts == merge->room) {
+        size_t room = merge->room > 0 ? 2 * merge->room : FIRST_CONFLICTS;
+        conflict *larger = realloc(merge->found, room * sizeof *larger);
+        if (!larger) {
+            return false;
+        }
+        merge->found = larger;
+        merge->room = room;
+    }
+    merge->found[merge->conflicts++] = (conflict){.section = line->section, .ours = line->item};
+    return true;
+}
+
+/* Adds a line of a conflict, with nothing chosen: the base's lines are removed, unless they are taken. Returns false if there is no memory for
+ * it. */
+static bool add_item(merge *merge, const line *line) {
+    if (line->begins && line->letter == OURS && !begin_conflict(merge, line)) {
+        return false;
+    }
+    conflict *last = &merge->found[merge->conflicts - 1];
+    if (line->begins && line->letter != OURS) {
+        *(line->letter == BASE ? &last->base : &last->theirs) = line->item;
+    }
+    last->end = line->item + 1;
+    return append(&merge->marks, line->letter == BASE ? "\1" : "\0", 1);
+}
+
 uint32_t find_conflicts(merge *merge) {
     uint32_t code = read_lines(merge);
     records records = records_of(merge);
     line line;
     while (code == SCM_DONE && take_line(&records, &line)) {
-        merge->conflicts += line.begins && line.letter == OURS;
-        /* the base's lines are removed, unless they are taken */
-        bool is_added = line.letter == AGREED || append(&merge->marks, line.letter == BASE ? "\1" : "\0", 1);
-        code = is_added ? SCM_DONE : SCM_NO_MEMORY;
+        code = line.letter == AGREED || add_item(merge, &line) ? SCM_DONE : SCM_NO_MEMORY;
     }
     return code;
 }
@@ -88,6 +139,7 @@ void free_merge(merge *merge) {
     for (size_t i = 0; i < sizeof texts / sizeof *texts; i++) {
         free(texts[i]->bytes);
     }
+    free(merge->found);
 }
 
 uint32_t count_open(const merge *merge, size_t *open) {
@@ -188,23 +240,41 @@ uint32_t label_conflicts(scm_session *session, const merge *merge, const labels 
     return code;
 }
 
-/* Returns whether an item of a conflict is taken. */
-static bool is_taken(const line *line, const merge *merge) { return (line->letter == BASE) != (merge->marks.bytes[line->item] != 0); }
-
-scm_key first_open(const merge *merge) {
-    static const scm_key nothing = {SCM_NO_INDEX, SCM_NO_INDEX, SCM_NO_INDEX, SCM_NO_INDEX};
-    size_t section = SCM_NO_INDEX; /* of the conflict that is looked at, as long as nothing of it is taken */
-    records records = records_of(merge);
-    line line;
-    while (take_line(&records, &line)) {
-        bool is_new = line.begins && line.letter == OURS, is_over = line.begins && (is_new || line.letter == AGREED);
-        if (is_over && section != SCM_NO_INDEX) {
-            break;
+bool is_open(const merge *merge, const conflict *conflict) {
+    for (size_t i = conflict->ours; i < conflict->end; i++) {
+        bool is_of_base = conflict->base <= i && i < conflict->theirs;
+        if (is_of_base != (merge->marks.bytes[i] != 0)) {
+            return false;
         }
-        section = is_new ? line.section : section;
-        section = line.letter != AGREED && is_taken(&line, merge) ? SCM_NO_INDEX : section;
     }
-    return section == SCM_NO_INDEX ? nothing : (scm_key){0, 0, section, SCM_NO_INDEX};
+    return true;
+}
+
+size_t open_by_marks(const merge *merge) {
+    size_t open = 0;
+    for (size_t i = 0; i < merge->conflicts; i++) {
+        open += is_open(merge, &merge->found[i]);
+    }
+    return open;
+}
+
+/* Returns whether a conflict is behind a section, or before it. */
+static bool is_beyond(const conflict *conflict, size_t section, bool is_forward) {
+    return is_forward ? section != SCM_NO_INDEX && conflict->section > section : conflict->section + VERSIONS - 1 < section;
+}
+
+scm_key next_open(const merge *merge, size_t section, bool is_forward) {
+    const conflict *next = NULL;
+    bool is_next_beyond = false;
+    for (size_t i = 0; i < merge->conflicts; i++) {
+        const conflict *conflict = &merge->found[is_forward ? i : merge->conflicts - 1 - i];
+        bool beyond = is_beyond(conflict, section, is_forward);
+        if ((!next || (beyond && !is_next_beyond)) && is_open(merge, conflict)) {
+            next = conflict;
+            is_next_beyond = beyond;
+        }
+    }
+    return next ? (scm_key){0, 0, next->section, SCM_NO_INDEX} : (scm_key){SCM_NO_INDEX, SCM_NO_INDEX, SCM_NO_INDEX, SCM_NO_INDEX};
 }
 
 uint32_t keep_marks(scm_session *session, merge *merge) {

@@ -4,12 +4,21 @@
 
 #include "files.h"
 
+/* A conflict. Its lines are shown by three sections, of which `section` is the index of the first, and have the marks `ours` up to `end`:
+ * those of the base begin at `base`, and those of theirs at `theirs`. */
+typedef struct conflict {
+    size_t section;
+    size_t ours, base, theirs, end;
+} conflict;
+
 /* A merge. Its three versions are those of one file, of which `ours` and `theirs` came from `base`. */
 typedef struct merge {
     text base, ours, theirs;
     text lines;       /* a record for each line, as scm_merge_texts writes them */
     text marks;       /* a byte for each item of a conflict, 1 if it is checked */
+    conflict *found;  /* the conflicts, in order */
     size_t conflicts; /* how many conflicts there are */
+    size_t room;      /* for how many `found` has room */
 } merge;
 
 /* Finds the conflicts of the three versions. Nothing is chosen of them. Returns the code of the call that failed, or SCM_DONE. */
@@ -30,8 +39,15 @@ typedef struct labels {
  * it, in place of the section's number: "Conflict 1/2: ours (main)". Returns the code of the call that failed, or SCM_DONE. */
 uint32_t label_conflicts(scm_session *session, const merge *merge, const labels *labels);
 
-/* Returns the key of the first section of the first conflict that is open, or of no item if none is. */
-scm_key first_open(const merge *merge);
+/* Returns whether the marks of the merge leave a conflict open. */
+bool is_open(const merge *merge, const conflict *conflict);
+
+/* Returns how many conflicts the marks of the merge leave open. */
+size_t open_by_marks(const merge *merge);
+
+/* Returns the key of the first section of the next open conflict behind section `section` (or before it, unless `is_forward`), from the
+ * other end on if there is none; or of no item if no conflict is open. SCM_NO_INDEX is before the first section and behind the last. */
+scm_key next_open(const merge *merge, size_t section, bool is_forward);
 
 /* Keeps the marks of a session that shows the merge. Returns the code of the call that failed, or SCM_DONE. */
 uint32_t keep_marks(scm_session *session, merge *merge);

@@ -9,7 +9,9 @@ import subprocess
 
 import changed
 import disks
+import trying
 from places import Repository
+from rights import NOBODY, NOT_ROOT
 from typed import Typed
 
 NAME = "gabrosty-merge-tool"
@@ -100,18 +102,62 @@ def open_conflicts(place):
         is_named = all(b"Conflict 1/2: " + version in typed.screen() for version in (b"ours", b"base", b"theirs"))
         asked = leave_open(typed, b"l")
         status, said = typed.end(), typed.said()
-    is_left = status == 1 and b"2 of 2 conflicts are open" in asked and said.endswith("2 of 2 conflicts are open: %s stays as it is\n" % paths[3])
+    is_left = status == 1 and b"2 of 2 conflicts are open (1, 2). " in asked
+    is_left = is_left and said.endswith("2 of 2 conflicts are open (1, 2): %s stays as it is\n" % paths[3])
     is_left = is_left and read_data(paths[3]) == b"before\n"
     with shown(place, [NAME, "--path", "output", *paths]) as typed:
         typed.press("space")
         count, asked = len(typed.frames), leave_open(typed, b"")
         typed.wait_for_frames(count + 1)
         # the first section of the second conflict is selected
-        is_back = b"1 of 2 conflicts is open" in asked and b"(2 conflicts, 1 open)" in typed.screen()
+        is_back = b"1 of 2 conflicts is open (2). " in asked and b"(2 conflicts, 1 open)" in typed.screen()
         typed.press("space")
         typed.press("c")
         status = typed.end()
     return is_said and is_named and is_left and is_back and status == 0 and read_data(paths[3]) == ours
+
+
+def distant_conflicts(count):
+    """Returns the base, ours and theirs of a merge with as many conflicts, none of which is on one screen with another one."""
+    between = [b"%d\n" % number for number in range(40)]
+    return [b"".join(line for number in range(count) for line in [b"%s %d\n" % (name, number), *between]) for name in (b"old", b"ours", b"theirs")]
+
+
+def ways_to_open_conflicts(place):
+    """The status row says after each key how many conflicts are open. `]` and `[` go to the next and the previous one, also from the last to
+    the first, and show it. If none is open, they do nothing."""
+    texts = distant_conflicts(3)
+    paths = files_of(place, *texts)
+    steps = (
+        ("none", b"open: 3/3  ]: next  c writes the merge", 1),
+        ("]", b"open: 3/3", 2), ("space", b"open: 2/3  ]: next", 2), ("space", b"open: 3/3", 2), ("space", b"open: 2/3", 2),
+        ("]", b"open: 2/3", 3), ("]", b"open: 2/3", 1), ("[", b"open: 2/3", 3), ("pagedown", b"open: 2/3", 3), ("[", b"open: 2/3", 1), ("[", b"open: 2/3", 3),
+        ("space", b"open: 1/3", 3), ("[", b"open: 1/3", 1), ("]", b"open: 1/3", 1), ("pagedown", b"open: 1/3", 1), ("pagedown", b"open: 1/3", 1),
+        ("space", b"open: 0/3  c writes the merge", 1), ("]", b"open: 0/3", 1), ("[", b"open: 0/3", 1),
+    )
+    with shown(place, [NAME, *paths]) as typed:
+        for key, row, conflict in steps:
+            typed.press(key)
+            screen = typed.screen()
+            if row not in screen or b"Conflict %d/3: " % conflict not in screen:
+                print("ways to open conflicts, %s: %s" % (key, screen.decode()))
+                return False
+        typed.press("c")
+        status = typed.end()
+    return status == 0 and read_data(paths[3]) == texts[1].replace(b"ours 0", b"theirs 0")
+
+
+def many_open_conflicts(place):
+    """Of many open conflicts the first ones are named. Without the layer there is neither the row nor its keys."""
+    paths = files_of(place, *distant_conflicts(12))
+    with shown(place, [NAME, *paths]) as typed:
+        typed.press("space")
+        asked = leave_open(typed, b"l")
+        is_named = typed.end() == 1 and b"11 of 12 conflicts are open (2, 3, 4, 5, 6, 7, 8, 9, 10, 11 ..). " in asked
+    with shown(place, [NAME, *paths], SELECT_LAYER="off") as typed:
+        before = typed.screen()
+        typed.press("]")
+        return is_named and b"open: " not in before and typed.screen() == before
 
 
 def conflict_markers(place):
@@ -199,6 +245,39 @@ def without_a_conflict(place):
         os.chmod(paths[1], 0o600)
         ends.append(place.call(NAME, *paths) == (0, "") and read_data(paths[3]) == merged and mode_of(paths[3]) == 0o600)
         ends.append(place.call(NAME, *paths[:3], paths[1]) == (0, "") and read_data(paths[1]) == merged)
+    return all(ends)
+
+
+def what_comes_to_output_meanwhile(place):
+    """A file that another user puts where OUTPUT is to be, while the user chooses, is named, and stays. One of the user's is replaced, and
+    gives no permissions: the merge has those of what it is made of."""
+    if os.geteuid():
+        return NOT_ROOT
+    ends = []
+    for name, owner, mode in (("mine", 0, 0o666), ("theirs", NOBODY, 0o666)):
+        paths = files_of(place, output=None, name=name)
+        for path in paths[:3]:
+            os.chmod(path, 0o600)
+        os.chmod(os.path.dirname(paths[3]), 0o1777)
+        with shown(place, [NAME, *paths]) as typed:
+            changed.write_file(paths[3], b"meanwhile\n")
+            os.chmod(paths[3], mode)
+            os.chown(paths[3], owner, owner)
+            typed.press("space")
+            typed.press("c")
+            ends.append((typed.end(), typed.said(), read_data(paths[3]), mode_of(paths[3])))
+    refused = "%s: %s: it changed meanwhile\n" % (NAME, paths[3])
+    return ends == [(0, "", b"1\nours\n3\n4\nfive\n", 0o600), (2, refused, b"meanwhile\n", 0o666)]
+
+
+def outputs_with_names_of_options(place):
+    """A file whose name is that of an option is a file behind the first path: the merge is written to it."""
+    ends = []
+    for name in "--help", "--version", "-h", "--markers", "--path=x", "--":
+        paths = files_of(place, b"1\n2\n3\n", b"one\n2\n3\n", b"1\n2\nthree\n", None)
+        folder = os.path.dirname(paths[0])
+        end = place.call(NAME, *paths[:3], name, folder=folder)
+        ends.append(end == (0, "") and changed.read_file(os.path.join(folder, name)) == b"one\n2\nthree\n")
     return all(ends)
 
 
@@ -331,6 +410,47 @@ def git_mergetool_on_a_renamed_file(place):
     repository.git("config", "mergetool.keepBackup", "false")
     status, _ = type_into(place, ["space", "c"], MERGETOOL, repository.folder)
     return status == 0 and is_resolved(repository, {"b c": ours})
+
+
+# a file of this repository that has changed often
+OFTEN_CHANGED = "tools/build-c"
+
+
+def real_conflict(place):
+    """Returns a version of a file of this repository, the one before and the one after, between which git finds two or three conflicts, and the
+    merge with ours in each; or None if the history has none."""
+
+    def git(*words):
+        return subprocess.run(["git", *words], cwd=trying.ROOT, stdout=subprocess.PIPE, check=True).stdout
+
+    log = git("log", "--raw", "--no-abbrev", "--no-renames", "--format=", "--diff-filter=AM", "--", OFTEN_CHANGED).decode()
+    names = [line.split(" ")[3] for line in log.splitlines()]
+    for new, base, old in zip(names, names[1:], names[2:]):
+        texts = [git("cat-file", "blob", name) for name in (base, old, new)]
+        paths = files_of(place, *texts)
+        if merged_by_git(paths)[0] in (2, 3):
+            words = ["git", "merge-file", "-p", "--ours", paths[1], paths[0], paths[2]]
+            return texts, subprocess.run(words, stdout=subprocess.PIPE).stdout
+    return None
+
+
+def git_mergetool_on_a_real_conflict(place):
+    """Conflicts of a file of this repository are settled by fewer than ten keys."""
+    found = real_conflict(place)
+    if not found:
+        return "the history is not there"
+    (base, ours, theirs), merged = found
+    repository = conflict_in(place, {"file": base}, {"file": ours}, {"file": theirs})
+    repository.git("config", "mergetool.keepBackup", "false")
+    count = 0
+    with shown(place, MERGETOOL, repository.folder) as typed:
+        while b"open: 0/" not in typed.screen() and count < 8:
+            typed.press("space")
+            typed.press("]")
+            count += 2
+        typed.press("c")
+        status = typed.end()
+    return status == 0 and count + 1 < 10 and is_resolved(repository, {"file": merged})
 
 
 def git_rerere(place):
@@ -510,6 +630,16 @@ def beside_git_merge_file(place):
     return True
 
 
+def library_beside_git_merge_file(place):
+    """Random merges of the library, and those of this repository's history, are those of git, also with markers (tools/compare-merges)."""
+    environment = {**os.environ, "LIBSCM": os.path.join(place.prefix, "lib/libscm.so")}
+    command = [trying.ROOT / "tools/compare-merges", "300", "20"]
+    done = subprocess.run(command, env=environment, stdout=subprocess.PIPE, stderr=subprocess.STDOUT, text=True)
+    if done.returncode:
+        print(done.stdout)
+    return done.returncode == 0
+
+
 # ---- faults
 
 # the calls by which it writes
@@ -595,8 +725,9 @@ def options_that_shells_complete(place):
 
 
 ALL = (
-    each_version, deleted_lines, open_conflicts, conflict_markers, labels_of_versions, left_by_the_user, without_a_conflict, refused_files,
-    named_in_another_way, git_mergetool, git_mergetool_that_is_left, git_mergetool_with_backups, git_mergetool_on_an_added_file, git_mergetool_on_a_deleted_file,
-    git_mergetool_on_a_renamed_file, git_rerere, hg_resolve, random_choices, beside_git_merge_file, each_call_that_fails, full_disk,
+    each_version, deleted_lines, open_conflicts, ways_to_open_conflicts, many_open_conflicts, conflict_markers, labels_of_versions, left_by_the_user, without_a_conflict,
+    what_comes_to_output_meanwhile, outputs_with_names_of_options, refused_files, named_in_another_way, git_mergetool, git_mergetool_that_is_left, git_mergetool_with_backups,
+    git_mergetool_on_an_added_file, git_mergetool_on_a_deleted_file, git_mergetool_on_a_renamed_file, git_mergetool_on_a_real_conflict, git_rerere, hg_resolve, random_choices,
+    beside_git_merge_file, library_beside_git_merge_file, each_call_that_fails, full_disk,
     options_that_shells_complete,
 )

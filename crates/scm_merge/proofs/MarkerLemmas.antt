@@ -17,7 +17,6 @@ use Rattle.scm_diff.specs.Bytes.{bytes_of_text, side_bytes}
 use Rattle.scm_diff.specs.Sections.{context_sections}
 use Rattle.scm_diff.specs.Sides.{text_of}
 use Rattle.scm_merge.specs.declared.labels.Labels.{Labels}
-use Rattle.scm_merge.specs.declared.roles.Begun.{Begun}
 use Rattle.scm_merge.specs.declared.roles.Role.{Role}
 use Rattle.scm_merge.specs.declared.roles.Role.TheVariants.{Settled, Ours, Base, Theirs}
 use Rattle.scm_merge.specs.declared.style.Style.{Style}
@@ -33,20 +32,6 @@ use Rattle.scm_merge.proofs.MarkLemmas.{is-empty, no-binary, none-taken, tail-al
 use Rattle.scm_merge.proofs.MergeLemmas.{any-with-texts}
 
 -- ---- roles
-
--- a section of changed lines decides the roles of a conflict, or waits
-pub changed-decides : (begun after : Begun) (lines : List SectionChangedLine) (old new : List Role) (b : Bool) → (begun.seen == 2) ≡ b → (t : Bool) → (begun.is_taken || has_taken lines) ≡ t → new ≡ old ++ (if b then conflict_roles t else []) → after ≡ (if b then record { seen = 0; is_taken = false } else record { seen = begun.seen + 1; is_taken = t }) → (rest : List Section) → new ++ roles_from after.seen after.is_taken rest ≡ old ++ roles_from begun.seen begun.is_taken (Changed lines ∷ rest)
-changed-decides begun after lines old new true e t f p q rest =
-    ap (λ xs. xs ++ roles_from after.seen after.is_taken rest) p
-    ∙ ap (λ (x : Begun). (old ++ conflict_roles t) ++ roles_from x.seen x.is_taken rest) q
-    ∙ append_assoc old (conflict_roles t) (roles_from 0 false rest)
-    ∙ ap (λ x. old ++ (conflict_roles x ++ roles_from 0 false rest)) (sym f)
-    ∙ ap (λ (x : Bool). old ++ (if x then conflict_roles (begun.is_taken || has_taken lines) ++ roles_from 0 false rest else roles_from (begun.seen + 1) (begun.is_taken || has_taken lines) rest)) (sym e)
-changed-decides begun after lines old new false e t f p q rest =
-    ap (λ xs. xs ++ roles_from after.seen after.is_taken rest) (p ∙ append-nil old)
-    ∙ ap (λ (x : Begun). old ++ roles_from x.seen x.is_taken rest) q
-    ∙ ap (λ x. old ++ roles_from (begun.seen + 1) x rest) (sym f)
-    ∙ ap (λ (x : Bool). old ++ (if x then conflict_roles (begun.is_taken || has_taken lines) ++ roles_from 0 false rest else roles_from (begun.seen + 1) (begun.is_taken || has_taken lines) rest)) (sym e)
 
 zero-more : (n : ℕ) → 0 + n ≡ n
 zero-more n = omega arith

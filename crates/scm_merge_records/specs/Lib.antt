@@ -2,7 +2,7 @@
 
 -- the merge of three files, as records of bytes
 pub mod Records
--- the marks of a merge, and what they make of it
+-- what marks make of a merge
 pub mod Marked
 -- the same, with markers around each conflict that is open
 pub mod WithMarkers

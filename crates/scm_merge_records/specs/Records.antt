@@ -9,14 +9,19 @@ use Rattle.scm_types.specs.declared.section.Section.{Section}
 use Rattle.scm_types.specs.declared.section.Section.TheVariants.{Unchanged, Changed, FileMode, Binary}
 use Rattle.scm_diff.specs.Bytes.{text_of_bytes}
 use Rattle.scm_merge.specs.Merge.{IsMerge}
+use Rattle.scm_merge_records.specs.declared.merge.Texts.{Texts}
+
+-- the texts that stand for the bytes of three versions
+abbrev pub texts_of : List ℕ → List ℕ → List ℕ → Texts
+texts_of base ours theirs = record { base = text_of_bytes base; ours = text_of_bytes ours; theirs = text_of_bytes theirs }
 
 -- The file shows the merge of three texts, with nothing chosen.
-abbrev pub IsMergeOfTexts : List ℕ → List ℕ → List ℕ → File → Type 0
-IsMergeOfTexts base ours theirs file = IsMerge [] Absent base ours theirs file
+abbrev pub IsMergeOfTexts : Texts → File → Type 0
+IsMergeOfTexts texts file = IsMerge [] Absent texts.base texts.ours texts.theirs file
 
 -- The file shows the merge of three files by their bytes, with nothing chosen.
 abbrev pub IsMergeOfBytes : List ℕ → List ℕ → List ℕ → File → Type 0
-IsMergeOfBytes base ours theirs file = IsMergeOfTexts (text_of_bytes base) (text_of_bytes ours) (text_of_bytes theirs) file
+IsMergeOfBytes base ours theirs file = IsMergeOfTexts (texts_of base ours theirs) file
 
 -- a record: a letter, the number of bytes of a text in eight bytes, the lowest one first, and the text
 abbrev pub record_bytes : ℕ → List ℕ → List ℕ

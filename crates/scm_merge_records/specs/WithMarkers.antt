@@ -2,18 +2,19 @@
 use Rattle.std.specs.Prelude.{◌≡◌, ℕ, true, false, List, Option, Some, None}
 use Rattle.std.specs.Global.{Vec}
 use Rattle.scm_types.specs.declared.file.File.{File}
+use Rattle.scm_embed.specs.Marked.{marked_file}
 use Rattle.scm_diff.specs.Bytes.{text_of_bytes}
 use Rattle.scm_merge.specs.declared.labels.Labels.{Labels}
 use Rattle.scm_merge.specs.Markers.{bytes_with_markers}
 use Rattle.scm_merge_records.specs.declared.markers.LabelBytes.{LabelBytes}
-use Rattle.scm_merge_records.specs.Marked.{is_fit, marked_file}
+use Rattle.scm_merge_records.specs.Marked.{is_fit}
 use Rattle.scm_merge_records.specs.Records.{IsMergeOfBytes}
 
 -- What the marks make of a file, with markers, if they are as many as its items.
 abbrev pub IsWithMarkers : Labels → List ℕ → File → Option (Vec ℕ) → Type 0
-IsWithMarkers labels marks file None = is_fit marks file.sections ≡ false
+IsWithMarkers labels marks file None = is_fit marks file ≡ false
 IsWithMarkers labels marks file (Some bytes) =
-    (is_fit marks file.sections ≡ true) × (bytes.items ≡ bytes_with_markers labels (marked_file marks file))
+    (is_fit marks file ≡ true) × (bytes.items ≡ bytes_with_markers labels (marked_file marks file))
 
 -- The same with labels as bytes.
 pub record IsLabelled (given : LabelBytes) (marks : List ℕ) (file : File) (bytes : Option (Vec ℕ)) : Type 0 where

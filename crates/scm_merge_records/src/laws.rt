@@ -1,7 +1,7 @@
 //! Laws of marks, each as the contract of a function that does nothing.
 ghost use Rattle.std.specs.Prelude.{◌≡◌};
 ghost use Rattle.scm_diff.specs.Change.{unchecked};
-ghost use Rattle.scm_merge_records.specs.Marked.{marked_file};
+ghost use Rattle.scm_embed.specs.Marked.{marked_file};
 
 use scm_types::File;
 

@@ -2,7 +2,6 @@
 #![tactic(auto)]
 
 pub mod laws;
-mod marked;
 pub mod markers;
 mod merge;
 mod records;

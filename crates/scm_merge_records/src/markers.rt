@@ -1,11 +1,9 @@
 //! What marks make of a merge, with markers around each conflict that is open.
 ghost use Rattle.std.specs.Prelude.{◌≡◌, IfOk, false, true};
-ghost use Rattle.scm_merge_records.specs.Marked.{is_fit};
 ghost use Rattle.scm_merge_records.specs.WithMarkers.{IsLabelled, IsMergedWithMarkers, IsWithMarkers};
 
-use crate::marked::{is_fit, marked_file};
-use crate::merge::file_of_texts;
-use scm_diff::text_of_bytes;
+use crate::merge::{file_of_texts, texts_of};
+use scm_embed::{has_items, mark_file};
 use scm_merge::{Labels, bytes_with_markers};
 use scm_types::File;
 use std::alloc::{AllocError, Global};
@@ -26,16 +24,17 @@ pub struct LabelBytes<'a> {
 /// Returns what the marks make of `file`, with markers, if they are as many as its items.
 fn marked_bytes(
     alloc: Global,
-    file: &File<'_>,
+    file: File<'_>,
     marks: &[u8],
     labels: Labels<'_>,
 ) -> Result<Option<Vec<u8>>, AllocError>
-    ensures { IfOk result (IsWithMarkers labels.entry marks.now file.now) }
+    ensures { IfOk result (IsWithMarkers labels.entry marks.now file.entry) }
 {
-    if !is_fit(file.sections.as_slice(), marks) {
+    if !has_items(&file, marks.len()) {
         return Ok(None);
     }
-    let marked = marked_file(alloc, file, marks)?;
+    let mut marked = file;
+    mark_file(&mut marked, marks);
     let bytes = bytes_with_markers(alloc, &marked, labels)?;
     Ok(Some(bytes))
 }
@@ -43,21 +42,19 @@ fn marked_bytes(
 /// Returns what `marks` make of a file with these labels, as bytes.
 fn labelled_bytes(
     alloc: Global,
-    file: &File<'_>,
+    file: File<'_>,
     marks: &[u8],
     labels: LabelBytes<'_>,
 ) -> Result<Option<Vec<u8>>, AllocError>
-    ensures { IfOk result (λ bytes. IsLabelled labels.entry marks.now file.now bytes) }
+    ensures { IfOk result (λ bytes. IsLabelled labels.entry marks.now file.entry bytes) }
 {
-    let our_label = text_of_bytes(alloc, labels.ours)?;
-    let base_label = text_of_bytes(alloc, labels.base)?;
-    let their_label = text_of_bytes(alloc, labels.theirs)?;
-    let texts = Labels {
-        ours: our_label.as_str(),
-        base: base_label.as_str(),
-        theirs: their_label.as_str(),
+    let texts = texts_of(alloc, labels.base, labels.ours, labels.theirs)?;
+    let shown = Labels {
+        ours: texts.ours.as_str(),
+        base: texts.base.as_str(),
+        theirs: texts.theirs.as_str(),
     };
-    let bytes = marked_bytes(alloc, file, marks, texts)?;
+    let bytes = marked_bytes(alloc, file, marks, shown)?;
     Ok(bytes)
 }
 
@@ -78,15 +75,8 @@ pub fn merge_with_markers(
     ensures { IfOk result
         (IsMergedWithMarkers labels.entry base.now ours.now theirs.now marks.now) }
 {
-    let base_text = text_of_bytes(alloc, base)?;
-    let our_text = text_of_bytes(alloc, ours)?;
-    let their_text = text_of_bytes(alloc, theirs)?;
-    let file = file_of_texts(
-        alloc,
-        base_text.as_str(),
-        our_text.as_str(),
-        their_text.as_str(),
-    )?;
-    let bytes = labelled_bytes(alloc, &file, marks, labels)?;
+    let texts = texts_of(alloc, base, ours, theirs)?;
+    let file = file_of_texts(alloc, &texts)?;
+    let bytes = labelled_bytes(alloc, file, marks, labels)?;
     Ok(bytes)
 }

@@ -3,8 +3,7 @@ ghost use Rattle.std.specs.Prelude.{◌≡◌, ◌++◌, IfOk, OnOk, map};
 ghost use Rattle.scm_types.specs.declared.line.SectionChangedLine.{SectionChangedLine};
 ghost use Rattle.scm_merge_records.specs.Records.{ShowsMerge, changed_records, context_records, file_records, letter_of, next_of, record_bytes, section_records, seen_after};
 
-use crate::merge::file_of_texts;
-use scm_diff::text_of_bytes;
+use crate::merge::{file_of_texts, texts_of};
 use scm_types::{File, Section, SectionChangedLine, Text};
 use std::alloc::{AllocError, Global};
 
@@ -127,15 +126,8 @@ pub fn merge_records(
     ensures { IfOk result
         (λ records. ShowsMerge base.now ours.now theirs.now records.items) }
 {
-    let base_text = text_of_bytes(alloc, base)?;
-    let our_text = text_of_bytes(alloc, ours)?;
-    let their_text = text_of_bytes(alloc, theirs)?;
-    let file = file_of_texts(
-        alloc,
-        base_text.as_str(),
-        our_text.as_str(),
-        their_text.as_str(),
-    )?;
+    let texts = texts_of(alloc, base, ours, theirs)?;
+    let file = file_of_texts(alloc, &texts)?;
     let records = file_records(alloc, &file)?;
     Ok(records)
 }

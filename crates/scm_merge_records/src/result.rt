@@ -1,10 +1,9 @@
 //! What marks make of a merge.
 ghost use Rattle.std.specs.Prelude.{◌≡◌, IfOk, false, true};
-ghost use Rattle.scm_merge_records.specs.Marked.{IsMergedByMarks, IsMergedFile, is_fit};
+ghost use Rattle.scm_merge_records.specs.Marked.{IsMergedByMarks, IsMergedFile};
 
-use crate::marked::{is_fit, marked_file};
-use crate::merge::file_of_texts;
-use scm_diff::text_of_bytes;
+use crate::merge::{file_of_texts, texts_of};
+use scm_embed::{has_items, mark_file};
 use scm_merge::{merged_bytes, open_conflicts};
 use scm_types::File;
 use std::alloc::{AllocError, Global};
@@ -20,13 +19,14 @@ pub struct Merged {
 }
 
 /// Returns what the marks make of `file`, if they are as many as its items.
-fn merged_of(alloc: Global, file: &File<'_>, marks: &[u8]) -> Result<Option<Merged>, AllocError>
-    ensures { IfOk result (IsMergedFile marks.now file.now) }
+fn merged_of(alloc: Global, file: File<'_>, marks: &[u8]) -> Result<Option<Merged>, AllocError>
+    ensures { IfOk result (IsMergedFile marks.now file.entry) }
 {
-    if !is_fit(file.sections.as_slice(), marks) {
+    if !has_items(&file, marks.len()) {
         return Ok(None);
     }
-    let marked = marked_file(alloc, file, marks)?;
+    let mut marked = file;
+    mark_file(&mut marked, marks);
     let bytes = merged_bytes(alloc, &marked)?;
     Ok(Some(Merged {
         bytes,
@@ -50,15 +50,8 @@ pub fn merge_by_marks(
 ) -> Result<Option<Merged>, AllocError>
     ensures { IfOk result (IsMergedByMarks base.now ours.now theirs.now marks.now) }
 {
-    let base_text = text_of_bytes(alloc, base)?;
-    let our_text = text_of_bytes(alloc, ours)?;
-    let their_text = text_of_bytes(alloc, theirs)?;
-    let file = file_of_texts(
-        alloc,
-        base_text.as_str(),
-        our_text.as_str(),
-        their_text.as_str(),
-    )?;
-    let merged = merged_of(alloc, &file, marks)?;
+    let texts = texts_of(alloc, base, ours, theirs)?;
+    let file = file_of_texts(alloc, &texts)?;
+    let merged = merged_of(alloc, file, marks)?;
     Ok(merged)
 }

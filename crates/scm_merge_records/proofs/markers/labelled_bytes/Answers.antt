@@ -1,11 +1,12 @@
-use Rattle.std.proofs.Common.{◌∙◌}
+use Rattle.std.proofs.Common.{◌∙◌, ap}
+use Rattle.scm_merge_records.specs.declared.merge.Texts.{Texts}
 use Rattle.scm_merge_records.proofs.markers.labelled_bytes.Goals as goal
 
 pub returns : goal.returns
 returns c = record {
   labels = record { ours = c.as_str.result; base = c.as_str-2.result; theirs = c.as_str-3.result };
-  ours_is = c.as_str.ensures ∙ c.in_ok-our_label.ensures;
-  base_is = c.as_str-2.ensures ∙ c.in_ok-base_label.ensures;
-  theirs_is = c.as_str-3.ensures ∙ c.in_ok-their_label.ensures;
+  ours_is = c.as_str.ensures ∙ ap (λ (t : Texts). t.ours) c.in_ok-texts.ensures;
+  base_is = c.as_str-2.ensures ∙ ap (λ (t : Texts). t.base) c.in_ok-texts.ensures;
+  theirs_is = c.as_str-3.ensures ∙ ap (λ (t : Texts). t.theirs) c.in_ok-texts.ensures;
   is_with_markers = c.in_ok-bytes.ensures;
 }

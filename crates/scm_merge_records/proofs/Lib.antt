@@ -1,2 +1,0 @@
--- what marks do not change
-pub mod MarkedLemmas
