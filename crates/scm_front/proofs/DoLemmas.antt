@@ -37,7 +37,7 @@ use Rattle.scm_front.specs.declared.recording.Author.TheVariants.{User, Program}
 use Rattle.scm_front.specs.Handing.{HandsOn}
 use Rattle.scm_front.specs.Recording.{BeginsAnewAt, RecordsAt, RemembersAt, Returns, back_of}
 use Rattle.scm_front.specs.Restoring.{RestoresTo}
-use Rattle.scm_front.specs.Fronts.{Does, passes, types, misses, jumps, seeks, ranges, marks, lacks, restores, front, front_of, found, heard, is_elsewhere, HasMarks, IsGiven, RemembersIn, beneath_of, files_of, marks_of, selection_of, range_deeds, restoring}
+use Rattle.scm_front.specs.Fronts.{Does, passes, types, misses, jumps, seeks, ranges, marks, lacks, restores, front, front_of, found, heard, is_elsewhere, HasMarks, IsGiven, RemembersIn, beneath_of, files_of, marks_of, search_word, selection_of, range_deeds, restoring}
 use Rattle.scm_front.proofs.FrontLemmas.{beneath-is}
 
 -- what is kept with a word is kept as that
@@ -103,13 +103,13 @@ module _ (f : Front) where
   missed way q e word = ([], subst (λ (x : Query). Does f (Again way) [] (Waiting (front f.beneath x f.kept))) (sym word) (misses (sym e)))
 
   pub jumped : (way : Way) (key : SelectionKey) (next : Live) (q : Query) (b : Bool) (kept : Kept) → q ≡ with_word f.query b
-      → b ≡ is_elsewhere key next → kept ≡ saying f.kept notices.Nothing → found way f ≡ Some key → ((calls : List Call) × JumpLeads f.beneath key calls next)
+      → b ≡ is_elsewhere key next → kept ≡ saying f.kept (search_word way f.beneath.session.shown.selection key) → found way f ≡ Some key → ((calls : List Call) × JumpLeads f.beneath key calls next)
       → (calls : List Call) × Does f (Again way) calls (Waiting (front next q kept))
   jumped way key next q b kept word away says is leads =
       let same : q ≡ with_word f.query (is_elsewhere key next) = word ∙ ap (λ (x : Bool). with_word f.query x) away in (
         leads.0,
         subst (λ (k : Kept). Does f (Again way) leads.0 (Waiting (front next q k))) (sym says)
-            (subst (λ (x : Query). Does f (Again way) leads.0 (Waiting (front next x (saying f.kept notices.Nothing)))) (sym same) (jumps is leads.1)),
+            (subst (λ (x : Query). Does f (Again way) leads.0 (Waiting (front next x (saying f.kept (search_word way f.beneath.session.shown.selection key))))) (sym same) (jumps is leads.1)),
       )
 
   pub sought : (q : Query) (turn : FrontTurn) → q ≡ after_typing Finish f.query → ((calls : List Call) × Does (front f.beneath q f.kept) (Again Down) calls turn)

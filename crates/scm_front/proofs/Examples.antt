@@ -21,7 +21,9 @@ use Rattle.scm_front.specs.declared.actions.Action.TheVariants.{Pass, Edit, Agai
 use Rattle.scm_front.specs.declared.actions.Mode.TheVariants as modes
 use Rattle.scm_front.specs.declared.actions.OwnKey.{OwnKey}
 use Rattle.scm_front.specs.Actions.{action_of}
-use Rattle.scm_front_items.specs.Search.{item_towards}
+use Rattle.scm_front.specs.Fronts.{search_word}
+use Rattle.scm_front.specs.declared.kept.Notice.TheVariants as notices
+use Rattle.scm_front_items.specs.Search.{item_around, item_towards}
 use Rattle.scm_front_items.specs.Ranges.{lines_between, mark_for}
 use Rattle.scm_front_items.specs.Runs.{marks_of_files, marks_with}
 
@@ -72,6 +74,29 @@ up_path = refl
 -- the empty pattern is nowhere
 nothing : item_towards Down [] files (file_key 0) ≡ None
 nothing = refl
+
+-- at its end a search goes on at the other end, and may find the selected item
+around_o : item_around Down (codes "o") files (line_key 0 1 2) ≡ Some (line_key 0 1 0)
+around_o = refl
+
+around_two : item_around Down (codes "two") files (line_key 0 1 1) ≡ Some (line_key 0 1 1)
+around_two = refl
+
+around_up : item_around Up (codes "three") files (file_key 0) ≡ Some (line_key 0 1 2)
+around_up = refl
+
+around_capitals : item_around Down (codes "TWO") files (section_key 0 1) ≡ None
+around_capitals = refl
+
+-- and says so
+word_on : search_word Down (line_key 0 1 0) (line_key 0 1 1) ≡ notices.Nothing
+word_on = refl
+
+word_around : search_word Down (line_key 0 1 1) (line_key 0 1 1) ≡ notices.FromTop
+word_around = refl
+
+word_up : search_word Up (file_key 0) (line_key 0 1 2) ≡ notices.FromEnd
+word_up = refl
 
 -- ---- keys
 

@@ -110,10 +110,6 @@ folds-via first mid last e f = record {
   shown = via-view first.session.shown mid.session.shown last.session.shown e.shown f.shown;
 }
 
-either-view : (c : Bool) (old : ViewState) (s t : Session) → IsRefoldedView old s.shown → IsRefoldedView old t.shown → IsRefoldedView old (cond c s t).shown
-either-view true old s t h k = h
-either-view false old s t h k = k
-
 -- ---- events that lead to a session that waits
 
 -- without a dialog or with one
@@ -164,8 +160,22 @@ refolded-by l event view c h = record {
   refolded = record { kind = c.kind; shown = subst (IsRefoldedView l.session.shown) (sym c.shown) h };
 }
 
-pub expand-all : (l : Live) → l.session.pending ≡ [] → ComesRefolded l events.ExpandAll
-expand-all l calm = by-dialog l.session.shown.quit_dialog without under
+-- the view state after an event that folds or unfolds all: an open quit dialog ignores it
+abbrev pub flipped_view : ViewState → ViewState
+flipped_view view =
+    cond (is_some view.quit_dialog) view
+    (cond (is_same_set view.expanded (key_set (all_keys view.state.files)))
+    (record view { selection = file_of view.selection; expanded = [] })
+    (record view { expanded = key_set (all_keys view.state.files) }))
+
+pub record ComesFlipped (l : Live) : Type 0 where
+  pub next : Live
+  pub leads : EventLeads l events.ExpandAll (turns.Waiting next)
+  pub kind : next.kind ≡ l.kind
+  pub shown : next.session.shown ≡ flipped_view l.session.shown
+
+pub flip-all : (l : Live) → l.session.pending ≡ [] → ComesFlipped l
+flip-all l calm = by-dialog l.session.shown.quit_dialog without under
   where
     s : Session
     s = l.session
@@ -173,28 +183,45 @@ expand-all l calm = by-dialog l.session.shown.quit_dialog without under
     flipped : Session
     flipped = after_expand_all s
 
-    is-refolded : IsRefoldedView s.shown flipped.shown
-    is-refolded =
-        either-view (is_same_set s.shown.expanded (key_set (all_keys s.shown.state.files))) s.shown
-        (record s { shown = record s.shown { selection = file_of s.shown.selection; expanded = [] } })
-        (record s { shown = record s.shown { expanded = key_set (all_keys s.shown.state.files) } }) refl refl
+    by : (view : ViewState) → view ≡ flipped_view s.shown → Comes l events.ExpandAll view → ComesFlipped l
+    by view e c = record { next = c.next; leads = c.leads; kind = c.kind; shown = c.shown ∙ e }
+
+    shown-of : (c : Bool) (a b : Session) → (cond c a b).shown ≡ cond c a.shown b.shown
+    shown-of true a b = refl
+    shown-of false a b = refl
 
     is-pushed : (c : Bool) (a b : Session) → a.pending ≡ [] → b.pending ≡ [] → (cond c a b).pending ≡ []
     is-pushed true a b e f = e
     is-pushed false a b e f = f
 
-    without : s.shown.quit_dialog ≡ None → ComesRefolded l events.ExpandAll
+    without : s.shown.quit_dialog ≡ None → ComesFlipped l
     without e =
         let is : change (scene_of l.kind s) s events.ExpandAll ≡ stays flipped = rw e refl in
         let calm_then = is-pushed (is_same_set s.shown.expanded (key_set (all_keys s.shown.state.files)))
         (record s { shown = record s.shown { selection = file_of s.shown.selection; expanded = [] } })
         (record s { shown = record s.shown { expanded = key_set (all_keys s.shown.state.files) } }) calm calm in
-        refolded-by l events.ExpandAll flipped.shown (comes-scrolled l events.ExpandAll flipped calm is (pushed _ calm_then)) is-refolded
+        let view = shown-of (is_same_set s.shown.expanded (key_set (all_keys s.shown.state.files)))
+        (record s { shown = record s.shown { selection = file_of s.shown.selection; expanded = [] } })
+        (record s { shown = record s.shown { expanded = key_set (all_keys s.shown.state.files) } }) in
+        by flipped.shown (view ∙ sym (rw e refl)) (comes-scrolled l events.ExpandAll flipped calm is (pushed _ calm_then))
 
-    under : is_quit_dialog_open s ≡ true → ComesRefolded l events.ExpandAll
+    under : is_quit_dialog_open s ≡ true → ComesFlipped l
     under e =
         let is : change (scene_of l.kind s) s events.ExpandAll ≡ stays s = ap (λ (b : Bool). cond b (stays s) (stays flipped)) e in
-        refolded-by l events.ExpandAll s.shown (comes-calm l events.ExpandAll s calm is calm) refl
+        by s.shown (sym (rw e refl)) (comes-calm l events.ExpandAll s calm is calm)
+
+either-refolds : (c : Bool) (old a b : ViewState) → IsRefoldedView old a → IsRefoldedView old b → IsRefoldedView old (cond c a b)
+either-refolds true old a b h k = h
+either-refolds false old a b h k = k
+
+pub expand-all : (l : Live) → l.session.pending ≡ [] → ComesRefolded l events.ExpandAll
+expand-all l calm =
+    let c = flip-all l calm in
+    let view = l.session.shown in
+    let is : IsRefoldedView view (flipped_view view) =
+    either-refolds (is_some view.quit_dialog) view _ _ refl
+    (either-refolds (is_same_set view.expanded (key_set (all_keys view.state.files))) view _ _ refl refl) in
+    record { next = c.next; leads = c.leads; refolded = record { kind = c.kind; shown = subst (IsRefoldedView view) (sym c.shown) is } }
 
 pub expand-item : (l : Live) → l.session.pending ≡ [] → ComesRefolded l events.ExpandItem
 expand-item l calm = by-dialog l.session.shown.quit_dialog without under

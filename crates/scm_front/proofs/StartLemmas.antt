@@ -1,11 +1,16 @@
 -- Deeds, and events that fold all: the session waits after each.
 use Rattle.std.proofs.Common.{◌≡◌, Bool, true, false, ◌&&◌, List, [], ◌∷◌, ◌++◌, Option, Some, None, refl, sym, ap, ◌∙◌, subst}
+use Rattle.std.proofs.lemmas.List.{append-nil}
 use Rattle.std.proofs.lemmas.List.Elements.{All-cons, All-head, All-nil, All-tail}
 use Rattle.std.specs.List.{All}
-use Rattle.std.specs.Prelude.{not, is_some}
+use Rattle.std.specs.Prelude.{not, is_some, if◌then◌else◌}
 use Rattle.scm_errors.specs.declared.error.RecordError.{RecordError}
 use Rattle.scm_errors.specs.declared.error.RecordError.TheVariants.{OutOfMemory}
 use Rattle.scm_types.specs.declared.keys.SelectionKey.{SelectionKey}
+use Rattle.scm_view.specs.ViewState.{ViewState}
+use Rattle.scm_selection.specs.KeyLists.{all_keys}
+use Rattle.scm_selection.specs.KeySet.{is_same_set, key_set}
+use Rattle.scm_selection.proofs.KeyOrderLemmas.{same-list, same-self}
 use Rattle.scm_input.specs.declared.events.Event.{Event}
 use Rattle.scm_input.specs.declared.events.Event.TheVariants as events
 use Rattle.scm_record.specs.Live.{Live}
@@ -19,8 +24,9 @@ use Rattle.scm_front_items.specs.declared.targets.Deed.TheVariants.{Mark, Fold}
 use Rattle.scm_front_items.specs.Targets.{key_of}
 use Rattle.scm_front.specs.Deeds.{is_due, event_of, DeedDone, DeedsLead, done, skips, does, ends, RoundLeads, returns, leaves}
 use Rattle.scm_front.specs.Presses.{PressesFail, PressesLead, calls_of}
-use Rattle.scm_front.specs.Starting.{AreFolds, IsFold, IsRefolded, Refolds, Starts}
-use Rattle.scm_front.proofs.OutcomeLemmas.{Waits, expand-all, expand-item, folds-via, jump-refolds, memory-alone, one-turn, same-folds, selecting-refolds, toggle-item}
+use Rattle.scm_front.specs.Starting.{AreFolds, IsFold, IsRefolded, Refolds, Starts, Unfolds, UnfoldsAs, fold_events, unfolded_keys}
+use Rattle.scm_front.specs.declared.starting.Folds.{Folds}
+use Rattle.scm_front.proofs.OutcomeLemmas.{Waits, expand-all, expand-item, flip-all, flipped_view, folds-via, jump-refolds, memory-alone, one-turn, same-folds, selecting-refolds, toggle-item}
 use Rattle.scm_front.proofs.RangeLemmas.{is-true-left, selected}
 use Rattle.scm_front.proofs.RememberLemmas.{calm-path}
 use Rattle.scm_front.proofs.TurnLemmas.{one-live}
@@ -132,6 +138,100 @@ pub presses-refold : (l : Live) (list : List Event) (turn : Turn) → l.session.
 presses-refold l list turn calm all h =
     path-refolds h.handled l h.path refl refl (all-first h.handled h.dropped (subst (All IsFlip) h.are all)) calm
 
+-- what is unfolded after events that fold all
+
+abbrev flips : List Event → ViewState → ViewState
+flips [] view = view
+flips (event ∷ list) view = flips list (flipped_view view)
+
+-- the session waits, with this view state
+abbrev Shows : Turn → ViewState → Type 0
+Shows turn view = (next : Live) × ((turn ≡ Waiting next) × (next.session.shown ≡ view))
+
+path-flips : (es : List Event) (l : Live) {t u : Turn} {calls : List Call} → Path t calls u → t ≡ Waiting l → calls ≡ calls_of es → All IsFlip es
+    → l.session.pending ≡ [] → Shows u (flips es l.session.shown)
+path-flips [] l still same e all calm = (l, (same, refl))
+path-flips (x ∷ es) l still same e all calm = absurd (cc e)
+path-flips [] l (press g p) same e all calm = absurd (cc e)
+path-flips (x ∷ es) l (press {l = k} {event = event} {turn = turn} {last = last} {calls = more} g p) same e all calm =
+    let is : k ≡ l = cc same in
+    let flip : event ≡ events.ExpandAll = (let first : event ≡ x = cc e in first ∙ All-head IsFlip x es all) in
+    let rest : more ≡ calls_of es = cc e in
+    let c = flip-all l calm in
+    let led = subst (λ (v : Event). EventLeads l v turn) flip (subst (λ (y : Live). EventLeads y event turn) is g) in
+    let waits = one-turn l c.next events.ExpandAll turn c.leads led in
+    let later = path-flips es c.next p waits rest (All-tail IsFlip x es all) (c.leads [] [] 0).2 in
+    subst (λ (view : ViewState). Shows last (flips es view)) c.shown later
+path-flips [] l (press_all g p) same e all calm = absurd (cc e)
+path-flips (x ∷ es) l (press_all g p) same e all calm = absurd (cc e)
+path-flips [] l (say g p) same e all calm = absurd (cc e)
+path-flips (x ∷ es) l (say g p) same e all calm = absurd (cc e)
+path-flips [] l (resize p) same e all calm = absurd (cc e)
+path-flips (x ∷ es) l (resize p) same e all calm = absurd (cc e)
+
+-- an open quit dialog lets no fold change
+flips-under : (es : List Event) (view : ViewState) → is_some view.quit_dialog ≡ true → flips es view ≡ view
+flips-under [] view e = refl
+flips-under (x ∷ es) view e =
+    let same : flipped_view view ≡ view = rw e refl in
+    ap (λ (v : ViewState). flips es v) same ∙ flips-under es view e
+
+abbrev every : ViewState → List SelectionKey
+every view = key_set (all_keys view.state.files)
+
+flipped-open : (view : ViewState) → is_some view.quit_dialog ≡ false → is_same_set view.expanded (every view) ≡ false
+    → flipped_view view ≡ record view { expanded = every view }
+flipped-open view e f = rw (e, f) refl
+
+flipped-folded : (view : ViewState) → is_some view.quit_dialog ≡ false → is_same_set view.expanded (every view) ≡ true
+    → (flipped_view view).expanded ≡ []
+flipped-folded view e f = rw (e, f) refl
+
+unfolds-to : (is_open is_all : Bool) (view : ViewState) → is_some view.quit_dialog ≡ false → is_same_set view.expanded (every view) ≡ is_all
+    → (flips (fold_events is_open is_all) view).expanded ≡ (if is_open then every view else [])
+unfolds-to true true view e f = same-list view.expanded (every view) f
+unfolds-to true false view e f = ap (λ (v : ViewState). v.expanded) (flipped-open view e f)
+unfolds-to false true view e f = flipped-folded view e f
+unfolds-to false false view e f =
+    let unfolded = record view { expanded = every view } in
+    ap (λ (v : ViewState). (flipped_view v).expanded) (flipped-open view e f) ∙ flipped-folded unfolded e (same-self (every view))
+
+unfolds-in : (is_open is_all : Bool) (view : ViewState) (dialog : Bool) → is_some view.quit_dialog ≡ dialog → is_same_set view.expanded (every view) ≡ is_all
+    → (flips (fold_events is_open is_all) view).expanded ≡ unfolded_keys is_open view
+unfolds-in is_open is_all view true e f =
+    let under : unfolded_keys is_open view ≡ view.expanded = rw e refl in
+    ap (λ (v : ViewState). v.expanded) (flips-under (fold_events is_open is_all) view e) ∙ sym under
+unfolds-in is_open is_all view false e f =
+    let closed : unfolded_keys is_open view ≡ (if is_open then every view else []) = rw e refl in
+    unfolds-to is_open is_all view e f ∙ sym closed
+
+pub are-flips : (is_open is_all : Bool) (list : List Event) → list ≡ fold_events is_open is_all → All IsFlip list
+are-flips is_open is_all list e = subst (All IsFlip) (sym e) (each is_open is_all)
+  where
+    one : All IsFlip (events.ExpandAll ∷ [])
+    one = All-cons IsFlip events.ExpandAll [] refl (All-nil IsFlip)
+
+    each : (is_open is_all : Bool) → All IsFlip (fold_events is_open is_all)
+    each true true = All-nil IsFlip
+    each true false = one
+    each false true = one
+    each false false = All-cons IsFlip events.ExpandAll (events.ExpandAll ∷ []) refl one
+
+pub presses-unfold : (is_open : Bool) (l : Live) (view : ViewState) (list : List Event) (turn : Turn) → l.session.pending ≡ [] → view ≡ l.session.shown
+    → list ≡ fold_events is_open (is_same_set view.expanded (every view)) → PressesLead l list turn → Unfolds is_open l turn
+presses-unfold is_open l view list turn calm seen is h =
+    let shown = l.session.shown in
+    let flipped = are-flips is_open _ list is in
+    let shows = path-flips h.handled l h.path refl refl (all-first h.handled h.dropped (subst (All IsFlip) h.are flipped)) calm in
+    let waits : is_waiting turn ≡ true = ap is_waiting shows.1.0 in
+    let whole : list ≡ h.handled = h.are ∙ (ap (λ (rest : List Event). h.handled ++ rest) (h.all waits) ∙ append-nil h.handled) in
+    let towards : list ≡ fold_events is_open (is_same_set shown.expanded (every shown)) =
+    is ∙ ap (λ (v : ViewState). fold_events is_open (is_same_set v.expanded (every v))) seen in
+    let all : flips h.handled shown ≡ flips (fold_events is_open (is_same_set shown.expanded (every shown))) shown =
+    ap (λ (es : List Event). flips es shown) (sym whole ∙ towards) in
+    let expanded = ap (λ (v : ViewState). v.expanded) (shows.1.1 ∙ all) ∙ unfolds-in is_open _ shown _ refl refl in
+    subst (λ (t : Turn). Unfolds is_open l t) (sym shows.1.0) expanded
+
 pub presses-memory : (l : Live) (list : List Event) (error : RecordError) → l.session.pending ≡ [] → All IsFlip list → PressesFail l list error → error ≡ OutOfMemory
 presses-memory l list error calm all h =
     let flip = all-middle h.handled h.dropped h.event (subst (All IsFlip) h.are all) in
@@ -149,5 +249,11 @@ refolds-then l mid turn last e h k = refolds-via l mid last (subst (λ (t : Turn
 pub refolds-same : (l : Live) (turn last : Turn) → turn ≡ last → Refolds l turn → Refolds l last
 refolds-same l turn last e h = subst (λ (t : Turn). Refolds l t) e h
 
-pub starts-with : (l mid : Live) (first : SelectionKey) (turn last : Turn) → turn ≡ Waiting mid → Refolds l turn → last ≡ Waiting (after_selecting mid first) → Starts l first last
-starts-with l mid first turn last e h s = record { folded = mid; refolded = refolds-same l turn (Waiting mid) e h; selected = s }
+pub starts-with : (folds : Folds) (l mid : Live) (first : SelectionKey) (turn last : Turn) → turn ≡ Waiting mid → Refolds l turn → UnfoldsAs folds l turn
+    → last ≡ Waiting (after_selecting mid first) → Starts folds l first last
+starts-with folds l mid first turn last e h u s = record {
+  folded = mid;
+  refolded = refolds-same l turn (Waiting mid) e h;
+  unfolded = subst (λ (t : Turn). UnfoldsAs folds l t) e u;
+  selected = s;
+}

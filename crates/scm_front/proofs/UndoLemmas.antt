@@ -25,7 +25,7 @@ use Rattle.scm_front.specs.declared.kept.Notice.TheVariants as notices
 use Rattle.scm_front.specs.declared.layer.Front.{Front}
 use Rattle.scm_front.specs.declared.layer.FrontTurn.{FrontTurn}
 use Rattle.scm_front.specs.declared.layer.FrontTurn.TheVariants.{Waiting}
-use Rattle.scm_front.specs.Fronts.{Does, HasMarks, files_of, is_elsewhere, is_restoring, selection_of, front, front_of, ignores, jumps, lacks, marks, marks_of, misses, passes, ranges, restores, restoring, seeks, types}
+use Rattle.scm_front.specs.Fronts.{Does, HasMarks, files_of, is_elsewhere, is_restoring, search_word, selection_of, front, front_of, ignores, jumps, lacks, marks, marks_of, misses, passes, ranges, restores, restoring, seeks, types}
 use Rattle.scm_front.specs.Asking.{after_typing, with_word}
 use Rattle.scm_front.specs.Keeping.{after_range, anchored, done_word, is_none, nothing_left, other_way, saying, steps_of}
 use Rattle.scm_front.specs.Recording.{Recalls, Remembers, RemembersAt, Returns, back_of, forgotten, remembered, unchanged}
@@ -241,8 +241,8 @@ later-recalls before (passes {f = f} turn kept leads as_kept remembers) free g e
 later-recalls before (marks {f = f} turn kept leads as_kept remembers) free g e m h = kept-recalls before f g (of-turn (marks_of f) f.kept.history turn _ kept g e remembers) m h
 later-recalls before (types {f = f} {typing = typing}) free g e m h = still-recalls before f g f.beneath (after_typing typing f.query) (saying f.kept notices.Nothing) e refl m h
 later-recalls before (misses {f = f} x) free g e m h = still-recalls before f g f.beneath (with_word f.query true) f.kept e refl m h
-later-recalls before (jumps {f = f} {key = key} {next = next} x y) free g e m h =
-    still-recalls before f g next (with_word f.query (is_elsewhere key next)) (saying f.kept notices.Nothing) e refl m h
+later-recalls before (jumps {f = f} {way = way} {key = key} {next = next} x y) free g e m h =
+    still-recalls before f g next (with_word f.query (is_elsewhere key next)) (saying f.kept (search_word way f.beneath.session.shown.selection key)) e refl m h
 later-recalls before (seeks does) free g e m h = later-recalls before does refl g e m h
 later-recalls before (ranges {f = f}) free g e m h =
     still-recalls before f g f.beneath (with_word f.query false) (after_range f.kept (selection_of f.beneath)) e (range-history f.kept (selection_of f.beneath)) m h

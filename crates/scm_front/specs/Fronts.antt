@@ -21,7 +21,7 @@ use Rattle.scm_front_items.specs.declared.items.Way.TheVariants.{Up, Down}
 use Rattle.scm_front_items.specs.declared.history.History.{History}
 use Rattle.scm_front_items.specs.declared.runs.Step.{Step}
 use Rattle.scm_front_items.specs.declared.targets.Deed.{Deed}
-use Rattle.scm_front_items.specs.Search.{item_towards}
+use Rattle.scm_front_items.specs.Search.{is_towards, item_around}
 use Rattle.scm_front_items.specs.Ranges.{lines_between, mark_for, marking}
 use Rattle.scm_front_items.specs.Plans.{section_folds, file_folds}
 use Rattle.scm_front_items.specs.Runs.{marks_of_files, marks_with}
@@ -80,6 +80,8 @@ abbrev pub is_silent : Notice → Bool
 is_silent notices.Nothing = true
 is_silent notices.Asking = false
 is_silent notices.NotFound = false
+is_silent notices.FromTop = false
+is_silent notices.FromEnd = false
 is_silent notices.Range = false
 is_silent notices.NoLine = false
 is_silent notices.Undone = false
@@ -99,9 +101,18 @@ notice_of f =
     else if f.query.is_missing then notices.NotFound
     else said_word f.kept
 
--- the item that a search finds from the selection
+-- the item that a search finds from the selection, also at the other end
 abbrev pub found : Way → Front → Option SelectionKey
-found way f = item_towards way f.query.sought f.beneath.session.shown.state.files f.beneath.session.shown.selection
+found way f = item_around way f.query.sought f.beneath.session.shown.state.files f.beneath.session.shown.selection
+
+-- what the layer says of a search that went on at the other end
+abbrev pub end_word : Way → Notice
+end_word Down = notices.FromTop
+end_word Up = notices.FromEnd
+
+-- what the layer says of a search that found `key` from `selection`
+abbrev pub search_word : Way → SelectionKey → SelectionKey → Notice
+search_word way selection key = if is_towards way selection key then notices.Nothing else end_word way
 
 -- whether something else than the item is selected
 abbrev pub is_elsewhere : SelectionKey → Live → Bool
@@ -184,10 +195,11 @@ pub data Does : Front → Action → List Call → FrontTurn → Type 0 where
   -- a search that finds no item leaves the session as it was, and says so
   misses : {f : Front} {way : Way} → found way f ≡ None
       → Does f (Again way) [] (Waiting (front f.beneath (with_word f.query true) f.kept))
-  -- a search that finds an item selects it by a jump, and says whether something else is selected then
+  -- a search that finds an item selects it by a jump, and says whether something else is selected then, and whether it went on at the other end
   jumps : {f : Front} {way : Way} {key : SelectionKey} {calls : List Call} {next : Live} → found way f ≡ Some key
       → JumpLeads f.beneath key calls next
-      → Does f (Again way) calls (Waiting (front next (with_word f.query (is_elsewhere key next)) (saying f.kept notices.Nothing)))
+      → Does f (Again way) calls
+      (Waiting (front next (with_word f.query (is_elsewhere key next)) (saying f.kept (search_word way f.beneath.session.shown.selection key))))
   -- the end of a question is a search downwards for its text
   seeks : {f : Front} {calls : List Call} {turn : FrontTurn}
       → Does (front f.beneath (after_typing Finish f.query) f.kept) (Again Down) calls turn → Does f Seek calls turn

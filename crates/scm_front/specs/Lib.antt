@@ -26,5 +26,3 @@ pub mod Restoring
 pub mod Fronts
 -- what the layer makes of a turn to which events led
 pub mod Handing
--- a click sideways, on a session that is wider than the terminal
-pub mod Sideways

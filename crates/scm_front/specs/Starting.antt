@@ -1,7 +1,12 @@
 -- The folds and the selection at the start: nothing else of the session changes.
-use Rattle.std.specs.Prelude.{◌≡◌, List}
+use Rattle.std.specs.Prelude.{◌≡◌, ⊤, Bool, true, false, List, [], ◌∷◌, is_some, if◌then◌else◌}
 use Rattle.std.specs.List.{All}
 use Rattle.scm_types.specs.declared.keys.SelectionKey.{SelectionKey}
+use Rattle.scm_view.specs.ViewState.{ViewState}
+use Rattle.scm_selection.specs.KeyLists.{all_keys}
+use Rattle.scm_selection.specs.KeySet.{key_set}
+use Rattle.scm_input.specs.declared.events.Event.{Event}
+use Rattle.scm_input.specs.declared.events.Event.TheVariants.{ExpandAll}
 use Rattle.scm_record.specs.Live.{Live}
 use Rattle.scm_record.specs.Jumps.{after_selecting}
 use Rattle.scm_record.specs.declared.live.Turn.{Turn}
@@ -9,6 +14,8 @@ use Rattle.scm_record.specs.declared.live.Turn.TheVariants.{Waiting, Editing, Ac
 use Rattle.scm_front_items.specs.declared.targets.Deed.{Deed}
 use Rattle.scm_front_items.specs.declared.targets.Deed.TheVariants.{Mark}
 use Rattle.scm_front_items.specs.declared.targets.Target.{Target}
+use Rattle.scm_front.specs.declared.starting.Folds.{Folds}
+use Rattle.scm_front.specs.declared.starting.Folds.TheVariants.{AsIs, Folded, Open, Fitting}
 
 -- Only the selection, the folds and the scroll may differ: the state with its marks and messages, the dialogs, the menu and the size of the
 -- screen are the same.
@@ -23,6 +30,33 @@ Refolds l (Waiting next) = IsRefolded l next
 Refolds l (Editing a) = ⊥
 Refolds l (Accepted state) = ⊥
 
+-- the keys that are unfolded after all are unfolded, if `is_open`, and otherwise after all are folded; an open quit dialog lets no fold change
+abbrev pub unfolded_keys : Bool → ViewState → List SelectionKey
+unfolded_keys is_open view =
+    if is_some view.quit_dialog then view.expanded
+    else if is_open then key_set (all_keys view.state.files)
+    else []
+
+-- the events that do so, where `is_all` says whether all are unfolded before: each folds all if all are unfolded, and otherwise unfolds all
+abbrev pub fold_events : Bool → Bool → List Event
+fold_events true true = []
+fold_events true false = ExpandAll ∷ []
+fold_events false true = ExpandAll ∷ []
+fold_events false false = ExpandAll ∷ (ExpandAll ∷ [])
+
+-- the session waits for an event, with all unfolded, or all folded
+abbrev pub Unfolds : Bool → Live → Turn → Type 0
+Unfolds is_open l (Waiting next) = next.session.shown.expanded ≡ unfolded_keys is_open l.session.shown
+Unfolds is_open l (Editing a) = ⊥
+Unfolds is_open l (Accepted state) = ⊥
+
+-- what `folds` says is unfolded. Whether everything fits the screen is not said here.
+abbrev pub UnfoldsAs : Folds → Live → Turn → Type 0
+UnfoldsAs AsIs l turn = turn ≡ Waiting l
+UnfoldsAs Folded l turn = Unfolds false l turn
+UnfoldsAs Open l turn = Unfolds true l turn
+UnfoldsAs Fitting l turn = ⊤
+
 -- a deed that folds or unfolds
 abbrev pub IsFold : Deed → Type 0
 IsFold deed = (t : Target) → deed ≡ Mark t → ⊥
@@ -31,8 +65,9 @@ IsFold deed = (t : Target) → deed ≡ Mark t → ⊥
 abbrev pub AreFolds : List Deed → Type 0
 AreFolds deeds = All IsFold deeds
 
--- at the start the session is refolded, and then `first` is selected, if the state has such an item
-pub record Starts (l : Live) (first : SelectionKey) (turn : Turn) : Type 0 where
+-- at the start the session is refolded as `folds` says, and then `first` is selected, if the state has such an item
+pub record Starts (folds : Folds) (l : Live) (first : SelectionKey) (turn : Turn) : Type 0 where
   pub folded : Live
   pub refolded : IsRefolded l folded
+  pub unfolded : UnfoldsAs folds l (Waiting folded)
   pub selected : turn ≡ Waiting (after_selecting folded first)

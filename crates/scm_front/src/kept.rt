@@ -14,6 +14,10 @@ pub enum Notice {
     Asking,
     /// The last search did not get to an item.
     NotFound,
+    /// The last search went on at the first item.
+    FromTop,
+    /// The last search went on at the last item.
+    FromEnd,
     /// A range is begun.
     Range,
     /// No range was begun, since no line is selected.

@@ -14,7 +14,6 @@ ghost use Rattle.scm_front.specs.declared.kept.Notice.TheVariants.{NotRestored};
 ghost use Rattle.scm_front.specs.declared.actions.Action.TheVariants.{Again, Edit, Mark, Pass, Range, Seek};
 ghost use Rattle.scm_front.specs.Actions.{has_key};
 ghost use Rattle.scm_front.specs.Asking.{new_query};
-ghost use Rattle.scm_front.specs.Sideways.{sideways_click};
 ghost use Rattle.scm_front.specs.Driving.{turn_of};
 ghost use Rattle.scm_front.specs.Keeping.{IsNew, KeepsAs, after_range, anchored, done_word, is_none, nothing_left, other_way, saying, steps_of};
 ghost use Rattle.scm_front.specs.Presses.{PressesFail, PressesLead};
@@ -25,7 +24,7 @@ ghost use Rattle.scm_front.specs.Recording.{RecordsAt, Returns, back_of};
 ghost use Rattle.scm_front_items.specs.Runs.{marks_of_files, marks_with};
 ghost use Rattle.scm_front_items.specs.Histories.{no_history};
 ghost use Rattle.scm_front.specs.Starting.{Starts};
-ghost use Rattle.scm_front.specs.Fronts.{Does, IsGiven, KeyFails, RemembersIn, beneath_of, files_of, front, front_of, found, heard, is_elsewhere, is_silent, mode_of, notice_of, restoring, said_word};
+ghost use Rattle.scm_front.specs.Fronts.{Does, IsGiven, KeyFails, RemembersIn, beneath_of, end_word, files_of, front, front_of, found, heard, is_elsewhere, is_silent, mode_of, notice_of, restoring, said_word, search_word};
 
 use crate::accepted::AcceptedState;
 use crate::actions::{Action, Mode, OwnKey, action_of, has_key};
@@ -40,7 +39,7 @@ use crate::marking::{
 use crate::presses::press_each;
 use crate::recording::{Author, history_after, runs_before, runs_before_all};
 use crate::starting::{Folds, fold_at_start, select_first};
-use scm_front_items::{History, Run, Step, Way, item_towards};
+use scm_front_items::{History, Run, Step, Way, is_towards, item_around};
 use scm_record::keys::is_key;
 use scm_record::{
     Editing, Event, Items, LiveSession, RecordError, RecordState, SelectionKey, TerminalEvent,
@@ -176,6 +175,27 @@ fn is_elsewhere(key: SelectionKey, session: &Begun<'_>) -> bool
     !is_key(session.live().view_state().selection, key)
 }
 
+/// Returns what the layer says of a search that went on at the other end.
+fn end_word(way: Way) -> Notice
+    ensures { result ≡ end_word way }
+{
+    match way {
+        Way::Down => Notice::FromTop,
+        Way::Up => Notice::FromEnd,
+    }
+}
+
+/// Returns what the layer says of a search in direction `way` that found `key` from `selection`.
+fn search_word(way: Way, selection: SelectionKey, key: SelectionKey) -> Notice
+    ensures { result ≡ search_word way selection key }
+{
+    if is_towards(way, selection, key) {
+        Notice::Nothing
+    } else {
+        end_word(way)
+    }
+}
+
 /// Returns whether `key` is that of a line.
 fn is_line(key: SelectionKey) -> bool
     ensures { result ≡ is_line key }
@@ -204,6 +224,8 @@ fn is_silent(word: Notice) -> bool
         Notice::Nothing => true,
         Notice::Asking
         | Notice::NotFound
+        | Notice::FromTop
+        | Notice::FromEnd
         | Notice::Range
         | Notice::NoLine
         | Notice::Undone
@@ -408,7 +430,7 @@ impl<'state> Front<'state> {
         ensures kept { IfOk result (λ turn.
             turn ≡ front_of (beneath_of turn) self.entry.query self.entry.kept) }
         ensures starts { IfOk result (λ turn.
-            Starts self.entry.beneath first (beneath_of turn)) }
+            Starts folds self.entry.beneath first (beneath_of turn)) }
         ensures err { IfErr result (λ e. e ≡ OutOfMemory) }
     {
         let Front {
@@ -539,30 +561,6 @@ impl<'state> Front<'state> {
         Ok(front_turn(turn, query, kept))
     }
 
-    /// Handles a click at `row` and `column` of a terminal that shows the session's columns from `x`
-    /// on.
-    ///
-    /// # Errors
-    ///
-    /// An error ends the session: it is that of the click.
-    pub fn click_sideways(
-        self,
-        x: usize,
-        row: usize,
-        column: usize,
-    ) -> Result<FrontTurn<'state>, RecordError>
-        requires narrow { x + column ≤ 65535 }
-        ensures ok { IfOk result (λ turn. Does self.entry (Pass (sideways_click x row column))
-            (Press (sideways_click x row column) ∷ []) turn) }
-        ensures err { IfErr result (λ e.
-            EventFails self.entry.beneath (sideways_click x row column) e) }
-    {
-        self.handle(Event::Click {
-            row,
-            column: x + column,
-        })
-    }
-
     /// Types the text to search for. The session beneath is unchanged.
     ///
     /// # Errors
@@ -587,12 +585,13 @@ impl<'state> Front<'state> {
         }))
     }
 
-    /// Returns the nearest item in direction `way` whose text has the text that was searched for last.
+    /// Returns the nearest item in direction `way` whose text has the text that was searched for last. At the
+    /// end of the items the search goes on at the other end.
     fn found(&self, way: Way) -> Option<SelectionKey>
         ensures { result ≡ found way self.now }
     {
         let view = self.beneath().view_state();
-        item_towards(
+        item_around(
             way,
             self.query.sought.as_str(),
             view.state.files.as_slice(),
@@ -600,9 +599,9 @@ impl<'state> Front<'state> {
         )
     }
 
-    /// Selects `key`, and says whether it is selected then.
-    fn jump(self, key: SelectionKey) -> Result<FrontTurn<'state>, RecordError>
-        ensures ok { (way : Direction) → found way self.entry ≡ Some key → IfOk result
+    /// Selects `key`, which a search in direction `way` found, and says whether it is selected then.
+    fn jump(self, way: Way, key: SelectionKey) -> Result<FrontTurn<'state>, RecordError>
+        ensures ok { found way self.entry ≡ Some key → IfOk result
             (λ turn. (calls : List Call) × Does self.entry (Again way) calls turn) }
         ensures err { IfErr result (λ e. e ≡ OutOfMemory) }
     {
@@ -611,17 +610,18 @@ impl<'state> Front<'state> {
             query,
             kept,
         } = self;
+        let word = search_word(way, selection_of(&beneath), key);
         let beneath = beneath.select(key)?;
         let is_missing = is_elsewhere(key, &beneath);
         Ok(FrontTurn::Waiting(Front {
             beneath,
             query: with_word(query, is_missing),
-            kept: saying(kept, Notice::Nothing),
+            kept: saying(kept, word),
         }))
     }
 
-    /// Searches in direction `way` for the text that was searched for last. If an item is found, selects
-    /// it. If not, the session beneath is unchanged.
+    /// Searches in direction `way` for the text that was searched for last. At the end of the items it goes on
+    /// at the other end. If an item is found, selects it. If not, the session beneath is unchanged.
     ///
     /// # Errors
     ///
@@ -647,7 +647,7 @@ impl<'state> Front<'state> {
                     kept,
                 }))
             }
-            Some(key) => self.jump(key),
+            Some(key) => self.jump(way, key),
         }
     }
 

@@ -1,16 +1,15 @@
 //! The folds and the selection at the start.
-ghost use Rattle.std.specs.List.{All};
 ghost use Rattle.std.specs.Prelude.{◌≡◌, IfErr, IfOk};
 ghost use Rattle.scm_errors.specs.declared.error.RecordError.TheVariants.{OutOfMemory};
 ghost use Rattle.scm_record.specs.declared.live.Turn.TheVariants.{Waiting};
-ghost use Rattle.scm_input.specs.declared.events.Event.{Event as Input};
-ghost use Rattle.scm_input.specs.declared.events.Event.TheVariants.{ExpandAll};
 ghost use Rattle.scm_front.specs.Begun.{LeadsOn};
 ghost use Rattle.scm_record.specs.Jumps.{after_selecting};
 ghost use Rattle.scm_front.specs.Driving.{turn_of};
-ghost use Rattle.scm_front.specs.declared.starting.Folds.TheVariants.{AsIs};
+ghost use Rattle.scm_front.specs.declared.starting.Folds.{Folds as Unfolding};
 ghost use Rattle.scm_record.specs.Live.{Live};
-ghost use Rattle.scm_front.specs.Starting.{AreFolds, Refolds, Starts};
+ghost use Rattle.scm_selection.specs.KeyLists.{all_keys};
+ghost use Rattle.scm_selection.specs.KeySet.{is_same_set, key_set};
+ghost use Rattle.scm_front.specs.Starting.{AreFolds, Refolds, Starts, Unfolds, UnfoldsAs, fold_events};
 
 use crate::begun::{Begun, BegunTurn};
 use crate::deeds::do_round;
@@ -71,7 +70,8 @@ fn events_for(
     view: &ViewState<'_>,
     is_open: bool,
 ) -> Result<&'static [Event], RecordError>
-    ensures folds { IfOk result (λ events. All (λ (event : Input). event ≡ ExpandAll) events.now) }
+    ensures events { IfOk result (λ events. events.now ≡ fold_events is_open
+        (is_same_set view.now.expanded (key_set (all_keys view.now.state.files)))) }
     ensures err { IfErr result (λ e. e ≡ OutOfMemory) }
 {
     let is_all_open = view.are_all_keys_expanded(alloc)?;
@@ -92,6 +92,7 @@ fn set_folds<'state>(
 ) -> Result<BegunTurn<'state>, RecordError>
     ensures ok { IfOk result (λ turn. LeadsOn (Waiting session.entry) (turn_of turn)) }
     ensures folds { IfOk result (λ turn. Refolds session.entry (turn_of turn)) }
+    ensures unfolded { IfOk result (λ turn. Unfolds is_open session.entry (turn_of turn)) }
     ensures err { IfErr result (λ e. e ≡ OutOfMemory) }
 {
     let events = events_for(alloc, session.live().view_state(), is_open)?;
@@ -167,9 +168,9 @@ pub(crate) fn fold_at_start<'state>(
     session: Begun<'state>,
     folds: Folds,
 ) -> Result<BegunTurn<'state>, RecordError>
-    ensures as_is { folds ≡ AsIs → IfOk result (λ turn. turn_of turn ≡ Waiting session.entry) }
     ensures ok { IfOk result (λ turn. LeadsOn (Waiting session.entry) (turn_of turn)) }
     ensures folds { IfOk result (λ turn. Refolds session.entry (turn_of turn)) }
+    ensures unfolded { IfOk result (λ turn. UnfoldsAs folds session.entry (turn_of turn)) }
     ensures err { IfErr result (λ e. e ≡ OutOfMemory) }
 {
     match folds {
@@ -200,8 +201,9 @@ pub(crate) fn select_first<'state>(
     first: SelectionKey,
 ) -> Result<BegunTurn<'state>, RecordError>
     ensures ok { IfOk result (λ last. LeadsOn (turn_of turn.entry) (turn_of last)) }
-    ensures selected { (l : Live) → Refolds l (turn_of turn.entry)
-        → IfOk result (λ last. Starts l first (turn_of last)) }
+    ensures selected { (folds : Unfolding) → (l : Live) → Refolds l (turn_of turn.entry)
+        → UnfoldsAs folds l (turn_of turn.entry)
+        → IfOk result (λ last. Starts folds l first (turn_of last)) }
     ensures err { IfErr result (λ e. e ≡ OutOfMemory) }
 {
     match turn {

@@ -1,5 +1,5 @@
 -- A search: the next item, or the previous one, whose text has a pattern.
-use Rattle.std.specs.Prelude.{ℕ, ◌+◌, nat_eq, nat_lt, Bool, true, false, ◌&&◌, ◌||◌, List, [], ◌∷◌, ◌++◌, Option, Some, None, if◌then◌else◌}
+use Rattle.std.specs.Prelude.{ℕ, ◌+◌, length, nat_eq, nat_lt, Bool, true, false, ◌&&◌, ◌||◌, List, [], ◌∷◌, ◌++◌, Option, Some, None, if◌then◌else◌}
 use Rattle.std.specs.Option.{option_or}
 use Rattle.scm_types.specs.declared.file.File.{File}
 use Rattle.scm_types.specs.declared.line.SectionChangedLine.{SectionChangedLine}
@@ -121,6 +121,16 @@ nearest Up test items = last_passing test items
 -- the item that a search finds from the selection: the nearest one below it, or above it, whose text has the pattern
 abbrev pub item_towards : Way → List ℕ → List File → SelectionKey → Option SelectionKey
 item_towards way pattern files selection = nearest way (is_hit way pattern selection) (files_items 0 files)
+
+-- where a search goes on when it has come to its end: above all items, or below them
+abbrev pub other_end : Way → List File → SelectionKey
+other_end Down files = keys.None
+other_end Up files = file_key (length files)
+
+-- the item that a search finds which goes on at the other end
+abbrev pub item_around : Way → List ℕ → List File → SelectionKey → Option SelectionKey
+item_around way pattern files selection =
+    option_or (item_towards way pattern files selection) (item_towards way pattern files (other_end way files))
 
 -- ---- item by item
 

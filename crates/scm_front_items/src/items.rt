@@ -12,9 +12,11 @@ ghost use Rattle.scm_front_items.specs.Search.{
   is_less,
   is_towards,
   item,
+  item_around,
   item_towards,
   line_index,
   line_items,
+  other_end,
   section_index,
   section_items,
   sections_items,
@@ -117,7 +119,7 @@ pub(crate) fn is_above(key: SelectionKey, other: SelectionKey) -> bool
 }
 
 /// Returns whether `key` stands in direction `way` of `selection`.
-fn is_towards(way: Way, selection: SelectionKey, key: SelectionKey) -> bool
+pub fn is_towards(way: Way, selection: SelectionKey, key: SelectionKey) -> bool
     ensures { result ≡ is_towards way selection key }
 {
     match way {
@@ -276,4 +278,31 @@ pub fn item_towards(
         selection,
     };
     after_files(&quest, files)
+}
+
+/// Returns where a search in direction `way` goes on when it has come to the end of `files`.
+fn other_end(way: Way, files: &[File<'_>]) -> SelectionKey
+    ensures { result ≡ other_end way files.now }
+{
+    match way {
+        Way::Down => SelectionKey::None,
+        Way::Up => file_key(files.len()),
+    }
+}
+
+/// Returns the item that [`item_towards`] returns. If there is none, the search goes on at the other end:
+/// below the last item with the first, above the first with the last. So `None` says that no item has
+/// `pattern`.
+pub fn item_around(
+    way: Way,
+    pattern: &str,
+    files: &[File<'_>],
+    selection: SelectionKey,
+) -> Option<SelectionKey>
+    ensures { result ≡ item_around way pattern.now files.now selection }
+{
+    match item_towards(way, pattern, files, selection) {
+        Some(key) => Some(key),
+        None => item_towards(way, pattern, files, other_end(way, files)),
+    }
 }

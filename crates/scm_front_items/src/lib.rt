@@ -15,6 +15,6 @@ pub mod steps;
 pub mod targets;
 
 pub use history::History;
-pub use items::{Way, item_towards};
+pub use items::{Way, is_towards, item_around, item_towards};
 pub use runs::{Marks, Run, Step};
 pub use targets::{Deed, Target};

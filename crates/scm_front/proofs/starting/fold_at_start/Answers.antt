@@ -1,3 +1,4 @@
+use Rattle.std.proofs.lemmas.Result.{IfOk-weaker}
 use Rattle.scm_record.specs.declared.live.Turn.TheVariants.{Waiting}
 use Rattle.scm_front.proofs.BegunLemmas.{leads-still}
 use Rattle.scm_front.proofs.OutcomeLemmas.{same-folds}

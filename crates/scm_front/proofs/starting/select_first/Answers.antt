@@ -21,15 +21,15 @@ returns-in-Accepted-clause-ok c =
     leads-from (turn_of c.args.turn) (Accepted c.in-Accepted.state) (Accepted c.in-Accepted.state) (ap turn_of c.in-Accepted.is) (leads-still (Accepted c.in-Accepted.state))
 
 pub returns-in-Waiting-clause-selected : goal.returns-in-Waiting-clause-selected
-returns-in-Waiting-clause-selected c = λ l h.
+returns-in-Waiting-clause-selected c = λ folds l h u.
     IfOk-weaker c.select_in.result _ _ (λ last s.
-    starts-with l c.in-Waiting.session c.args.first (turn_of c.args.turn) (turn_of last) (ap turn_of c.in-Waiting.is) h s)
+    starts-with folds l c.in-Waiting.session c.args.first (turn_of c.args.turn) (turn_of last) (ap turn_of c.in-Waiting.is) h u s)
     c.select_in.ensures.selected
 
 pub returns-in-Editing-clause-selected : goal.returns-in-Editing-clause-selected
-returns-in-Editing-clause-selected c = λ l h.
+returns-in-Editing-clause-selected c = λ folds l h u.
     absurd (refolds-same l (turn_of c.args.turn) (Editing c.in-Editing.editing) (ap turn_of c.in-Editing.is) h)
 
 pub returns-in-Accepted-clause-selected : goal.returns-in-Accepted-clause-selected
-returns-in-Accepted-clause-selected c = λ l h.
+returns-in-Accepted-clause-selected c = λ folds l h u.
     absurd (refolds-same l (turn_of c.args.turn) (Accepted c.in-Accepted.state) (ap turn_of c.in-Accepted.is) h)

@@ -16,5 +16,5 @@ returns-clause-ok c =
 pub returns-clause-starts : goal.returns-clause-starts
 returns-clause-starts c =
     let l = c.args.self.beneath in
-    subst (λ (t : Turn). Starts l c.args.first t) (sym c.front_turn.ensures.beneath)
-    (c.in_ok-turn.ensures.selected l c.in_ok-folded.ensures.folds)
+    subst (λ (t : Turn). Starts c.args.folds l c.args.first t) (sym c.front_turn.ensures.beneath)
+    (c.in_ok-turn.ensures.selected c.args.folds l c.in_ok-folded.ensures.folds c.in_ok-folded.ensures.unfolded)
