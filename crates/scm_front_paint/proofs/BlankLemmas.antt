@@ -42,7 +42,7 @@ picture-size style grid = record {
       ∙ length-map (range_with_len 0 grid.width) (cell_at style grid (get_or (range_with_len 0 (length grid.rows)) k 0)) ∙ length-range_with_len 0 grid.width);
 }
 
-abbrev blank_cell : StyledCell
+abbrev pub blank_cell : StyledCell
 blank_cell = First (32 ∷ []) plain_style
 
 abbrev space : ℕ → StyledCell
@@ -212,7 +212,7 @@ blank-again grid w h places blanks =
 
 -- ---- blanks as they are sent
 
-cells-are : (n : ℕ) → blank_cells n ≡ replicate n blank_cell
+pub cells-are : (n : ℕ) → blank_cells n ≡ replicate n blank_cell
 cells-are n = each (range_with_len 0 n) ∙ ap (λ (k : ℕ). replicate k blank_cell) (length-range_with_len 0 n)
   where
     each : (xs : List ℕ) → map space xs ≡ replicate (length xs) blank_cell
@@ -529,14 +529,18 @@ begins-known w h rows b bytes e none =
       written = none;
     }
 
-pub begins-blank : (w h : ℕ) (known from : List (List StyledCell)) (bytes : List ℕ) → h < 2 ^ 16 → from ≡ blank_picture w h → bytes ≡ flat_map bytes_of (blanking w h)
-    → IsBeginning w h known from bytes
-begins-blank w h known from bytes few is written = record {
-  commands = blanking w h;
-  begins = subst (λ (rows : List (List StyledCell)). Begins w h known rows (blanking w h)) (sym is) from_blanks;
-  readable = blanking-read w h few;
-  written = written;
-}
+pub begins-blank : (w h : ℕ) (rows from : List (List StyledCell)) (b : Bool) (bytes : List ℕ) → b ≡ false → h < 2 ^ 16 → from ≡ blank_picture w h
+    → bytes ≡ flat_map bytes_of (blanking w h) → IsBeginning w h (if b then rows else []) from bytes
+begins-blank w h rows from b bytes e few is written =
+    let unknown : (if b then rows else []) ≡ [] = ap (λ (x : Bool). if x then rows else []) e in
+    record {
+      commands = blanking w h;
+      begins =
+          subst (λ (k : List (List StyledCell)). Begins w h k from (blanking w h)) (sym unknown)
+          (subst (λ (k : List (List StyledCell)). Begins w h [] k (blanking w h)) (sym is) from_blanks);
+      readable = blanking-read w h few;
+      written = written;
+    }
 
 pub paints-last : (w h : ℕ) (known from : List (List StyledCell)) (left : LeftText) (right bytes first second : List ℕ) → IsBeginning w h known from first
     → Paints w from (status_picture w h left right) second → bytes ≡ first ++ second → PaintsLast w known (status_picture w h left right) bytes

@@ -8,6 +8,8 @@ pub mod PartLemmas
 pub mod BlankLemmas
 -- the session's rows and the status row below them
 pub mod BelowLemmas
+-- both of them on a terminal of any widths
+pub mod AnyWidthLemmas
 -- what the status row says
 pub mod StatusLemmas
 -- the words that differ in two lines

@@ -31,24 +31,24 @@ use Rattle.scm_front_paint.specs.Views.{IsFitted, fits, drawn, IsShown, waits, e
 -- ---- calls of the session beneath
 
 -- some calls lead from turn to turn
-record Calls (first last : Turn) : Type 0 where
-  calls : List Call
-  path : Path first calls last
+pub record Calls (first last : Turn) : Type 0 where
+  pub calls : List Call
+  pub path : Path first calls last
 
-no-calls : (turn : Turn) → Calls turn turn
+pub no-calls : (turn : Turn) → Calls turn turn
 no-calls turn = record { calls = []; path = still }
 
-calls-after : {first middle last : Turn} → Calls first middle → Calls middle last → Calls first last
+pub calls-after : {first middle last : Turn} → Calls first middle → Calls middle last → Calls first last
 calls-after p q = record { calls = p.calls ++ q.calls; path = path-after p.path q.path }
 
-fitted-calls : {p : Pane} {f next : Front} → IsFitted p f next → Calls (turns.Waiting f.beneath) (turns.Waiting next.beneath)
+pub fitted-calls : {p : Pane} {f next : Front} → IsFitted p f next → Calls (turns.Waiting f.beneath) (turns.Waiting next.beneath)
 fitted-calls (fits {f = f} e) = no-calls (turns.Waiting f.beneath)
 fitted-calls {p = p} {f = f} {next = next} (drawn e drawn_is query kept) = record {
   calls = Resize (kind_for p f.beneath) ∷ [];
   path = resize (subst (λ (l : Live). Path (turns.Waiting l) [] (turns.Waiting next.beneath)) drawn_is still);
 }
 
-shown-calls : {p : Pane} {middle : FrontTurn} {turn : ViewTurn} → IsShown p middle turn → Calls (beneath_of middle) (beneath_of (front_turn turn))
+pub shown-calls : {p : Pane} {middle : FrontTurn} {turn : ViewTurn} → IsShown p middle turn → Calls (beneath_of middle) (beneath_of (front_turn turn))
 shown-calls (waits g) = fitted-calls g
 shown-calls (edits {e = e}) = no-calls (turns.Editing e.beneath)
 shown-calls (accepts {state = state}) = no-calls (turns.Accepted state)
@@ -60,7 +60,7 @@ does-calls : {v : Seen} {heard : Heard} {turn : ViewTurn} → ViewDoes v heard t
 does-calls (shows g) = shown-calls g
 does-calls (hands g) = handed-calls g
 
-hears-calls : {v : Seen} {heard : List TerminalEvent} {turn : ViewTurn} → ViewHears v heard turn → Calls (turns.Waiting v.front.beneath) (beneath_of (front_turn turn))
+pub hears-calls : {v : Seen} {heard : List TerminalEvent} {turn : ViewTurn} → ViewHears v heard turn → Calls (turns.Waiting v.front.beneath) (beneath_of (front_turn turn))
 hears-calls (no_more {v = v}) = no-calls (turns.Waiting v.front.beneath)
 hears-calls (ends does e) = does-calls does
 hears-calls (goes_on does later) = calls-after (does-calls does) (hears-calls later)

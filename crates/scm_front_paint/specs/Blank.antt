@@ -62,10 +62,11 @@ blanking width row = SetWrap false ∷ ((begin_row width row ++ replicate width 
 
 -- ---- a paint of the row below
 
--- What a paint of row `height` begins from, where the terminal shows `known`: from what it shows, or from blanks that it writes first.
+-- What a paint of row `height` begins from, where the terminal shows `known`: from what it shows, or, where nothing is known, from blanks that
+-- it writes first.
 pub data Begins (width height : ℕ) : List (List StyledCell) → List (List StyledCell) → List Command → Type 0 where
   from_known : {known : List (List StyledCell)} → Begins width height known known []
-  from_blanks : {known : List (List StyledCell)} → Begins width height known (blank_picture width height) (blanking width height)
+  from_blanks : Begins width height [] (blank_picture width height) (blanking width height)
 
 -- the bytes are those with which a paint of row `height` begins, and a terminal reads them
 pub record IsBeginning (width height : ℕ) (known from : List (List StyledCell)) (bytes : List ℕ) : Type 0 where

@@ -2,6 +2,8 @@
 pub mod Capped
 -- a view sideways, of a session that is wider than the terminal
 pub mod Sideways
+-- a view on a terminal of any widths
+pub mod AnyWidths
 -- the symbols of a screen, by their places
 pub mod Symbols
 -- a grid that has the columns of a screen from a column on

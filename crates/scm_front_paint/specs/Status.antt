@@ -16,7 +16,7 @@ use Rattle.scm_terminal.specs.StyledCell.{StyledCell, picture}
 use Rattle.scm_selection.specs.Counts.{changed_count}
 use Rattle.scm_record.specs.Marked.{checked_lines}
 use Rattle.scm_front.specs.declared.kept.Notice.{Notice}
-use Rattle.scm_front.specs.declared.kept.Notice.TheVariants.{Nothing, Asking, NotFound, Range, NoLine, Undone, Redone, NothingToUndo, NothingToRedo, NotRestored}
+use Rattle.scm_front.specs.declared.kept.Notice.TheVariants.{Nothing, Asking, NotFound, FromTop, FromEnd, Range, NoLine, Undone, Redone, NothingToUndo, NothingToRedo, NotRestored}
 use Rattle.scm_front.specs.declared.layer.Front.{Front}
 use Rattle.scm_front.specs.Fronts.{notice_of}
 use Rattle.scm_front_paint.specs.declared.status.LeftKind.{LeftKind}
@@ -69,6 +69,8 @@ abbrev pub text_of_notice : Notice → List ℕ
 text_of_notice Nothing = []
 text_of_notice Asking = []
 text_of_notice NotFound = []
+text_of_notice FromTop = codes "search goes on at the top"
+text_of_notice FromEnd = codes "search goes on at the end"
 text_of_notice Range = codes "range: space marks it, esc ends it"
 text_of_notice NoLine = codes "a range begins at a line"
 text_of_notice Undone = codes "undone"

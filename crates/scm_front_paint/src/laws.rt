@@ -17,6 +17,7 @@ ghost use Rattle.scm_front_paint.specs.declared.labels.Label.{Label};
 ghost use Rattle.scm_front_paint.specs.declared.themes.Theme.{Theme};
 ghost use Rattle.scm_front_paint.specs.declared.view.ViewTurn.{ViewTurn};
 ghost use Rattle.scm_front_paint.specs.declared.columns.Columns.{Columns};
+ghost use Rattle.scm_front_paint.specs.AnyWidths.{KeepsBoth};
 ghost use Rattle.scm_front_paint.specs.Below.{AreWhole, Before, LeadsToBoth, PaintsBoth, Pictures, StayApart, commands_of, rows_shown, view_pictures, width_of};
 ghost use Rattle.scm_front_paint.specs.Seen.{IsSeen, Seen};
 ghost use Rattle.scm_front_paint.specs.Sideways.{sideways_picture, sideways_row};
@@ -95,4 +96,17 @@ pub fn status_rows_stand_below()
     ensures apart { (width height : ℕ) (known new : Pictures) (bytes : List ℕ)
         (p : PaintsBoth width known new bytes) → AreWhole width height known
         → AreWhole width height new → StayApart height p }
+{}
+
+/// Proves what a terminal of any widths shows of a view.
+///
+/// A terminal may give a symbol of several bytes other columns than ours, or leave it out. It has room for the
+/// session's rows and the status row. Then a paint changes only rows that changed, nothing scrolls, and each
+/// symbol of one byte stands at its place in its style.
+///
+/// This is a law: the function does nothing, and is there for its contract.
+pub fn views_keep_places()
+    ensures { (width height : ℕ) (known new : Pictures) (bytes : List ℕ)
+        (p : PaintsBoth width known new bytes) → AreWhole width height new
+        → KeepsBoth width height known new (commands_of p) }
 {}

@@ -118,6 +118,8 @@ fn text_of_notice(notice: Notice) -> &'static str
 {
     match notice {
         Notice::Nothing | Notice::Asking | Notice::NotFound => "",
+        Notice::FromTop => "search goes on at the top",
+        Notice::FromEnd => "search goes on at the end",
         Notice::Range => "range: space marks it, esc ends it",
         Notice::NoLine => "a range begins at a line",
         Notice::Undone => "undone",

@@ -345,14 +345,6 @@ impl<'state> View<'state> {
         let View { front, pane } = self;
         (front, pane)
     }
-
-    /// Returns the front. To show it again, make a view of it.
-    pub fn into_front(self) -> Front<'state>
-        ensures { result ≡ self.entry.front }
-    {
-        let View { front, pane: _ } = self;
-        front
-    }
 }
 
 impl<'state> ViewEditing<'state> {

@@ -13,7 +13,7 @@ use Rattle.scm_terminal.specs.declared.pen.Pass.TheVariants.{Blanks, Symbols, Le
 use Rattle.scm_terminal.specs.StyledCell.{StyledCell, First, Later, laters, HasSize}
 use Rattle.scm_terminal.specs.Style.{style_code}
 use Rattle.scm_terminal.specs.Terminal.{Command, MoveTo, SetStyle, Put, SetWrap}
-use Rattle.scm_terminal.specs.AnyTerminal.{Display, ShowsByte, ChangesRow, PutsByte, Puts, May, Might, ShowsBytes, KeepsPlaces}
+use Rattle.scm_terminal.specs.AnyTerminal.{Display, ShowsByte, ChangesRow, PutsByte, Puts, May, Might, ShowsRow, IsAsLarge, KeepsPlaces}
 use Rattle.scm_terminal.specs.Sent.{stays_on_row}
 use Rattle.scm_terminal.specs.Painting.{Line, AreUpdates, sent_line, move_commands, style_commands, cell_commands, pen_after, new_pen, passed, columns_in, pass_commands, row_commands, line_commands, painting, paint_commands}
 use Rattle.scm_terminal.proofs.StyleLemmas.{style-same}
@@ -22,15 +22,15 @@ use Rattle.scm_terminal.proofs.SentLemmas.{StayFrom, rest-stays, pass-stays, len
 
 -- ---- commands one after another
 
-Might-none : (t u : Display) → Might [] t u → u ≡ t
+pub Might-none : (t u : Display) → Might [] t u → u ≡ t
 unfolding Might
 Might-none t u h = h
 
-Might-first : (c : Command) (cs : List Command) (t u : Display) → Might (c ∷ cs) t u → (middle : Display) × (May c t middle × Might cs middle u)
+pub Might-first : (c : Command) (cs : List Command) (t u : Display) → Might (c ∷ cs) t u → (middle : Display) × (May c t middle × Might cs middle u)
 unfolding Might
 Might-first c cs t u h = h
 
-Might-split : (xs ys : List Command) (t u : Display) → Might (xs ++ ys) t u → (middle : Display) × (Might xs t middle × Might ys middle u)
+pub Might-split : (xs ys : List Command) (t u : Display) → Might (xs ++ ys) t u → (middle : Display) × (Might xs t middle × Might ys middle u)
 unfolding Might
 Might-split [] ys t u h = (t, (refl, h))
 Might-split (x ∷ xs) ys t u h =
@@ -410,17 +410,21 @@ keeps-places w is_all last lasts next lines all_wide count cells updates same fi
       all.kept row (sent_line line) (omega (arith, sent_count, h)) (sent-at row line h read) (update-kept is_all lasts lines row line updates h read not_all (ap (λ (xs : List (List StyledCell)). get_or xs row []) (same not_all) ∙ equal ∙ sym (cells row line h read))))
       (λ (h : length lines ≤ row). all.below row (omega (arith, sent_count, h)))
       (cases_lt row (length lines));
-  shows = λ t u places might stood row column b style inside across cell.
+  below = λ t u places might row past.
+      let high = places.high in
+      let all = paint-may w sents t u places.wide (omega (arith, count, sent_count, high)) sizes might in
+      all.below row (omega (arith, count, sent_count, past));
+  shows = λ t u places might row inside stood column b style across cell.
       let high = places.high in
       let all = paint-may w sents t u places.wide (omega (arith, count, sent_count, high)) sizes might in
       let h : row < length lines = omega (arith, count, inside) in
       let line = get_or lines row (record { cells = []; is_changed = false }) in
       let read : line ≡ get_or lines row line = again lines row _ h in
-      at t u all stood row column b style line h read inside across cell line.is_changed refl;
+      at t u all row stood column b style line h read inside across cell line.is_changed refl;
   sized = λ t u places might.
       let high = places.high in
       let all = paint-may w sents t u places.wide (omega (arith, count, sent_count, high)) sizes might in
-      record { wide = all.wide ∙ places.wide; high = all.high ∙ high };
+      record { wide = all.wide; high = all.high };
   wraps = λ t u places might on. let high = places.high in (paint-may w sents t u places.wide (omega (arith, count, sent_count, high)) sizes might).wraps on;
 }
   where
@@ -441,20 +445,20 @@ keeps-places w is_all last lasts next lines all_wide count cells updates same fi
     sent-at : (row : ℕ) (line : Line) → row < length lines → line ≡ get_or lines row line → sent_line line ≡ get_or (map sent_line lines) row (sent_line line)
     sent-at row line h read = ap sent_line read ∙ sym (get_or-map sent_line lines row line (sent_line line) h)
 
-    at : (t u : Display) → PaintedAll (map sent_line lines) t u → (HasSize w (length next) last → ShowsBytes t last) → (row column b : ℕ) (style : Style) (line : Line) → row < length lines → line ≡ get_or lines row line
+    at : (t u : Display) → PaintedAll (map sent_line lines) t u → (row : ℕ) → (HasSize w (length next) last → ShowsRow t last row) → (column b : ℕ) (style : Style) (line : Line) → row < length lines → line ≡ get_or lines row line
         → row < length next → column < length (get_or next row []) → get_or (get_or next row []) column (First [] style) ≡ First (b ∷ []) style
         → (changed : Bool) → line.is_changed ≡ changed → ShowsByte u row column b style
-    at t u all stood row column b style line h read inside across cell true e =
+    at t u all row stood column b style line h read inside across cell true e =
         let is = cells row line h read in
         let long : length line.cells ≡ length (get_or next row []) = ap (λ (ps : List StyledCell). length ps) is in
         let count' = length-row line.cells in
         all.shown row (sent_line line) (omega (arith, sent_count, h)) (sent-at row line h read) e column b style (omega (arith, long, count', across))
         (row-byte line.cells column b style (omega (arith, long, across)) (ap (λ (ps : List StyledCell). get_or ps column (First [] style)) is ∙ cell))
-    at t u all stood row column b style line h read inside across cell false e =
+    at t u all row stood column b style line h read inside across cell false e =
         let left = update-left is_all lasts lines row line updates h read e in
         let size = fits left.0 in
         let was : get_or last row [] ≡ get_or next row [] = ap (λ (xs : List (List StyledCell)). get_or xs row []) (sym (same left.0)) ∙ left.1 ∙ cells row line h read in
         let high = size.high in
         let long : length (get_or last row []) ≡ length (get_or next row []) = ap (λ (ps : List StyledCell). length ps) was in
         shows-same t u row column b style (all.kept row (sent_line line) (omega (arith, sent_count, h)) (sent-at row line h read) e)
-        (stood size row column b style (omega (arith, high, inside)) (omega (arith, long, across)) (ap (λ (ps : List StyledCell). get_or ps column (First [] style)) was ∙ cell))
+        (stood size column b style (omega (arith, long, across)) (ap (λ (ps : List StyledCell). get_or ps column (First [] style)) was ∙ cell))

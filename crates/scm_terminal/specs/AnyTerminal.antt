@@ -3,7 +3,7 @@
 -- symbol of one byte takes one column, and the other symbols of one byte stay. Nothing is known of
 -- a symbol while symbols wrap, or if the cursor is unknown, or if it need not stay on its row
 -- (`stays_on_row`): then it may wrap, scroll, or join the row above.
-use Rattle.std.specs.Prelude.{◌≡◌, ◌≢◌, ℕ, ◌+◌, ◌<◌, if◌then◌else◌, Bool, true, false, List, [], ◌∷◌, length, slice_index_or, slice_set, Option, Some, None}
+use Rattle.std.specs.Prelude.{◌≡◌, ◌≢◌, ℕ, ◌+◌, ◌≤◌, ◌<◌, if◌then◌else◌, Bool, true, false, List, [], ◌∷◌, length, slice_index_or, slice_set, Option, Some, None}
 use Rattle.scm_cells.specs.declared.style.Style.{Style}
 use Rattle.scm_terminal.specs.StyledCell.{StyledCell, First, HasSize}
 use Rattle.scm_terminal.specs.Sent.{stays_on_row}
@@ -73,22 +73,29 @@ unfoldable pub Might : List Command → Display → Display → Type 0
 Might [] t u = u ≡ t
 Might (c ∷ cs) t u = (middle : Display) × (May c t middle × Might cs middle u)
 
--- each symbol of one byte of `rows` stands at its place
-abbrev pub ShowsBytes : Display → List (List StyledCell) → Type 0
-ShowsBytes t rows = (row column b : ℕ) → (style : Style)
-    → row < length rows → column < length (slice_index_or rows row [])
+-- each symbol of one byte of row `row` of `rows` stands at its place
+abbrev pub ShowsRow : Display → List (List StyledCell) → ℕ → Type 0
+ShowsRow t rows row = (column b : ℕ) → (style : Style)
+    → column < length (slice_index_or rows row [])
     → slice_index_or (slice_index_or rows row []) column (First [] style) ≡ First (b ∷ []) style
     → ShowsByte t row column b style
 
--- the display has `height` rows and `width` columns
+-- the display has `width` columns, and `height` rows or more
 pub record HasPlaces (t : Display) (width height : ℕ) : Type 0 where
   pub wide : t.width ≡ width
-  pub high : length t.rows ≡ height
+  pub high : height ≤ length t.rows
 
--- `commands` paint the picture `next`, after the picture `last`, on every terminal of any widths:
--- - `keeps`: each row that did not change stays as it was;
--- - `shows`: each symbol of one byte stands at its place afterwards, whatever the terminal showed
---   before. If `last` has the same size, those of `last` have to stand at their places before.
+-- two displays have the same size
+pub record IsAsLarge (t u : Display) : Type 0 where
+  pub wide : u.width ≡ t.width
+  pub high : length u.rows ≡ length t.rows
+
+-- `commands` paint the picture `next`, after the picture `last`, on every terminal of any widths that
+-- has room for it:
+-- - `keeps`, `below`: each row that did not change stays as it was, and each row below the picture;
+-- - `shows`: each symbol of one byte of a row stands at its place afterwards, whatever the row showed
+--   before. If `last` has the same size, those of this row of `last` have to stand at their places
+--   before.
 -- - `sized`: the size of the terminal is unchanged;
 -- - `wraps`: symbols wrap afterwards if they wrapped before.
 pub record KeepsPlaces (width : ℕ) (last next : List (List StyledCell))
@@ -97,10 +104,14 @@ pub record KeepsPlaces (width : ℕ) (last next : List (List StyledCell))
       → HasSize width (length next) last → (row : ℕ)
       → slice_index_or last row [] ≡ slice_index_or next row []
       → slice_index_or u.rows row [] ≡ slice_index_or t.rows row []
+  pub below : (t u : Display) → HasPlaces t width (length next) → Might commands t u
+      → (row : ℕ) → length next ≤ row
+      → slice_index_or u.rows row [] ≡ slice_index_or t.rows row []
   pub shows : (t u : Display) → HasPlaces t width (length next) → Might commands t u
-      → (HasSize width (length next) last → ShowsBytes t last) → ShowsBytes u next
+      → (row : ℕ) → row < length next → (HasSize width (length next) last → ShowsRow t last row)
+      → ShowsRow u next row
   pub sized : (t u : Display) → HasPlaces t width (length next) → Might commands t u
-      → HasPlaces u width (length next)
+      → IsAsLarge t u
   pub wraps : (t u : Display) → HasPlaces t width (length next) → Might commands t u
       → t.wraps ≡ Some true → u.wraps ≡ Some true
 

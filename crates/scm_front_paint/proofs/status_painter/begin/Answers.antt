@@ -11,5 +11,6 @@ pub returns-clause-ok : goal.returns-clause-ok
 returns-clause-ok c =
     let low = c.requires in
     IfOk-weaker c.blanking.result _ _ (λ text written.
-    begins-blank c.args.width c.args.height _ c.take_as_blank.new.self (string_bytes text) (omega arith) c.in_ok-take_as_blank.ensures.blank written)
+    begins-blank c.args.width c.args.height c.args.row.now c.take_as_blank.new.self c.args.is_known (string_bytes text) c.if-is_known.false (omega arith)
+    c.in_ok-take_as_blank.ensures.blank written)
     c.blanking.ensures.ok
