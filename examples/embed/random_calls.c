@@ -106,7 +106,39 @@ static uint64_t marks_sum(uint64_t sum, size_t file) {
     return sum;
 }
 
-/* What can be asked of a session: its stage, and of its state the files, sides, marks and messages. */
+/* Asks what an item is. It is there if `is_there`, and else nothing is written. Returns its number of parts. */
+static size_t parts_of(uint64_t *sum, const scm_key *key, bool is_there) {
+    uint32_t kind = 77;
+    size_t parts = 0;
+    uint32_t code = scm_item(&session, key, &kind, &parts);
+    assert(code == (is_there ? SCM_DONE : SCM_NO_ITEM) && (is_there ? kind >= SCM_FILE && kind <= SCM_BINARY : kind == 77 && parts == 0));
+    *sum = mixed(mixed(*sum, &kind, sizeof kind), &parts, sizeof parts);
+    return parts;
+}
+
+/* The paths of a file, and its items: as many as it says. */
+static uint64_t structure_sum(uint64_t sum, size_t file) {
+    char path[ROOM];
+    size_t length = 77;
+    for (int is_old = 0; is_old < 2; is_old++) {
+        uint32_t code = scm_path(&session, file, is_old, path, sizeof path, &length);
+        assert(code == SCM_DONE || (is_old && code == SCM_NO_ITEM));
+        sum = code == SCM_DONE ? mixed(sum, path, length < sizeof path ? length : sizeof path) : sum;
+    }
+    scm_key key = {0, file, SCM_NO_INDEX, SCM_NO_INDEX};
+    size_t sections = parts_of(&sum, &key, true);
+    for (key.section = 0; key.section < 4; key.section++) {
+        key.line = SCM_NO_INDEX;
+        size_t lines = parts_of(&sum, &key, key.section < sections);
+        for (key.line = 0; key.line < 4; key.line++) {
+            size_t none = parts_of(&sum, &key, key.line < lines);
+            assert(none == 0);
+        }
+    }
+    return sum;
+}
+
+/* What can be asked of a session: its stage, and of its state the files, their items, sides, marks and messages. */
 static uint64_t asked(void) {
     uint32_t stage = scm_stage(&session), code;
     uint64_t sum = mixed(0, &stage, sizeof stage);
@@ -122,7 +154,7 @@ static uint64_t asked(void) {
     bool has_state = stage == SCM_BUILDING || stage == SCM_WAITING || stage == SCM_ACCEPTED;
     assert(code == (has_state ? SCM_DONE : stage == SCM_NONE ? SCM_CLOSED : SCM_NOT_NOW) && (has_state || count == 77));
     for (size_t file = 0; has_state && file < count && file < 3; file++) {
-        sum = marks_sum(side_sum(side_sum(sum, file, true), file, false), file);
+        sum = structure_sum(marks_sum(side_sum(side_sum(sum, file, true), file, false), file), file);
     }
     for (size_t commit = 0; has_state && commit < 3; commit++) {
         code = scm_message(&session, commit, out, sizeof out, &length);
@@ -206,13 +238,45 @@ static uint32_t add_versions(const char *old, size_t old_size, const char *new_b
     return one_of(code, wanted, wanted, wanted);
 }
 
+static uint32_t code_at(uint32_t stage) {
+    uint32_t now = scm_stage(&session);
+    return now == stage ? SCM_DONE : now == SCM_NONE ? SCM_CLOSED : SCM_NOT_NOW;
+}
+
+/* Hands in marks of a file, sometimes too many or too few. Then the file has them. The call takes no memory. */
+static uint32_t set_marks(void) {
+    char marks[ROOM], found[ROOM];
+    size_t file = random_below(3), items = 0, length = 77;
+    uint32_t refused = refused_after, wanted = code_at(SCM_BUILDING);
+    refused_after = 0;
+    bool is_file = scm_marks(&session, file, marks, 0, &items) == SCM_DONE;
+    refused_after = refused;
+    size_t count = random_below(4) && items < sizeof marks ? items : random_below(6);
+    for (size_t i = 0; i < count; i++) {
+        marks[i] = (char)random_below(3);
+    }
+    wanted = wanted == SCM_DONE && (!is_file || count != items) ? SCM_NO_ITEM : wanted;
+    uint32_t code = scm_state_marks(&session, file, marks, count);
+    assert(code == wanted && refused_after == refused);
+    refused_after = 0;
+    if (code == SCM_DONE) {
+        assert(scm_marks(&session, file, found, sizeof found, &length) == SCM_DONE && length == count);
+        for (size_t i = 0; i < count; i++) {
+            assert(found[i] == (marks[i] == 1));
+        }
+    }
+    counts[code]++;
+    return code;
+}
+
 static uint32_t add_other(void) {
     char one[ROOM], two[ROOM];
     size_t first = random_text(one), second = random_text(two);
     bool both = is_utf8(one, first) && is_utf8(two, second);
     uint32_t wanted = addition_code(true, true, false);
     size_t mode = random_below(4) ? 0100644 + random_below(2) * 0111 : SCM_ABSENT;
-    switch (random_below(7)) {
+    switch (random_below(8)) {
+    case 6: return set_marks();
     case 0: return one_of(scm_state_section(&session, random_below(2)), wanted, wanted, wanted);
     case 1: return one_of(scm_state_mode(&session, random_below(2), mode), wanted, wanted, wanted);
     case 2:
@@ -229,11 +293,6 @@ static uint32_t add_other(void) {
         wanted = addition_code(both, false, false);
         return one_of(scm_state_file(&session, one, first, two, second, mode), wanted, wanted, wanted);
     }
-}
-
-static uint32_t code_at(uint32_t stage) {
-    uint32_t now = scm_stage(&session);
-    return now == stage ? SCM_DONE : now == SCM_NONE ? SCM_CLOSED : SCM_NOT_NOW;
 }
 
 static uint32_t begin(void) {
@@ -271,13 +330,29 @@ static uint32_t decode(const char *bytes, size_t length, uint32_t wanted) {
     return one_of(scm_press_all(&session, out, written), wanted, wanted, wanted);
 }
 
+/* Selects a random item. Then it is selected, unless the session ended since memory was refused. */
+static uint32_t select_item(void) {
+    scm_key key = {random_below(8) == 0, random_below(3), SCM_NO_INDEX, SCM_NO_INDEX}, selected;
+    if (random_below(4)) {
+        key.section = random_below(4);
+        key.line = random_below(3) ? random_below(4) : SCM_NO_INDEX;
+    }
+    uint32_t wanted = code_at(SCM_WAITING);
+    uint32_t code = one_of(scm_select(&session, &key), wanted, wanted == SCM_DONE ? SCM_NO_ITEM : wanted, wanted);
+    if (code == SCM_DONE && scm_stage(&session) == SCM_WAITING) {
+        assert(scm_selected(&session, &selected) == SCM_DONE && memcmp(&key, &selected, sizeof key) == 0);
+    }
+    return code;
+}
+
 static uint32_t input(void) {
     static const char *const words[] = {"j", "k", "l", "h", "space", "enter", "a", "shift-A", "f", "shift-F", "e", "c", "q", "?", "esc",
                                         "none", "view", "ensure", "pagedown", "ctrl-d", "click:3:4", "click:0:2", "no word", "\xff"};
     char text[ROOM];
     size_t length = random_text(text);
     uint32_t wanted = code_at(SCM_WAITING), which = random_below(sizeof words / sizeof *words);
-    switch (random_below(8)) {
+    switch (random_below(9)) {
+    case 8: return select_item();
     case 4: return press_batch(words, sizeof words / sizeof *words, wanted);
     case 5: return decode(text, length, wanted);
     case 0: return one_of(scm_type(&session, text, length), wanted, wanted, wanted);
@@ -360,6 +435,21 @@ static void check_decided(const char *answer, size_t length) {
     }
 }
 
+static size_t random_mode(void) {
+    static const size_t modes[] = {0100644, 0100755, 0120000, 0644, 0, SCM_ABSENT};
+    return modes[random_below(sizeof modes / sizeof *modes)];
+}
+
+/* Whatever a side is, a tree has one of the modes that are given, and a renamed file is at one of its paths. */
+static void check_modes(void) {
+    size_t old = random_mode(), new = random_mode(), mode = random_mode();
+    size_t found = scm_tree_mode(random_below(2), old, new, mode, random_below(2));
+    assert(found == old || found == new || found == mode || found == SCM_ABSENT);
+    bool is_version = old != SCM_ABSENT && new != SCM_ABSENT;
+    bool is_old = scm_renamed_mode(false, old, new, mode) != SCM_ABSENT, is_new = scm_renamed_mode(true, old, new, mode) != SCM_ABSENT;
+    assert(!is_version || is_old != is_new);
+}
+
 /* Decides what becomes of random rows, in a buffer that may be too short. */
 static uint32_t decide(void) {
     static char rows[ROOM], out[ROOM];
@@ -372,6 +462,7 @@ static uint32_t decide(void) {
         check_decided(out, length);
     }
     assert(scm_path_fault(rows, count) <= SCM_PATH_WITH_NUL);
+    check_modes();
     return code;
 }
 

@@ -321,12 +321,164 @@ def check_previews():
         assert session.stage == scm.WAITING and sides_of(session) == before
 
 
+def marked(marks):
+    """Returns a session over the state of `fill`, with other marks of its first file."""
+    session = scm.Session()
+    fill(session)
+    session.set_marks(0, marks)
+    return session
+
+
+def check_marks_in():
+    """A file has the marks that are handed in, and each other file those that it had. Marks that do not fit change nothing."""
+    with scm.Session() as session:
+        fill(session)
+        before = [session.marks(file) for file in range(3)]
+        for marks in ([False, True, False, True, True], [True] * 5, [False] * 5):
+            session.set_marks(0, marks)
+            assert [session.marks(file) for file in range(3)] == [marks, *before[1:]]
+        session.set_marks(2, iter([True, False]))
+        assert session.marks(2) == [True, False] and session.line(0, 2, 1) == b"y\n"
+        sides = sides_of(session)
+        for file, marks in ((0, [True] * 4), (0, [True] * 6), (0, []), (3, []), (scm.NO_INDEX, [True])):
+            assert refused(session.set_marks, file, marks) == "no_item" and sides_of(session) == sides
+        assert is_no_number(session.set_marks, -1, [])
+        session.begin(80, 24)
+        assert sides_of(session) == sides and refused(session.set_marks, 0, [True] * 5) == "not_now"
+        session.press("c")
+        assert sides_of(session) == sides
+    assert refused(session.set_marks, 0, []) == "closed"
+    # a selection goes on: what one session ended with is what another one begins with
+    with marked([False] * 5) as session:
+        session.begin(80, 24)
+        session.press("l", "space", "j", "space", "c")
+        marks, sides = session.marks(0), sides_of(session)
+    with marked(marks) as session:
+        assert any(marks) and not all(marks) and sides_of(session) == sides
+
+
+def structure_of(session):
+    """Returns all of a session's state, as its JSON form has it, but for descriptions of binary contents and the mode of each part."""
+    def lines_of(file, section, count):
+        for line in range(count):
+            kind, parts = session.item(file, section, line)
+            assert parts == 0
+            yield session.line(file, section, line).decode(), kind, kind != "context" and session.mark(file, section, line) == 2
+
+    def sections_of(file):
+        for section in range(session.item(file).parts):
+            kind, count = session.item(file, section)
+            yield kind, kind != "context" and session.mark(file, section) == 2, list(lines_of(file, section, count))
+
+    return [(session.old_path(file), session.path(file), list(sections_of(file))) for file in range(len(session))]
+
+
+def check_structure():
+    """The items of a state are those that were added."""
+    changed = [("x\n", "removed", True), ("y\n", "removed", True), ("caf\u00e9", "added", False)]
+    wanted = [
+        ("old/name", "new/name", [
+            ("mode", True, []),
+            ("context", False, [(text, "context", False) for text in ("one\n", "\n", "two\n", "three\n")]),
+            ("section", False, changed),
+            ("section", False, [("z\n", "added", False)]),
+        ]),
+        (None, "gone", [("mode", True, []), ("section", True, [("w\n", "removed", True)])]),
+        (None, "image", [("mode", False, []), ("binary", True, [])]),
+    ]
+    with scm.Session() as session:
+        fill(session)
+        assert structure_of(session) == wanted and session.item(0) == ("file", 4)
+        session.begin(80, 24)
+        assert structure_of(session) == wanted
+        for place in ((3,), (0, 4), (0, 2, 3), (0, 1, 4), (0, 0, 0), (2, 1, 0)):
+            assert refused(session.item, *place) == "no_item", place
+        assert refused(session.path, 3) == refused(session.old_path, 3) == "no_item"
+        session.press("c")
+        assert structure_of(session) == wanted
+    assert refused(session.item, 0) == refused(session.path, 0) == "closed"
+
+
+def check_select():
+    """Each item with a checkbox is selected by its key, without a layer and with one. No other key selects anything."""
+    none = scm.NO_INDEX
+    for has_layer in (False, True):
+        with scm.Session() as session:
+            fill(session)
+            assert refused(session.select, scm.Key(0, 0, none, none)) == "not_now"
+            (session.begin_layer if has_layer else session.begin)(80, 24)
+            for place in ((0, 2, 1), (2, 1), (1,), (0, 3, 0), (0, 0), (2,)):
+                key = scm.Key(0, *place, *[none] * (3 - len(place)))
+                session.select(key)
+                assert session.selected == key
+            for key in (scm.Key(0, 0, 1, none), scm.Key(0, 0, 1, 0), scm.Key(0, 3, none, none), scm.Key(0, 0, 2, 3), scm.Key(*[none] * 4)):
+                assert refused(session.select, key) == "no_item" and session.selected.file == 2
+            session.press("space", "q")  # the quit dialog asks
+            assert session.stage == scm.WAITING and refused(session.select, scm.Key(0, 0, none, none)) == "no_item"
+            session.press("ctrl-c")
+            assert refused(session.select, scm.Key(0, 0, none, none)) == "not_now"
+    assert refused(session.select, scm.Key(0, 0, none, none)) == "closed"
+
+
+def replay(session, log):
+    """Makes the calls of a log: each line is one."""
+    for line in log.splitlines():
+        name, _, rest = line.partition(" ")
+        if name == "size":
+            (session.begin if session.stage == scm.BUILDING else session.resize)(*map(int, rest.split()))
+        elif name == "batch":
+            session.press_all(rest)
+        elif name == "select":
+            indexes = [int(index) for index in rest.split()]
+            session.select(scm.Key(0, *indexes, *[scm.NO_INDEX] * (3 - len(indexes))))
+        else:
+            session.answer(json.loads(rest))
+
+
+def check_replay():
+    """The log of a layer, made as calls of a session without one, leads to the same screen and the same answer."""
+    with scm.Session() as session, scm.Session() as again:
+        for each in (session, again):
+            fill(each)
+        session.begin_layer(60, 10)
+        session.log()
+        for data in (b"/y\r", b"v", b"j", b" ", b"u", b"U", b"/z\r ", b"F", b"e"):
+            session.type(data)
+        session.answer("second")
+        session.resize(50, 12)
+        session.type(b"/w\r ")
+        replay(again, session.logged())
+        assert (again.text(), again.selected, sides_of(again)) == (session.text(), session.selected, sides_of(session))
+        session.press("c")
+        replay(again, session.logged().splitlines()[-1])
+        assert again.stage == scm.ACCEPTED and sides_of(again) == sides_of(session) and again.message() == "second"
+
+
+def check_escape():
+    """A silence is awaited behind an ESC alone."""
+    with scm.Session() as session:
+        for data, is_pending in ((b"", False), (b"j", False), (b"\x1b", True), (b"[", False), (b"A", False), (b"\x1b\x1b", True)):
+            session.decode(data) if data else None
+            assert session.is_escape_pending == is_pending, data
+        assert session.decode(b"") == ["esc"] and not session.is_escape_pending
+        session.begin(80, 24)
+        session.type(b"?\x1b")
+        assert session.is_escape_pending and "Help" in session.text()
+        session.idle()
+        assert not session.is_escape_pending and "Help" not in session.text()
+        session.type(b"\x1b[200~ab\x1b")
+        assert not session.is_escape_pending
+    assert refused(lambda: session.is_escape_pending) == "closed"
+
+
 def check_trees():
     """What becomes of paths, also of so many that the answer has to be asked for again. And which paths are refused."""
     assert scm.decide(b"-nn a/b\0o-o a\0") == b"o a\0- a/b\0x a/b\0y a\0" and scm.decide(b"") == b""
     many = [b"f%d" % number for number in range(2000)]
     found = scm.decide(b"".join(b"onn %s\0" % path for path in many))
     assert sorted(found.split(b"\0")[:-1]) == sorted(b"n " + path for path in many)
+    assert scm.tree_mode(False, scm.ABSENT, 0o100644, scm.ABSENT, False) == scm.renamed_mode(True, 0o100755, 0o100644, 0o100644) == 0o100644
+    assert scm.tree_mode(True, 0o120000, 0o100644, scm.ABSENT, True) == 0o120000 and scm.renamed_mode(True, 1, 2, 3) == scm.ABSENT
     assert [scm.path_fault(path) for path in (b"a/b", b"a/../b", b".Git", b"a\0b")] == ["", "dot_dot", "of_git", "with_nul"]
 
 
@@ -345,12 +497,19 @@ def check_merges():
         marks = session.marks(0)
         assert marks == [False, False, True, True, False, False] and scm.open_conflicts(base, ours, theirs, marks) == 1
         assert scm.merged_bytes(base, ours, theirs, marks) == b"c\nd"
+        versions = [b"a\nO\n", b"|||||||\na\nb\n", b"=======\nA\nT\xff\n"]
+        assert scm.marked_bytes(base, ours, theirs, marks) == b"<<<<<<<\n%s%s%s>>>>>>>\nc\nd" % tuple(versions)
+        labelled = b"<<<<<<< main\n%s|||||||\na\nb\n%s>>>>>>> to\xffpic\nc\nd" % (versions[0], versions[2])
+        assert scm.marked_bytes(base, ours, theirs, marks, ours_label="main", base_label="b\nc", theirs_label=b"to\xffpic") == labelled
         # from the file to the section of theirs, whose two lines are marked at once
         session.press("l", "pagedown", "pagedown", "space", "c")
         marks = session.marks(0)
         assert session.stage == scm.ACCEPTED and marks == [False, False, True, True, True, True]
         assert scm.open_conflicts(base, ours, theirs, marks) == 0 and scm.merged_bytes(base, ours, theirs, marks) == theirs
-    for call in (scm.merged_bytes, scm.open_conflicts):
+        assert scm.marked_bytes(base, ours, theirs, marks) == theirs
+    long = b"x" * 10000
+    assert scm.marked_bytes("", "o", "t", [False, True, False], long, long, long).count(long) == 3
+    for call in (scm.merged_bytes, scm.marked_bytes, scm.open_conflicts):
         assert refused(call, base, ours, theirs, marks[1:]) == "no_item"
 
 
@@ -416,6 +575,11 @@ def main():
     check_values()
     check_paths()
     check_previews()
+    check_marks_in()
+    check_structure()
+    check_select()
+    check_replay()
+    check_escape()
     check_trees()
     check_merges()
     check_docstrings()

@@ -96,17 +96,21 @@ extern "C" {
     pub fn scm_side(session: Asked, file: usize, selected: bool, out: Room, length: usize, side: *mut SideInfo) -> u32;
     pub fn scm_side_bytes(session: Asked, file: usize, selected: bool, out: Room, length: usize, written: *mut usize) -> u32;
     pub fn scm_mark(session: Asked, key: *const Key, mark: *mut u32) -> u32;
+    pub fn scm_item(session: Asked, key: *const Key, kind: *mut u32, parts: *mut usize) -> u32;
+    pub fn scm_path(session: Asked, file: usize, is_old: bool, out: Room, length: usize, written: *mut usize) -> u32;
+    pub fn scm_select(session: Session, key: *const Key) -> u32;
+    pub fn scm_state_marks(session: Session, file: usize, marks: Bytes, count: usize) -> u32;
     pub fn scm_marks(session: Asked, file: usize, out: Room, length: usize, written: *mut usize) -> u32;
     pub fn scm_line(session: Asked, key: *const Key, out: Room, length: usize, written: *mut usize) -> u32;
     pub fn scm_message(session: Asked, commit: usize, out: Room, length: usize, written: *mut usize) -> u32;
     pub fn scm_run(session: Session, terminal: c_int, title: Bytes) -> c_int;
     pub fn scm_decide_rows(rows: Bytes, length: usize, out: Room, room: usize, written: *mut usize) -> u32;
     pub fn scm_path_fault(path: Bytes, length: usize) -> u32;
+    pub fn scm_tree_mode(selected: bool, old_mode: usize, new_mode: usize, mode: usize, is_empty: bool) -> usize;
+    pub fn scm_renamed_mode(at_new: bool, old_mode: usize, new_mode: usize, mode: usize) -> usize;
     pub fn scm_merge_texts(base: Bytes, base_length: usize, ours: Bytes, our_length: usize, theirs: Bytes, their_length: usize, out: Room, room: usize, written: *mut usize) -> u32;
     pub fn scm_merged_bytes(base: Bytes, base_length: usize, ours: Bytes, our_length: usize, theirs: Bytes, their_length: usize, marks: Bytes, count: usize, out: Room, room: usize, written: *mut usize) -> u32;
     pub fn scm_open_conflicts(base: Bytes, base_length: usize, ours: Bytes, our_length: usize, theirs: Bytes, their_length: usize, marks: Bytes, count: usize, open: *mut usize) -> u32;
-    // the crate has no function for it yet
-    #[allow(dead_code)]
     pub fn scm_marked_bytes(base: Bytes, base_length: usize, ours: Bytes, our_length: usize, theirs: Bytes, their_length: usize, marks: Bytes, count: usize, base_label: Bytes, base_label_length: usize, our_label: Bytes, our_label_length: usize, their_label: Bytes, their_label_length: usize, out: Room, room: usize, written: *mut usize) -> u32;
     pub fn scm_words(code: u32, out: Room, length: usize) -> usize;
     pub fn scm_version() -> u32;

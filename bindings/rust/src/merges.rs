@@ -1,7 +1,7 @@
 //! The merge of two changed versions of a file: which lines are taken without asking, which are in conflict, and what marks make of them.
 //!
 //! ```
-//! use scm_record::merges::{MergeVersion, Versions};
+//! use scm_record::merges::{Labels, MergeVersion, Versions};
 //!
 //! let versions = Versions {
 //!     base: b"a\nold\nz\n",
@@ -22,6 +22,9 @@
 //! // nothing is taken: our line and theirs are not checked, and the removal of the base's line is
 //! assert_eq!(versions.open_conflicts(&[false, true, false])?, 1);
 //! assert_eq!(versions.merged_bytes(&[true, true, false])?, b"a\nours\nz\nmore\n");
+//! let labels = Labels { ours: b"main", ..Labels::default() };
+//! let open = b"a\n<<<<<<< main\nours\n|||||||\nold\n=======\ntheirs\n>>>>>>>\nz\nmore\n";
+//! assert_eq!(versions.marked_bytes(&[false, true, false], &labels)?, open);
 //! # Ok::<(), scm_record::session::Error>(())
 //! ```
 use crate::ffi;
@@ -57,6 +60,17 @@ pub struct Versions<'t> {
     /// Our version.
     pub ours: &'t [u8],
     /// Their version.
+    pub theirs: &'t [u8],
+}
+
+/// What is behind the markers of a conflict, as the names of branches. A label that is empty, or that has a line end, is left out.
+#[derive(Clone, Copy, Debug, Default)]
+pub struct Labels<'t> {
+    /// The label of the base.
+    pub base: &'t [u8],
+    /// The label of our version.
+    pub ours: &'t [u8],
+    /// The label of their version.
     pub theirs: &'t [u8],
 }
 
@@ -119,6 +133,46 @@ impl Versions<'_> {
                     their_length,
                     marks,
                     count,
+                    out,
+                    room,
+                    written,
+                )
+            }
+        })
+    }
+
+    /// Returns the merge as [`merged_bytes`](Versions::merged_bytes) does, but with git's markers around each conflict that is open, in the
+    /// style `diff3`.
+    ///
+    /// # Errors
+    ///
+    /// Those of [`merged_bytes`](Versions::merged_bytes).
+    pub fn marked_bytes(&self, marks: &[bool], labels: &Labels<'_>) -> Result<Vec<u8>, Error> {
+        let ((base, base_length), (ours, our_length)) = (sized(&self.base), sized(&self.ours));
+        let (theirs, their_length) = sized(&self.theirs);
+        let marks: Vec<u8> = marks.iter().copied().map(u8::from).collect();
+        let (marks, count) = sized(&marks);
+        let (base_label, base_label_length) = sized(&labels.base);
+        let (our_label, our_label_length) = sized(&labels.ours);
+        let (their_label, their_label_length) = sized(&labels.theirs);
+        bytes_of(2 * self.most_bytes(), |out, room, written| {
+            // SAFETY: each version, the marks and each label lead to as many bytes, and `out` has room for `room` bytes.
+            unsafe {
+                ffi::scm_marked_bytes(
+                    base,
+                    base_length,
+                    ours,
+                    our_length,
+                    theirs,
+                    their_length,
+                    marks,
+                    count,
+                    base_label,
+                    base_label_length,
+                    our_label,
+                    our_label_length,
+                    their_label,
+                    their_label_length,
                     out,
                     room,
                     written,

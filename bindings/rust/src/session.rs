@@ -306,6 +306,16 @@ const OWNERS: [Owner; 15] = [
     Owner::FileEdge,
 ];
 
+/// What an item is: its kind, and how many parts it has.
+#[derive(Clone, Copy, Debug, Eq, Hash, PartialEq)]
+pub struct Item {
+    /// The kind: `File`; of a section `Section` (of changed lines), `Context`, `Mode` or `Binary`; of a line `Added`, `Removed` or
+    /// `Context`.
+    pub kind: Owner,
+    /// How many parts it has: of a file its sections, of a section its lines, of a line none.
+    pub parts: usize,
+}
+
 /// Returns the version of the library: 10,000 times its major number, 100 times its minor number, and its patch number.
 #[must_use]
 pub fn version() -> u32 {
@@ -334,7 +344,7 @@ pub(crate) fn sized(text: &(impl AsRef<[u8]> + ?Sized)) -> (*const c_char, usize
 }
 
 /// Returns the mode as C has it.
-fn bits(mode: FileMode) -> usize {
+pub(crate) fn bits(mode: FileMode) -> usize {
     match mode {
         FileMode::Unix(bits) => bits,
         FileMode::Absent => NOTHING,
@@ -342,7 +352,7 @@ fn bits(mode: FileMode) -> usize {
 }
 
 /// Returns the mode that C has as `bits`.
-fn mode_of(bits: usize) -> FileMode {
+pub(crate) fn mode_of(bits: usize) -> FileMode {
     if bits == NOTHING {
         FileMode::Absent
     } else {
@@ -586,6 +596,18 @@ impl Session {
         })
     }
 
+    /// Sets the marks of all items of file `file`, counted from 0, in the order of the file, as [`marks`](Session::marks) returns
+    /// them. Nothing else changes. Call this once the file has all its sections.
+    ///
+    /// # Errors
+    ///
+    /// `NotNow` if the session has begun, or `NoItem` if there is no such file or it has more or fewer items.
+    pub fn set_marks(&mut self, file: usize, marks: &[bool]) -> Result<(), Error> {
+        let bytes: Vec<u8> = marks.iter().map(|mark| u8::from(*mark)).collect();
+        let (bytes, count) = sized(&bytes);
+        done(unsafe { ffi::scm_state_marks(self.at(), file, bytes, count) })
+    }
+
     /// Begins the session, on a screen of `width` columns and `height` rows. It has at most [`MAX_COLUMNS`] and [`MAX_ROWS`].
     ///
     /// # Errors
@@ -761,6 +783,19 @@ impl Session {
         Ok(events_of(&words))
     }
 
+    /// Returns whether the last byte was an ESC that a silence would make the Esc key: only then [`idle`](Session::idle) has to be
+    /// called after a silence. Within a paste it is false: there silences only let ctrl-C end a paste whose end was lost.
+    ///
+    /// # Errors
+    ///
+    /// `NoMemory`.
+    pub fn is_escape_pending(&self) -> Result<bool, Error> {
+        let (mut room, mut length) = ([0; 1], 0);
+        let out = room.as_mut_ptr();
+        done(unsafe { ffi::scm_decode_idle(self.at(), out, 0, &mut length) })?;
+        Ok(length > 0)
+    }
+
     /// Handles `bytes`, which a terminal sent. They may be any part of what it sends.
     ///
     /// # Errors
@@ -801,6 +836,17 @@ impl Session {
     /// `NotNow` if the session does not wait for an event.
     pub fn click(&mut self, row: u16, column: u16) -> Result<(), Error> {
         done(unsafe { ffi::scm_click(self.at(), row, column) })
+    }
+
+    /// Selects the item that `key` names, unfolds what it lies in, and scrolls to it. Its commit is 0 as long as one commit is
+    /// shown. So a line `select` of a log is a call.
+    ///
+    /// # Errors
+    ///
+    /// `NotNow` if the session does not wait for an event, or `NoItem` if the key names no file, no section with a checkbox and no
+    /// changed line, or the quit dialog is open.
+    pub fn select(&mut self, key: Key) -> Result<(), Error> {
+        done(unsafe { ffi::scm_select(self.at(), &key.into()) })
     }
 
     /// Answers with the message that the session waits for.
@@ -964,6 +1010,40 @@ impl Session {
             ffi::scm_marks(self.at(), file, out, room, length)
         })?;
         Ok(bytes.iter().map(|byte| *byte == 1).collect())
+    }
+
+    /// Returns what the file, the section or the line is that `key` names, and how many parts it has. Its commit does not matter.
+    ///
+    /// # Errors
+    ///
+    /// Those of [`file_count`](Session::file_count).
+    pub fn item(&self, key: Key) -> Result<Item, Error> {
+        let (mut kind, mut parts) = (0, 0);
+        done(unsafe { ffi::scm_item(self.at(), &key.into(), &mut kind, &mut parts) })?;
+        let kind = OWNERS.get(kind as usize).copied().unwrap_or(Owner::Nobody);
+        Ok(Item { kind, parts })
+    }
+
+    /// Returns the path of file `file`, counted from 0.
+    ///
+    /// # Errors
+    ///
+    /// Those of [`file_count`](Session::file_count).
+    pub fn path(&self, file: usize) -> Result<String, Error> {
+        text_of(|out, room, length| unsafe {
+            ffi::scm_path(self.at(), file, false, out, room, length)
+        })
+    }
+
+    /// Returns the path of file `file`, counted from 0, before a rename or a copy.
+    ///
+    /// # Errors
+    ///
+    /// Those of [`file_count`](Session::file_count). `NoItem` also of a file without such a path.
+    pub fn old_path(&self, file: usize) -> Result<String, Error> {
+        text_of(|out, room, length| unsafe {
+            ffi::scm_path(self.at(), file, true, out, room, length)
+        })
     }
 
     /// Returns the text of the line that `key` names.

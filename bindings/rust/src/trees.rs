@@ -1,4 +1,5 @@
-//! Which files of a choice are left out, and which paths are refused: what a program asks that writes many files.
+//! Which files of a choice are left out, which paths are refused, and the mode that a file gets: what a program asks that writes many
+//! files.
 //!
 //! ```
 //! use scm_record::trees::{decide_rows, path_fault, PathFault};
@@ -10,7 +11,8 @@
 //! # Ok::<(), scm_record::session::Error>(())
 //! ```
 use crate::ffi;
-use crate::session::{bytes_of, sized, Error};
+use crate::file::FileMode;
+use crate::session::{bits, bytes_of, mode_of, sized, Error};
 
 /// What is wrong with a name of a path.
 #[derive(Clone, Copy, Debug, Eq, Hash, PartialEq)]
@@ -63,4 +65,29 @@ pub fn path_fault(path: impl AsRef<[u8]>) -> Option<PathFault> {
     // SAFETY: `start` leads to `length` bytes.
     let number = unsafe { ffi::scm_path_fault(start, length) };
     number.checked_sub(1).map(|index| FAULTS[index as usize])
+}
+
+/// Returns the mode that a tree has at the path of a file by a side of it, the selected one if `selected`. `old` and `new` are the
+/// modes of its versions, `mode` is the side's, and `is_empty` says whether the side has no bytes. On the unselected side a file
+/// with lines stays, and a link is there where the file is not that it takes the place of, or that takes its place.
+#[must_use]
+pub fn tree_mode(
+    selected: bool,
+    old: FileMode,
+    new: FileMode,
+    mode: FileMode,
+    is_empty: bool,
+) -> FileMode {
+    // SAFETY: no pointer is handed in.
+    mode_of(unsafe { ffi::scm_tree_mode(selected, bits(old), bits(new), bits(mode), is_empty) })
+}
+
+/// Returns the modes that a renamed file has in a tree by a side, at its old path and at its new one: it is at exactly one of them.
+/// `old` and `new` are the modes of its versions, and `mode` is the side's.
+#[must_use]
+pub fn renamed_modes(old: FileMode, new: FileMode, mode: FileMode) -> (FileMode, FileMode) {
+    let (old, new, mode) = (bits(old), bits(new), bits(mode));
+    // SAFETY: no pointer is handed in.
+    let at = |is_new| mode_of(unsafe { ffi::scm_renamed_mode(is_new, old, new, mode) });
+    (at(false), at(true))
 }

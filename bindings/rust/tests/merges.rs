@@ -1,5 +1,5 @@
 //! The merge of two changed versions of a file.
-use scm_record::merges::{MergeVersion, Versions};
+use scm_record::merges::{Labels, MergeVersion, Versions};
 use scm_record::session::Error;
 
 /// The lines of a merge, each with the letter of its version.
@@ -78,6 +78,40 @@ fn marks_choose_lines() {
         assert_eq!(versions.merged_bytes(marks), Err(Error::NoItem));
         assert_eq!(versions.open_conflicts(marks), Err(Error::NoItem));
     }
+}
+
+#[test]
+fn open_conflicts_are_marked() {
+    let versions = Versions {
+        base: b"a\nb",
+        ours: b"a\nO\xff",
+        theirs: b"a\nT\n",
+    };
+    let open = [false, true, false];
+    let none = b"a\n<<<<<<<\nO\xff\n|||||||\nb\n=======\nT\n>>>>>>>\n";
+    assert_eq!(
+        versions.marked_bytes(&open, &Labels::default()),
+        Ok(none.to_vec())
+    );
+    let long = "x".repeat(10_000).into_bytes();
+    let labels = Labels {
+        base: b"left\nout",
+        ours: b"ours",
+        theirs: &long,
+    };
+    let found = versions.marked_bytes(&open, &labels);
+    let wanted = [
+        b"a\n<<<<<<< ours\nO\xff\n|||||||\nb\n=======\nT\n>>>>>>> ".as_slice(),
+        &long,
+        b"\n",
+    ];
+    assert_eq!(found, Ok(wanted.concat()));
+    let settled = [true, true, false];
+    assert_eq!(
+        versions.marked_bytes(&settled, &labels),
+        versions.merged_bytes(&settled)
+    );
+    assert_eq!(versions.marked_bytes(&[], &labels), Err(Error::NoItem));
 }
 
 #[test]

@@ -399,3 +399,106 @@ fn a_long_text_is_read_whole() {
     assert_eq!(side.contents, SideContents::Text(long.repeat(3)));
     assert_eq!(session.marks(0), Ok(vec![false; 3]));
 }
+
+/// A file with five items in four sections.
+fn file_of_items() -> Session {
+    let mut session = Session::new(false).unwrap();
+    session.add_file("new", Some("old"), MODE).unwrap();
+    session.add_mode(FileMode::Unix(0o100_755), true).unwrap();
+    session.add_lines(LineKind::Context, "a\nb\n").unwrap();
+    session.add_lines(ADDED, "c\nd\n").unwrap();
+    let removed = LineKind::changed(ChangeType::Removed);
+    session.add_lines(removed, "e\n").unwrap();
+    session.add_binary(None, Some("more"), false).unwrap();
+    session.add_file("other", None, MODE).unwrap();
+    session.add_lines(ADDED, "f\n").unwrap();
+    session
+}
+
+#[test]
+fn marks_are_handed_in() {
+    let mut session = file_of_items();
+    assert_eq!(
+        session.marks(0).unwrap(),
+        [true, false, false, false, false]
+    );
+    let marks = [false, true, false, true, true];
+    session.set_marks(0, &marks).unwrap();
+    assert_eq!(session.marks(0).unwrap(), marks);
+    assert_eq!(session.marks(1).unwrap(), [false]);
+    for (file, count) in [(0, 4), (0, 6), (0, 0), (2, 0), (usize::MAX, 1)] {
+        assert_eq!(
+            session.set_marks(file, &[true; 6][..count]),
+            Err(Error::NoItem)
+        );
+    }
+    assert_eq!(session.marks(0).unwrap(), marks);
+    session.begin(80, 24).unwrap();
+    assert_eq!(session.set_marks(0, &marks), Err(Error::NotNow));
+    session.press("c").unwrap();
+    assert_eq!(session.marks(0).unwrap(), marks);
+}
+
+#[test]
+fn items_have_kinds_and_parts() {
+    let session = file_of_items();
+    let item = |section, line| {
+        session
+            .item(key(section, line))
+            .map(|it| (it.kind, it.parts))
+    };
+    assert_eq!(item(None, None), Ok((Owner::File, 4)));
+    assert_eq!(item(Some(0), None), Ok((Owner::Mode, 0)));
+    assert_eq!(item(Some(1), None), Ok((Owner::Context, 2)));
+    assert_eq!(item(Some(1), Some(1)), Ok((Owner::Context, 0)));
+    assert_eq!(item(Some(2), None), Ok((Owner::Section, 3)));
+    assert_eq!(item(Some(2), Some(0)), Ok((Owner::Added, 0)));
+    assert_eq!(item(Some(2), Some(2)), Ok((Owner::Removed, 0)));
+    assert_eq!(item(Some(3), None), Ok((Owner::Binary, 0)));
+    assert_eq!(item(Some(2), Some(3)), Err(Error::NoItem));
+    assert_eq!(item(Some(4), None), Err(Error::NoItem));
+    assert_eq!(session.path(0).as_deref(), Ok("new"));
+    assert_eq!(session.old_path(0).as_deref(), Ok("old"));
+    assert_eq!(session.path(1).as_deref(), Ok("other"));
+    assert_eq!(session.old_path(1), Err(Error::NoItem));
+    assert_eq!(session.path(2), Err(Error::NoItem));
+}
+
+#[test]
+fn an_item_is_selected_by_its_key() {
+    let mut session = file_of_items();
+    let line = Key {
+        commit: Some(0),
+        ..key(Some(2), Some(1))
+    };
+    assert_eq!(session.select(line), Err(Error::NotNow));
+    session.begin(80, 24).unwrap();
+    session.select(line).unwrap();
+    assert_eq!(session.selected(), Ok(line));
+    let context = Key {
+        section: Some(1),
+        line: None,
+        ..line
+    };
+    for other in [context, Key::default()] {
+        assert_eq!(session.select(other), Err(Error::NoItem));
+        assert_eq!(session.selected(), Ok(line));
+    }
+}
+
+#[test]
+fn a_silence_is_awaited_behind_an_escape() {
+    let mut session = begun(&[]);
+    for (bytes, is_pending) in [
+        (&b"j"[..], false),
+        (b"\x1b", true),
+        (b"[", false),
+        (b"A", false),
+    ] {
+        session.type_bytes(bytes).unwrap();
+        assert_eq!(session.is_escape_pending(), Ok(is_pending));
+    }
+    session.type_bytes(b"\x1b").unwrap();
+    session.idle().unwrap();
+    assert_eq!(session.is_escape_pending(), Ok(false));
+}

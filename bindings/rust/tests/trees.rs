@@ -1,5 +1,6 @@
 //! What becomes of paths, and which paths are refused.
-use scm_record::trees::{decide_rows, path_fault, PathFault};
+use scm_record::trees::{decide_rows, path_fault, renamed_modes, tree_mode, PathFault};
+use scm_record::FileMode::{self, Absent, Unix};
 
 #[test]
 fn rows_are_decided() {
@@ -45,4 +46,20 @@ fn paths_are_refused() {
     for (path, fault) in cases {
         assert_eq!(path_fault(path), fault, "{path}");
     }
+}
+
+#[test]
+fn files_have_a_mode_in_a_tree() {
+    let (text, link) = (FileMode::FILE_DEFAULT, Unix(0o120_000));
+    assert_eq!(tree_mode(true, text, Absent, Absent, true), Absent);
+    assert_eq!(tree_mode(false, Absent, text, Absent, false), text);
+    assert_eq!(tree_mode(true, link, text, Absent, true), link);
+    assert_eq!(tree_mode(true, link, text, text, true), text);
+}
+
+#[test]
+fn renamed_files_are_at_one_path() {
+    let (old, new) = (Unix(0o100_755), FileMode::FILE_DEFAULT);
+    assert_eq!(renamed_modes(old, new, new), (Absent, new));
+    assert_eq!(renamed_modes(old, new, Unix(0o755)), (old, Absent));
 }

@@ -69,9 +69,9 @@
  *     A call returns a code, or what its comment says. If a call returns another code than SCM_DONE, it wrote nothing, and the
  *     session is as it was. The exceptions are said at scm_new, scm_state_new, scm_begin and scm_paint. A failed allocation
  *     always has the code SCM_NO_MEMORY, with one exception: in scm_press, scm_press_all, scm_type, scm_type_to_key, scm_click,
- *     scm_idle, scm_start and scm_answer the user's input is handled, and if an allocation fails in this, the call returns SCM_DONE
- *     and the session has ended. Its stage is SCM_ENDED, scm_end returns SCM_END_NO_MEMORY, and its text is "out of memory". The
- *     changes of such a session are lost.
+ *     scm_idle, scm_start, scm_select and scm_answer the user's input is handled, and if an allocation fails in this, the call
+ *     returns SCM_DONE and the session has ended. Its stage is SCM_ENDED, scm_end returns SCM_END_NO_MEMORY, and its text is "out of
+ *     memory". The changes of such a session are lost.
  *
  *     A code is never a length. A call that returns a code writes a length to its own parameter (`written`, `count`,
  *     `side->length`), and only if the code is SCM_DONE: ask for the code first, since any call that takes memory may fail.
@@ -291,6 +291,15 @@ uint32_t scm_state_texts(scm_session *session, const char *path, size_t length, 
                          const char *old, size_t old_size, size_t old_mode, const char *new_bytes, size_t new_size,
                          size_t new_mode);
 
+/* Sets the marks of file `file`, counted from 0, to `count` bytes at `marks`: a byte for each of its items in order, as `scm_marks`
+ * writes them, 1 for a checked one. Any other byte is of one that is not checked. Nothing else changes. So a file begins partly
+ * checked, or a selection goes on where the marks of another session ended. Call this once the file has all its sections. The marks
+ * are taken as they are: no other mark follows them, as it may follow a toggle of the user (docs/RULES.md, under "Items and marks").
+ *
+ * Returns SCM_DONE, or the first of SCM_CLOSED, SCM_NOT_NOW if the session has begun, and SCM_NO_ITEM if there is no such file or it
+ * has more or fewer items than there are marks. It takes no memory. */
+uint32_t scm_state_marks(scm_session *session, size_t file, const char *marks, size_t count);
+
 /* Begins the session with the state that is made, on a screen of `width` columns and `height` rows. The session takes the state
  * over, and nothing is copied.
  *
@@ -456,7 +465,10 @@ SCM_USE_CODE uint32_t scm_decode(scm_session *session, const char *bytes, size_t
                                  size_t *written);
 
 /* Writes the word of what a silence of the terminal means, if anything, as `scm_decode` does. Call this when you would call
- * `scm_idle`. */
+ * `scm_idle`.
+ *
+ * With a `room` of 0 nothing is heard, and `written` is more than 0 if the last byte was an ESC that a silence would make the Esc key:
+ * then a program has to wait for the silence. Within a paste `written` is 0, and silences only let Ctrl-C end it. */
 SCM_USE_CODE uint32_t scm_decode_idle(scm_session *session, char *out, size_t room, size_t *written);
 
 /* Handles the event of a script's word, which has `length` bytes. The word "shot" is not the word of an event.
@@ -477,6 +489,14 @@ uint32_t scm_press_all(scm_session *session, const char *words, size_t length);
  * Returns SCM_DONE, SCM_CLOSED or SCM_NOT_NOW. */
 uint32_t scm_click(scm_session *session, uint16_t row, uint16_t column);
 
+/* Selects the item that `key` names, unfolds what it lies in, and scrolls so that the screen shows it: as moves of the selection
+ * would. So a line `select` of a log is a call. The commit of the key is 0 as long as one commit is shown.
+ *
+ * Returns SCM_DONE, or the first of SCM_CLOSED, SCM_NOT_NOW if the session waits for no event, and SCM_NO_ITEM if the key names no
+ * file, no section with a checkbox and no changed line, or the quit dialog is open. If an allocation fails, it returns SCM_DONE and
+ * the session has ended, as with `scm_press`. */
+uint32_t scm_select(scm_session *session, const scm_key *key);
+
 /* Answers with the message that the session waits for, `length` bytes of `text`. If an event of a batch asked for it, the later
  * events of the batch are handled then, and may ask for a message again.
  *
@@ -495,8 +515,8 @@ uint32_t scm_resize(scm_session *session, uint16_t width, uint16_t height);
 /* Writes the bytes that make the terminal show the session, in colours, to `out`, if they fit into its `length` bytes, and
  * their number to `written`. The terminal has the session's size. The first call writes every row. A later call writes the
  * rows that changed since the last call, and expects that nobody else wrote to the terminal. The bytes are one synchronized
- * update (`ESC [ ? 2026 h` to `ESC [ ? 2026 l`), also if no row changed: then it has 20 bytes, which show nothing. After it no colour is set. While rows are written no symbol wraps
- * (`ESC [ ? 7 l`), and after them symbols wrap (`ESC [ ? 7 h`).
+ * update (`ESC [ ? 2026 h` to `ESC [ ? 2026 l`), also if no row changed: then it has 20 bytes, which show nothing. After it no colour
+ * is set. While rows are written no symbol wraps (`ESC [ ? 7 l`), and after them symbols wrap (`ESC [ ? 7 h`).
  *
  * The terminal that shows these bytes
  * - reads UTF-8, and follows moves of the cursor, styles, and the modes `ESC [ ? 7 l` and `ESC [ ? 7 h`;
@@ -532,18 +552,18 @@ SCM_USE_CODE uint32_t scm_selected(const scm_session *session, scm_key *key);
 
 /* Writes the symbol that begins at `row`, `column` of the screen to `out`, clipped to `length` bytes.
  *
- * Returns the whole length in bytes. Returns 0 at the second column of a wide symbol, outside the screen, and while the
- * session waits for no event. */
+ * Returns the whole length in bytes. Returns 0 at the second column of a wide symbol, outside the screen, on the status row of a
+ * layer, and while the session waits for no event. */
 size_t scm_symbol(const scm_session *session, uint16_t row, uint16_t column, char *out, size_t length);
 
 /* Writes the text of the session's stage to `out`, clipped to `length` bytes, and the whole length in bytes to `written`.
  *
- * The text of SCM_WAITING is the screen's rows, each in quotes and with a line end; of SCM_EDITING the message before the edit;
- * of SCM_ENDED the error's sentence ("cancelled by user" if the user cancelled). That of SCM_BUILDING is empty. The text of
- * SCM_ACCEPTED is a report for scripts: the line `accepted`, a line with the state's JSON form, and three lines for each file:
- * `file I`, `selected MODE C` and `unselected MODE C`. I is the file's index, counted from 0. The last two lines are the file's
- * two sides: MODE is octal digits or `<absent>`. C is `unchanged`, `text "T"` or `binary OLD NEW`, with texts as JSON strings
- * or `null`.
+ * The text of SCM_WAITING is the screen's rows, without the status row of a layer, each in quotes and with a line end; of
+ * SCM_EDITING the message before the edit; of SCM_ENDED the error's sentence ("cancelled by user" if the user cancelled). That of
+ * SCM_BUILDING is empty. The text of SCM_ACCEPTED is a report for scripts: the line `accepted`, a line with the state's JSON form,
+ * and three lines for each file: `file I`, `selected MODE C` and `unselected MODE C`. I is the file's index, counted from 0. The
+ * last two lines are the file's two sides: MODE is octal digits or `<absent>`. C is `unchanged`, `text "T"` or `binary OLD NEW`,
+ * with texts as JSON strings or `null`.
  *
  * Returns SCM_DONE, SCM_CLOSED or SCM_NO_MEMORY. */
 SCM_USE_CODE uint32_t scm_text(const scm_session *session, char *out, size_t length, size_t *written);
@@ -596,6 +616,18 @@ SCM_USE_CODE uint32_t scm_marks(const scm_session *session, size_t file, char *o
  * whole length in bytes to `written`. The commit of the key does not matter. */
 SCM_USE_CODE uint32_t scm_line(const scm_session *session, const scm_key *key, char *out, size_t length, size_t *written);
 
+/* Writes what the item is that `key` names, of which the commit does not matter: its kind to `kind`, and how many parts it has to
+ * `parts`, of a file its sections, of a section its lines, of a line none. If the line of the key is SCM_NO_INDEX, it names the
+ * section; if its section is SCM_NO_INDEX too, the file. The kind is that of the owner of a place that shows such an item:
+ * SCM_FILE; of a section SCM_SECTION if it has changed lines, SCM_CONTEXT, SCM_MODE or SCM_BINARY; of a line SCM_ADDED,
+ * SCM_REMOVED or SCM_CONTEXT. `scm_files`, `scm_path`, `scm_line` and `scm_mark` tell the rest of files, sections and lines, and
+ * `scm_side` the modes. */
+SCM_USE_CODE uint32_t scm_item(const scm_session *session, const scm_key *key, uint32_t *kind, size_t *parts);
+
+/* Writes the path of file `file`, counted from 0, to `out`, clipped to `length` bytes, and the whole length in bytes to `written`: if
+ * `is_old` its path before a rename or a copy. Returns SCM_NO_ITEM for an old path that the file has not, too. */
+SCM_USE_CODE uint32_t scm_path(const scm_session *session, size_t file, bool is_old, char *out, size_t length, size_t *written);
+
 /* Writes the message of commit `commit`, counted from 0, to `out`, clipped to `length` bytes, and the whole length in bytes to
  * `written`. Returns SCM_NO_ITEM for a commit without a message too. */
 SCM_USE_CODE uint32_t scm_message(const scm_session *session, size_t commit, char *out, size_t length, size_t *written);
@@ -641,6 +673,19 @@ SCM_USE_CODE uint32_t scm_decide_rows(const char *rows, size_t length, char *out
 /* Returns what is wrong with the first name of a path, which has `length` bytes, with which something is, or SCM_PATH_FINE if it
  * names a file below the top folder on each file system. */
 uint32_t scm_path_fault(const char *path, size_t length);
+
+/* Returns the mode that a tree has at the path of a file by a side of it, the selected side if `selected`, or SCM_ABSENT if
+ * nothing is there. `old_mode` and `new_mode` are those of the file's versions, SCM_ABSENT of one that does not exist. `mode` is
+ * the side's, as scm_side says it, and `is_empty` says whether the side has no bytes.
+ *
+ * It is the side's mode, but for two cases. On the unselected side a file with lines stays. And if one version is a link and the
+ * other one a file, whose lines are shown as those of a new or a deleted file, the link is there where that file is not. */
+size_t scm_tree_mode(bool selected, size_t old_mode, size_t new_mode, size_t mode, bool is_empty);
+
+/* Returns the mode that a renamed file has in a tree by a side, at its new path if `at_new` and else at its old path, or
+ * SCM_ABSENT: it is at exactly one of them. It is at the new path if the side's `mode` is `new_mode`. So its state has an item
+ * that changes the mode from another one, which no file has. */
+size_t scm_renamed_mode(bool at_new, size_t old_mode, size_t new_mode, size_t mode);
 
 /* ---- The merge of two changed files ----
  *
@@ -730,6 +775,21 @@ uint32_t scm_version(void);
  * then raises; or -1 with errno set: EIO if the terminal is gone, ENOMEM if an allocation failed, EBUSY if another run goes on, or
  * the error of tcgetattr or pipe2. If it does not return 0, the session has not ended. */
 SCM_USE_CODE int scm_run(scm_session *session, int terminal, const char *title);
+
+/* What a program does within a run. Each function gets `context`, and is not called if it is NULL. It may make any call of the session but
+ * `scm_free` and `scm_run`. */
+typedef struct scm_hooks {
+    void *context;
+    /* Something that was typed is handled, or a silence, and is not drawn yet. The session may have ended. */
+    void (*changed)(void *context, scm_session *session);
+    /* The user has typed nothing more for about 50 milliseconds. */
+    void (*rested)(void *context, scm_session *session);
+    /* The user pressed a key that means nothing to the session or to the run: `key` is its code, as `scm_type_to_key` tells it. */
+    void (*pressed)(void *context, scm_session *session, uint32_t key);
+} scm_hooks;
+
+/* Does what `scm_run` does, with `hooks`, which may be NULL. */
+SCM_USE_CODE int scm_run_with(scm_session *session, int terminal, const char *title, const scm_hooks *hooks);
 
 /* ---- The rest ---- */
 

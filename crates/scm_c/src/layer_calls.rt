@@ -1,14 +1,14 @@
 //! Calls of the layer: search, ranges, undo, columns to the right, themes, labels. `include/scm.h` documents each function.
 ghost use Rattle.std.specs.Prelude.{◌≡◌, ◌<◌, None, true};
 ghost use Rattle.std.specs.Str.{is_utf8};
-ghost use Rattle.scm_open_session.specs.LayerCalls.{BeginsLayer, ChangesPainters, HasTheme, SetsStart, StartsLayer, code_of_layer, is_view};
+ghost use Rattle.scm_open_session.specs.LayerCalls.{BeginsLayer, ChangesPainters, HasStart, HasTheme, StartsLayer, code_of_layer, is_view};
 ghost use Rattle.scm_c_values.specs.Keys.{item_of_key};
 ghost use Rattle.scm_c_values.specs.Codes.{code_of_number, IsCode, code_of_json, code_of_message, is_message};
 ghost use Rattle.scm_open_session.specs.Layered.{folds_of, theme_of};
 ghost use Rattle.scm_open_session.specs.OwnKeys.{HasKeys, code_of_keys, keys_of_bytes};
 ghost use Rattle.scm_open_session.specs.Painters.{HaveLabel, HaveWords, label_of};
 ghost use Rattle.scm_open_session.specs.Results.{code_where};
-ghost use Rattle.scm_open_session.specs.Stages.{ChangesStage, IsOpenAt};
+ghost use Rattle.scm_open_session.specs.Stages.{IsOpenAt};
 ghost use Rattle.scm_open_session.specs.Logging.{IsLogCode, IsLoggedCode, WritesScript};
 
 use crate::c_session::{CSession, give_back, take};
@@ -114,7 +114,7 @@ pub extern "C" fn scm_start(alloc: Global, session: &mut CSession, folds: u32, f
     ensures code { result ≡ code_of_number (folds_of folds)
         (code_where is_view session.old.pointer.value) }
     ensures set { result ≡ 0
-        → ChangesStage (SetsStart (item_of_key first.now)) session.old.pointer.value session.new.pointer.value }
+        → HasStart (folds_of folds) (item_of_key first.now) session.old.pointer.value session.new.pointer.value }
     ensures kept { 0 < result → session.new.pointer.value ≡ session.old.pointer.value }
 {
     let mut inner = take(alloc, session);

@@ -20,10 +20,12 @@ ghost use Rattle.scm_open_session.specs.FrontKeys.{ChangesToKey};
 
 pub mod c_session;
 pub mod layer_calls;
+pub mod mark_calls;
 pub mod merge_calls;
 pub mod question_calls;
 mod raw_box;
 pub mod state_calls;
+pub mod structure_calls;
 pub mod tree_calls;
 
 use crate::c_session::{CSession, give_back, take};

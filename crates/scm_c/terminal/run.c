@@ -28,6 +28,7 @@ typedef struct run {
     scm_session *session;
     int terminal;
     const char *title;
+    const scm_hooks *hooks; /* what the program does within the run, or NULL */
     struct termios settings_before;
     bool is_taken;
     uint16_t width, height; /* of the session's screen; 0 before the first turn */
@@ -434,7 +435,28 @@ static void edit_message(run *run) {
 
 /* ---- What is typed ---- */
 
-/* Handles a key of this program's own, by its code: Tab shows both commits, ctrl-l draws every row, and ctrl-z stops. */
+/* Hands a key that nothing else hears to the program, by its code. */
+static void tell_key(const run *run, uint32_t key) {
+    if (key != 0 && run->hooks && run->hooks->pressed) {
+        run->hooks->pressed(run->hooks->context, run->session, key);
+    }
+}
+
+/* Tells the program that what was typed is handled. */
+static void tell_change(const run *run) {
+    if (run->hooks && run->hooks->changed) {
+        run->hooks->changed(run->hooks->context, run->session);
+    }
+}
+
+/* Tells the program that the user rests. */
+static void tell_rest(const run *run) {
+    if (run->hooks && run->hooks->rested) {
+        run->hooks->rested(run->hooks->context, run->session);
+    }
+}
+
+/* Handles a key of the run's own, by its code: Tab shows both commits, ctrl-l draws every row, and ctrl-z stops. */
 static void press_own_key(run *run, uint32_t key) {
     if (key == TAB) {
         scm_press(run->session, "view", 4);
@@ -442,11 +464,13 @@ static void press_own_key(run *run, uint32_t key) {
         scm_repaint(run->session);
     } else if (key == CONTROL_Z) {
         stop(run);
+    } else {
+        tell_key(run, key);
     }
 }
 
-/* Hands in what was typed up to a key that means nothing to the session, if there is one, and handles it if it is one of this
- * program's own. Returns how many bytes that were. */
+/* Hands in what was typed up to a key that means nothing to the session, if there is one, and handles it if it is one of the
+ * run's own or the program's. Returns how many bytes that were. */
 static size_t hear_to_key(run *run, const char *bytes, size_t count) {
     size_t taken = count;
     uint32_t key = 0;
@@ -485,10 +509,13 @@ static void take_turns(run *run) {
                 continue;
             }
             hear(run, bytes, (size_t)count);
+            tell_change(run);
             is_drawn = is_cut = bytes[count - 1] == ESC;
             was_silent = false;
         } else if (is_silent) {
             scm_idle(run->session);
+            tell_change(run);
+            tell_rest(run);
             is_drawn = is_drawn && !is_cut;
             is_cut = false;
             was_silent = true;
@@ -525,10 +552,12 @@ static int run_alone(run *run) {
     return ended_by ? ended_by : run->error ? -1 : 0;
 }
 
-int scm_run(scm_session *session, int terminal, const char *title) {
+int scm_run(scm_session *session, int terminal, const char *title) { return scm_run_with(session, terminal, title, NULL); }
+
+int scm_run_with(scm_session *session, int terminal, const char *title, const scm_hooks *hooks) {
     /* the actions of signals, and what handlers have seen, are those of the process */
     static atomic_flag is_running = ATOMIC_FLAG_INIT;
-    run run = {.session = session, .terminal = terminal, .title = title_of(title)};
+    run run = {.session = session, .terminal = terminal, .title = title_of(title), .hooks = hooks};
     if (atomic_flag_test_and_set(&is_running)) {
         errno = EBUSY;
         return -1;

@@ -70,6 +70,10 @@ abbrev pub code_of_refusal : Option BuildError → ℕ
 code_of_refusal None = 0
 code_of_refusal (Some error) = code_of_error error
 
+-- The code of a call with marks: 9 if there is no such file, or it has more or fewer items.
+abbrev pub code_of_fit : Bool → ℕ
+code_of_fit fits = if fits then 0 else 9
+
 -- The code of a call with words, if each of them has an event: 3 if one of them has none, or else `code`.
 abbrev pub code_of_words : {A : Type 0} → Option A → ℕ → ℕ
 code_of_words None code = 3

@@ -22,5 +22,7 @@ pub mod FromBytes
 pub mod Texts
 -- what calls tell of a state
 pub mod States
+-- the items of a state: their kinds, their parts, and the paths of files
+pub mod Structure
 -- what is written to a terminal at once
 pub mod Updates

@@ -29,7 +29,7 @@ fn mark_code(mark: Tristate) -> u32
 }
 
 /// Returns `index`, or `None` for the greatest `usize`.
-fn index_if_any(index: usize) -> Option<usize>
+pub(crate) fn index_if_any(index: usize) -> Option<usize>
     ensures { result ≡ index_if_any index }
 {
     if index == usize::MAX {

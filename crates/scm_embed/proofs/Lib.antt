@@ -2,3 +2,5 @@
 pub mod LineLemmas
 -- changes of the last element of a list
 pub mod LastLemmas
+-- marks that are handed in
+pub mod MarkedLemmas

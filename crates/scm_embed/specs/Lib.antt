@@ -6,3 +6,5 @@ pub mod Lines
 pub mod Additions
 -- the mark of a file, a section or a line
 pub mod MarkOf
+-- the marks of a file that are handed in
+pub mod Marked

@@ -2,10 +2,12 @@
 ghost use Rattle.std.specs.Prelude.{◌≡◌, IfErr, None, OnErr, OnOk};
 ghost use Rattle.scm_types.specs.Limits.{is_accepted_state};
 ghost use Rattle.scm_embed.specs.Additions.{Refuses, after_addition, empty_state, refusal_of, with_file};
+ghost use Rattle.scm_embed.specs.Marked.{after_marks, fits_marks};
 
 use crate::add::add_to;
 use crate::addition::{Addition, BuildError};
 use crate::lists::push_item;
+use crate::marked::set_marks;
 use crate::refusals::refusal_of;
 use crate::trim::trimmed_state;
 use scm_types::{File, Items, RecordState};
@@ -75,6 +77,18 @@ impl StateBuilder {
         ensures unchanged { OnErr result (self.new ≡ self.old) }
     {
         push_item(alloc, &mut self.state.files, file)
+    }
+
+    /// Sets the marks of file `file`, counted from 0, to `marks`: a byte for each of its items, in
+    /// order, 1 for a checked one. An item is a changed line, or a change of the mode or of binary
+    /// contents. No allocation is made.
+    ///
+    /// Returns whether there is such a file with as many items. If not, the state is unchanged.
+    pub fn set_marks(&mut self, file: usize, marks: &[u8]) -> bool
+        ensures fits { result ≡ fits_marks file marks.now self.old }
+        ensures set { self.new ≡ after_marks file marks.now self.old }
+    {
+        set_marks(&mut self.state, file, marks)
     }
 
     /// Returns the state so far.

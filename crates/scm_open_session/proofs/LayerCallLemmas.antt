@@ -9,6 +9,7 @@ use Rattle.scm_types.specs.declared.state.RecordState.{RecordState}
 use Rattle.scm_types.specs.Limits.{is_accepted_state, is_short_text}
 use Rattle.scm_front.specs.declared.actions.OwnKey.{OwnKey}
 use Rattle.scm_front.specs.declared.layer.Front.{Front}
+use Rattle.scm_front.specs.declared.starting.Folds.{Folds}
 use Rattle.scm_terminal.specs.Decoders.{HasHeard}
 use Rattle.scm_json.specs.Form.{state_of}
 use Rattle.serde_json.specs.Read.{read}
@@ -24,12 +25,12 @@ use Rattle.scm_open_session.specs.declared.running.Running.{Running}
 use Rattle.scm_open_session.specs.declared.running.Running.TheVariants as running
 use Rattle.scm_open_session.specs.Building.{is_building}
 use Rattle.scm_open_session.specs.Layered.{ViewSets}
-use Rattle.scm_open_session.specs.LayerCalls.{BeginsLayer, ChangesPainters, HasTheme, IsNewView, SetsStart, StartsLayer, StartsView, changes_painters, has_layer}
+use Rattle.scm_open_session.specs.LayerCalls.{BeginsLayer, ChangesPainters, HasStart, HasTheme, IsNewView, SetsStart, StartsLayer, StartsView, changes_painters, has_layer}
 use Rattle.scm_open_session.specs.OwnKeys.{SetsKeys}
 use Rattle.scm_open_session.specs.Results.{code_where}
 use Rattle.scm_c_values.specs.Codes.{IsCode, code_of_message, done_code, is_message}
 use Rattle.scm_open_session.specs.Painters.{AreNew, HaveTheme}
-use Rattle.scm_open_session.specs.Stages.{or_ended, stage_of_view}
+use Rattle.scm_open_session.specs.Stages.{ChangesStage, or_ended, stage_of_view}
 
 -- beginnings
 
@@ -117,16 +118,20 @@ has_theme given theme old new e goes = rw e goes
 
 -- the start
 
-sets-by : (first : SelectionKey) (v : Seen) (r : Result ViewTurn RecordError) (o : Option Stage) → IfSome o (λ x. x ≡ stage_of_view r)
-    → IfOk r (λ turn. ViewSets first v turn) → IfErr r (λ e. e ≡ OutOfMemory) → SetsStart first (Waiting (running.Layered v)) (or_ended o)
-sets-by first v (Ok turn) (Some x) e h k = rw e (SetsStart.turned turn h)
-sets-by first v (Err error) (Some x) e h k = rw (e, k) SetsStart.failed
-sets-by first v r None e h k = SetsStart.failed
+pub has_start : (given : Option Folds) (folds : Folds) (first : SelectionKey) (old new : Option OpenSession) → given ≡ Some folds
+    → ChangesStage (SetsStart folds first) old new → HasStart given first old new
+has_start given folds first old new e goes = rw e goes
 
-pub sets : (first : SelectionKey) (v w : Seen) (r : Result ViewTurn RecordError) (o : Option Stage) (s : Running) (new : Stage) → s ≡ running.Layered v → w ≡ v
-    → IfSome o (λ x. x ≡ stage_of_view r) → new ≡ or_ended o → IfOk r (λ turn. ViewSets first w turn) → IfErr r (λ e. e ≡ OutOfMemory) → SetsStart first (Waiting s) new
-sets first v w r o s new e same is f h k =
-    rw (e, f) (subst (λ (x : Seen). SetsStart first (Waiting (running.Layered x)) (or_ended o)) same (sets-by first w r o is h k))
+sets-by : (folds : Folds) (first : SelectionKey) (v : Seen) (r : Result ViewTurn RecordError) (o : Option Stage) → IfSome o (λ x. x ≡ stage_of_view r)
+    → IfOk r (λ turn. ViewSets folds first v turn) → IfErr r (λ e. e ≡ OutOfMemory) → SetsStart folds first (Waiting (running.Layered v)) (or_ended o)
+sets-by folds first v (Ok turn) (Some x) e h k = rw e (SetsStart.turned turn h)
+sets-by folds first v (Err error) (Some x) e h k = rw (e, k) SetsStart.failed
+sets-by folds first v r None e h k = SetsStart.failed
+
+pub sets : (folds : Folds) (first : SelectionKey) (v w : Seen) (r : Result ViewTurn RecordError) (o : Option Stage) (s : Running) (new : Stage) → s ≡ running.Layered v → w ≡ v
+    → IfSome o (λ x. x ≡ stage_of_view r) → new ≡ or_ended o → IfOk r (λ turn. ViewSets folds first w turn) → IfErr r (λ e. e ≡ OutOfMemory) → SetsStart folds first (Waiting s) new
+sets folds first v w r o s new e same is f h k =
+    rw (e, f) (subst (λ (x : Seen). SetsStart folds first (Waiting (running.Layered x)) (or_ended o)) same (sets-by folds first w r o is h k))
 
 -- keys
 

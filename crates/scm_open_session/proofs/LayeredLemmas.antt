@@ -10,6 +10,7 @@ use Rattle.scm_front.specs.declared.layer.Front.{Front}
 use Rattle.scm_front.specs.declared.layer.FrontTurn.{FrontTurn}
 use Rattle.scm_front.specs.Fronts.{IsGiven, beneath_of, front_of}
 use Rattle.scm_front.specs.Starting.{Starts}
+use Rattle.scm_front.specs.declared.starting.Folds.{Folds}
 use Rattle.scm_front_paint.specs.declared.pane.Pane.{Pane}
 use Rattle.scm_front_paint.specs.declared.view.ViewTurn.{ViewTurn}
 use Rattle.scm_front_paint.specs.Seen.{Seen}
@@ -40,18 +41,18 @@ pressed_all v list front pane middle (Ok turn) e f d g s = record {
 }
 pressed_all v list front pane middle (Err error) e f d g s = tt
 
-pub set_at : (first : SelectionKey) (v : Seen) (front : Front) (pane : Pane) (middle : FrontTurn) (calls : List Call) (r : Result ViewTurn RecordError)
-    → front ≡ v.front → pane ≡ v.pane → Path (turns.Waiting front.beneath) calls (beneath_of middle) → Starts front.beneath first (beneath_of middle)
-    → middle ≡ front_of (beneath_of middle) front.query front.kept → IfOk r (λ turn. IsShown pane middle turn) → IfOk r (λ turn. ViewSets first v turn)
-set_at first v front pane middle calls (Ok turn) e f d begins keeps s = record {
+pub set_at : (folds : Folds) (first : SelectionKey) (v : Seen) (front : Front) (pane : Pane) (middle : FrontTurn) (calls : List Call) (r : Result ViewTurn RecordError)
+    → front ≡ v.front → pane ≡ v.pane → Path (turns.Waiting front.beneath) calls (beneath_of middle) → Starts folds front.beneath first (beneath_of middle)
+    → middle ≡ front_of (beneath_of middle) front.query front.kept → IfOk r (λ turn. IsShown pane middle turn) → IfOk r (λ turn. ViewSets folds first v turn)
+set_at folds first v front pane middle calls (Ok turn) e f d begins keeps s = record {
   middle = middle;
   calls = calls;
   path = subst (λ (x : Front). Path (turns.Waiting x.beneath) calls (beneath_of middle)) e d;
-  starts = subst (λ (x : Front). Starts x.beneath first (beneath_of middle)) e begins;
+  starts = subst (λ (x : Front). Starts folds x.beneath first (beneath_of middle)) e begins;
   kept = subst (λ (x : Front). middle ≡ front_of (beneath_of middle) x.query x.kept) e keeps;
   shown = subst (λ (p : Pane). IsShown p middle turn) f s;
 }
-set_at first v front pane middle calls (Err error) e f d begins keeps s = tt
+set_at folds first v front pane middle calls (Err error) e f d begins keeps s = tt
 
 -- errors
 

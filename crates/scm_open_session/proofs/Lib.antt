@@ -18,3 +18,7 @@ pub mod KeyPieceLemmas
 pub mod LayerCallLemmas
 -- the log of the calls beneath a layer
 pub mod LoggingLemmas
+-- the marks of a file, and the selection of an item, by calls
+pub mod MarkingLemmas
+-- the calls of a program, one after another
+pub mod StepLemmas

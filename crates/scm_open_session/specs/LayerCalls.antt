@@ -8,6 +8,7 @@ use Rattle.scm_input.specs.declared.inputs.TerminalKind.TheVariants.{Testing}
 use Rattle.scm_terminal.specs.Decoders.{HasHeard}
 use Rattle.scm_record.specs.Session.{start}
 use Rattle.scm_front.specs.declared.layer.Front.{Front}
+use Rattle.scm_front.specs.declared.starting.Folds.{Folds}
 use Rattle.scm_front.specs.Asking.{new_query}
 use Rattle.scm_front.specs.Keeping.{IsNew}
 use Rattle.scm_front_paint.specs.declared.themes.Theme.{Theme}
@@ -26,7 +27,7 @@ use Rattle.scm_open_session.specs.Layered.{ViewSets}
 use Rattle.scm_open_session.specs.Painters.{AreNew, HaveTheme}
 use Rattle.scm_open_session.specs.Results.{code_where}
 use Rattle.scm_open_session.specs.Running.{is_edit_layered, is_layered}
-use Rattle.scm_open_session.specs.Stages.{stage_of_view}
+use Rattle.scm_open_session.specs.Stages.{ChangesStage, stage_of_view}
 
 -- ---- how a session begins with a layer
 
@@ -107,7 +108,12 @@ is_view (Editing a) = false
 is_view (Accepted state) = false
 is_view (Ended error) = false
 
--- Folds and the selection `first` are set by calls of the session beneath, or an allocation failed.
-pub data SetsStart (first : SelectionKey) : Stage → Stage → Type 0 where
-  turned : {v : Seen} (turn : ViewTurn) → ViewSets first v turn → SetsStart first (Waiting (running.Layered v)) (stage_of_view (Ok turn))
-  failed : {v : Seen} → SetsStart first (Waiting (running.Layered v)) (Ended OutOfMemory)
+-- What `folds` says and the selection `first` are set by calls of the session beneath, or an allocation failed.
+pub data SetsStart (folds : Folds) (first : SelectionKey) : Stage → Stage → Type 0 where
+  turned : {v : Seen} (turn : ViewTurn) → ViewSets folds first v turn → SetsStart folds first (Waiting (running.Layered v)) (stage_of_view (Ok turn))
+  failed : {v : Seen} → SetsStart folds first (Waiting (running.Layered v)) (Ended OutOfMemory)
+
+-- The same of a session, for the folds with a number. Without such folds this is false.
+abbrev pub HasStart : Option Folds → SelectionKey → Option OpenSession → Option OpenSession → Type 0
+HasStart None first old new = ⊥
+HasStart (Some folds) first old new = ChangesStage (SetsStart folds first) old new

@@ -37,13 +37,13 @@ pub record ViewPressesAll (v : Seen) (events : List Event) (turn : ViewTurn) : T
   pub given : IsGiven v.front middle
   pub shown : IsShown v.pane middle turn
 
--- Folds and a selection are made by calls of the session beneath, and what comes of them is shown on the terminal. Nothing else changes: the
--- session has the same state, and the layer keeps what it kept.
-pub record ViewSets (first : SelectionKey) (v : Seen) (turn : ViewTurn) : Type 0 where
+-- What `folds` says and the selection `first` are made by calls of the session beneath, and what comes of them is shown on the terminal. Nothing
+-- else changes: the session has the same state, and the layer keeps what it kept.
+pub record ViewSets (folds : Folds) (first : SelectionKey) (v : Seen) (turn : ViewTurn) : Type 0 where
   pub middle : FrontTurn
   pub calls : List Call
   pub path : Path (turns.Waiting v.front.beneath) calls (beneath_of middle)
-  pub starts : Starts v.front.beneath first (beneath_of middle)
+  pub starts : Starts folds v.front.beneath first (beneath_of middle)
   pub kept : middle ≡ front_of (beneath_of middle) v.front.query v.front.kept
   pub shown : IsShown v.pane middle turn
 

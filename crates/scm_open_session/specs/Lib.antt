@@ -30,3 +30,9 @@ pub mod LayerCalls
 pub mod OwnKeys
 -- the log of the calls beneath a layer, as a script
 pub mod Logging
+-- the marks of a file of a state that is made
+pub mod Marking
+-- the selection of an item by a call
+pub mod Selecting
+-- the calls of a program, one after another, and what they come to
+pub mod Steps

@@ -51,7 +51,7 @@ pub fn set_start(
     folds: Folds,
     first: SelectionKey,
 ) -> Result<ViewTurn<'static>, RecordError>
-    ensures ok { IfOk result (λ turn. ViewSets first view.entry turn) }
+    ensures ok { IfOk result (λ turn. ViewSets folds first view.entry turn) }
     ensures err { IfErr result (λ e. e ≡ OutOfMemory) }
 {
     let (front, pane) = view.into_parts();

@@ -2,7 +2,7 @@
 ghost use Rattle.std.specs.Prelude.{◌≡◌, ◌<◌, None, true};
 ghost use Rattle.std.specs.Str.{is_utf8};
 ghost use Rattle.scm_open_session.specs.Boxes.{box_value};
-ghost use Rattle.scm_open_session.specs.LayerCalls.{BeginsLayer, ChangesPainters, HasTheme, SetsStart, StartsLayer, code_of_layer, is_view};
+ghost use Rattle.scm_open_session.specs.LayerCalls.{BeginsLayer, ChangesPainters, HasStart, HasTheme, SetsStart, StartsLayer, code_of_layer, is_view};
 ghost use Rattle.scm_c_values.specs.Keys.{item_of_key};
 ghost use Rattle.scm_c_values.specs.Codes.{code_of_number, IsCode, code_of_json, code_of_message, is_message};
 ghost use Rattle.scm_open_session.specs.Layered.{folds_of, theme_of};
@@ -136,7 +136,7 @@ pub fn start(session: &mut Session, code: u32, key: &Key) -> u32
     ensures code { result ≡ code_of_number (folds_of code)
         (code_where is_view (box_value session.old)) }
     ensures set { result ≡ 0
-        → ChangesStage (SetsStart (item_of_key key.now)) (box_value session.old) (box_value session.new) }
+        → HasStart (folds_of code) (item_of_key key.now) (box_value session.old) (box_value session.new) }
     ensures kept { 0 < result → box_value session.new ≡ box_value session.old }
 {
     match folds_of(code) {
@@ -149,7 +149,7 @@ pub fn start(session: &mut Session, code: u32, key: &Key) -> u32
 fn start_at(session: &mut Session, folds: Folds, first: SelectionKey) -> u32
     ensures code { result ≡ code_where is_view (box_value session.old) }
     ensures set { result ≡ 0
-        → ChangesStage (SetsStart first) (box_value session.old) (box_value session.new) }
+        → ChangesStage (SetsStart folds first) (box_value session.old) (box_value session.new) }
     ensures kept { 0 < result → box_value session.new ≡ box_value session.old }
 {
     match session {

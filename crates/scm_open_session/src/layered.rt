@@ -107,7 +107,7 @@ fn begun_view(alloc: Global, stage: Stage, width: u16, height: u16) -> (Stage, u
 /// layer.
 fn started(stage: Stage, folds: Folds, first: SelectionKey) -> (Stage, bool)
     ensures is_view { result.1 ≡ is_view stage }
-    ensures set { IsTrue result.1 → SetsStart first stage result.0 }
+    ensures set { IsTrue result.1 → SetsStart folds first stage result.0 }
     ensures kept { result.1 ≡ false → result.0 ≡ stage }
 {
     match stage {
@@ -231,7 +231,7 @@ impl OpenSession {
     /// returns whether it does.
     pub fn start(&mut self, folds: Folds, first: SelectionKey) -> bool
         ensures is_view { result ≡ is_view self.old.stage }
-        ensures set { IsTrue result → SetsStart first self.old.stage self.new.stage }
+        ensures set { IsTrue result → SetsStart folds first self.old.stage self.new.stage }
         ensures decoder { self.new.decoder ≡ self.old.decoder }
         ensures painter { self.new.painter ≡ self.old.painter }
         ensures kept { result ≡ false → self.new ≡ self.old }

@@ -4,15 +4,19 @@
 
 pub mod boxed;
 pub mod calls;
+pub mod laws;
 pub mod layer;
 pub mod layer_calls;
 pub mod layered;
 mod logging;
+pub mod mark_calls;
 pub mod open_session;
 mod own_keys;
 pub mod painters;
 pub mod question_calls;
 pub mod running;
+pub mod select_calls;
 pub mod state_calls;
+pub mod structure_calls;
 
 pub use crate::open_session::{OpenSession, Session};

@@ -268,7 +268,7 @@ pub fn try_resize(session: &mut Running, width: u16, height: u16) -> bool
 /// Returns the stage of `session` with `folds` and `first` selected, and whether it has a layer.
 pub fn after_start(session: Running, folds: Folds, first: SelectionKey) -> (Stage, bool)
     ensures is_layered { result.1 ≡ is_layered session }
-    ensures set { IsTrue result.1 → SetsStart first (Waiting session) result.0 }
+    ensures set { IsTrue result.1 → SetsStart folds first (Waiting session) result.0 }
     ensures kept { result.1 ≡ false → result.0 ≡ Waiting session }
 {
     match session {

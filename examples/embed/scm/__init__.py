@@ -17,10 +17,12 @@ Or it has the user choose, by one call:
 
 The library is the one that LIBSCM names, or where `tools/install`, `tools/build-shared` or a wheel puts it, or where the system
 looks. `scm.library` is the open library itself."""
-from ._library import ABSENT, CODES, NO_INDEX, PATH_FAULTS, Error, decide, library, open_library, path_fault, version, words
-from ._merge import MergeLine, merge_texts, merged_bytes, open_conflicts
+from ._library import (
+    ABSENT, CODES, NO_INDEX, PATH_FAULTS, Error, decide, library, open_library, path_fault, renamed_mode, tree_mode, version, words,
+)
+from ._merge import MergeLine, marked_bytes, merge_texts, merged_bytes, open_conflicts
 from ._session import Session
-from ._values import ENDS, FOLDS, OWNERS, THEMES, Contents, Folds, Key, Mark, Path, Side, Stage, Text, Theme
+from ._values import ENDS, FOLDS, OWNERS, THEMES, Contents, Folds, Item, Key, Mark, Path, Side, Stage, Text, Theme
 
 __version__ = version()
 
@@ -31,7 +33,7 @@ UNCHECKED, PARTLY, CHECKED = Mark.UNCHECKED, Mark.PARTLY, Mark.CHECKED
 
 __all__ = [
     "ABSENT", "ACCEPTED", "BINARY", "BUILDING", "CHECKED", "CODES", "Contents", "EDITING", "ENDED", "ENDS", "Error", "FOLDS", "Folds",
-    "Key", "Mark", "MergeLine", "NONE", "NO_INDEX", "OWNERS", "PARTLY", "PATH_FAULTS", "Path", "Session", "Side", "Stage", "TEXT", "THEMES",
-    "Text", "Theme", "UNCHANGED", "UNCHECKED", "WAITING", "__version__", "decide", "library", "merge_texts", "merged_bytes",
-    "open_conflicts", "open_library", "path_fault", "words",
+    "Item", "Key", "Mark", "MergeLine", "NONE", "NO_INDEX", "OWNERS", "PARTLY", "PATH_FAULTS", "Path", "Session", "Side", "Stage", "TEXT",
+    "THEMES", "Text", "Theme", "UNCHANGED", "UNCHECKED", "WAITING", "__version__", "decide", "library", "marked_bytes", "merge_texts",
+    "merged_bytes", "open_conflicts", "open_library", "path_fault", "renamed_mode", "tree_mode", "words",
 ]

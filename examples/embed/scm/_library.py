@@ -34,9 +34,9 @@ class SideInfo(ctypes.Structure):
 # bits, U one of 32, I a file, and P a pointer to what the call writes or to a key
 CALLS = dict(call.split(":") for call in """
     state_new:B state_message:TN state_commit: state_file:TNTNN state_context:TN state_changes:BBTN state_line:BBBTN state_section:B
-    state_mode:BN state_binary:BTNTN state_texts:TNTNTNNTNN begin:HH new:TNHH stage: end: type:TN type_to_key:TNPP idle: press:TN press_all:TN
+    state_mode:BN state_binary:BTNTN state_marks:NTN state_texts:TNTNTNNTNN begin:HH new:TNHH stage: end: type:TN type_to_key:TNPP idle: press:TN press_all:TN
     decode:TNTNP decode_idle:TNP click:HH answer:TN resize:HH paint:TNP repaint: owner:HHP selected:P symbol:HHTN text:TNP files:P
-    side:NBTNP side_bytes:NBTNP mark:PP marks:NTNP line:PTNP message:NTNP run:IT free: begin_layer:HH new_layer:TNHH theme:U
+    side:NBTNP side_bytes:NBTNP mark:PP marks:NTNP item:PPP path:NBTNP select:P line:PTNP message:NTNP run:IT free: begin_layer:HH new_layer:TNHH theme:U
     accept_text:TN label:NNTN start:UP keys:TN log: logged:TNP""".split())
 TYPES = {"B": ctypes.c_bool, "T": ctypes.c_char_p, "N": ctypes.c_size_t, "H": ctypes.c_uint16, "U": ctypes.c_uint32, "I": ctypes.c_int, "P": ctypes.c_void_p}
 # the greatest number of each type of numbers; the least one is 0
@@ -78,8 +78,15 @@ def declare() -> None:
     library.scm_decide_rows.argtypes = [ctypes.c_char_p, ctypes.c_size_t, ctypes.c_char_p, ctypes.c_size_t, ctypes.POINTER(ctypes.c_size_t)]
     library.scm_decide_rows.restype = ctypes.c_uint32
     library.scm_path_fault.argtypes, library.scm_path_fault.restype = [ctypes.c_char_p, ctypes.c_size_t], ctypes.c_uint32
+    library.scm_tree_mode.argtypes = [ctypes.c_bool, *[ctypes.c_size_t] * 3, ctypes.c_bool]
+    library.scm_renamed_mode.argtypes = [ctypes.c_bool, *[ctypes.c_size_t] * 3]
+    library.scm_tree_mode.restype = library.scm_renamed_mode.restype = ctypes.c_size_t
     sized, told = [ctypes.c_char_p, ctypes.c_size_t], ctypes.POINTER(ctypes.c_size_t)
-    for name, others in (("merge_texts", [*sized, told]), ("merged_bytes", [*sized, *sized, told]), ("open_conflicts", [*sized, told])):
+    merges = (
+        ("merge_texts", [*sized, told]), ("merged_bytes", [*sized, *sized, told]), ("open_conflicts", [*sized, told]),
+        ("marked_bytes", [*sized, *sized, *sized, *sized, *sized, told]),
+    )
+    for name, others in merges:
         function = getattr(library, "scm_" + name)
         function.argtypes, function.restype = [*sized, *sized, *sized, *others], ctypes.c_uint32
 
@@ -131,6 +138,20 @@ def decide(rows: bytes) -> bytes:
 def path_fault(path: bytes) -> str:
     """Returns the name of what is wrong with a path, one of `PATH_FAULTS`, or nothing if it names a file below the top folder."""
     return PATH_FAULTS[int(library.scm_path_fault(path, len(path)))]
+
+
+def tree_mode(selected: bool, old_mode: int, new_mode: int, mode: int, is_empty: bool) -> int:
+    """Returns the mode that a tree has at the path of a file by a side of it, or `ABSENT`. scm.h says more, at scm_tree_mode."""
+    for number in (old_mode, new_mode, mode):
+        check("N", number)
+    return int(library.scm_tree_mode(selected, old_mode, new_mode, mode, is_empty))
+
+
+def renamed_mode(at_new: bool, old_mode: int, new_mode: int, mode: int) -> int:
+    """Returns the mode that a renamed file has in a tree by a side, at its new path or at its old one, or `ABSENT`."""
+    for number in (old_mode, new_mode, mode):
+        check("N", number)
+    return int(library.scm_renamed_mode(at_new, old_mode, new_mode, mode))
 
 
 class Error(Exception):

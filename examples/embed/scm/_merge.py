@@ -69,6 +69,21 @@ def merged_bytes(base: Text, ours: Text, theirs: Text, marks: Iterable[bool]) ->
     return out.raw[: written.value]
 
 
+def marked_bytes(
+    base: Text, ours: Text, theirs: Text, marks: Iterable[bool], base_label: Text = "", ours_label: Text = "", theirs_label: Text = ""
+) -> bytes:
+    """Returns the merge as `merged_bytes` does, but with git's markers around each conflict that is open, in the style `diff3`. A label
+    is behind the marker of its version, unless it is empty or has a line end."""
+    files, size = arguments_of(base, ours, theirs)
+    labels, _ = arguments_of(base_label, ours_label, theirs_label)
+    given, written, room = bytes_of_marks(marks), ctypes.c_size_t(size + 4096), 0
+    while written.value > room:
+        room = written.value
+        out = ctypes.create_string_buffer(room)
+        done(library.scm_marked_bytes(*files, given, len(given), *labels, out, room, ctypes.byref(written)))
+    return out.raw[: written.value]
+
+
 def open_conflicts(base: Text, ours: Text, theirs: Text, marks: Iterable[bool]) -> int:
     """Returns how many conflicts of the merge of three files have no item that is taken by the marks."""
     files, _ = arguments_of(base, ours, theirs)

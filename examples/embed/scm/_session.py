@@ -5,11 +5,11 @@ import errno
 import os
 import signal
 import threading
-from typing import Iterator, List, Optional, Tuple, Union
+from typing import Iterable, Iterator, List, Optional, Tuple, Union
 
 from ._library import NO_INDEX, Error, Handle, KeyOfC, SideInfo, call, check
 from ._merge import merge_texts
-from ._values import ENDS, OWNERS, Contents, Folds, Key, Mark, Path, Side, Stage, Text, Theme, bytes_of, bytes_of_path, member_of
+from ._values import ENDS, OWNERS, Contents, Folds, Item, Key, Mark, Path, Side, Stage, Text, Theme, bytes_of, bytes_of_path, member_of
 
 # held from before a run until its signal has acted: the library hears the signals of the process meanwhile
 RUNNING = threading.Lock()
@@ -155,6 +155,10 @@ class Session:
         """Adds a change of bytes, by a description of both versions. An empty description is none."""
         self._call("state_binary", is_checked, *sized(old), *sized(new))
 
+    def set_marks(self, file: int, marks: Iterable[bool]) -> None:
+        """Sets the marks of all items of a file, in its order, as `marks` returns them. Call this once the file has all its sections."""
+        self._call("state_marks", file, *sized(bytes(map(bool, marks))))
+
     def begin(self, width: int, height: int) -> None:
         """Begins the session with its state, on a screen of this size."""
         self._call("begin", width, height)
@@ -239,6 +243,15 @@ class Session:
         self._call("type_to_key", *sized(data), ctypes.byref(taken), ctypes.byref(key))
         return taken.value, key.value
 
+    @property
+    def is_escape_pending(self) -> bool:
+        """Whether the last byte was an ESC that a silence would make the Esc key: only then `idle` has to be called after a silence.
+
+        Within a paste it is false. There silences only let ctrl-C end a paste whose end was lost."""
+        length = ctypes.c_size_t()
+        self._call("decode_idle", None, 0, ctypes.byref(length))
+        return length.value > 0
+
     def idle(self) -> None:
         """Handles the silence of a terminal: no byte came for about 50 milliseconds."""
         self._call("idle")
@@ -246,6 +259,10 @@ class Session:
     def click(self, row: int, column: int) -> None:
         """Handles a click at a place of the screen, counted from 0."""
         self._call("click", row, column)
+
+    def select(self, key: Key) -> None:
+        """Selects an item, unfolds what it lies in, and scrolls to it. The commit of the key is 0 as long as one commit is shown."""
+        self._call("select", pointer_to(key))
 
     def answer(self, message: Text) -> None:
         """Answers with the message that the session waits for."""
@@ -330,6 +347,25 @@ class Session:
     def marks(self, file: int) -> List[bool]:
         """Returns the marks of all items of a file, in its order."""
         return [mark == 1 for mark in self._read("marks", file)]
+
+    def item(self, file: int, section: int = NO_INDEX, line: int = NO_INDEX) -> Item:
+        """Returns what a file is, or a section in it, or a line in that: its kind, and how many parts it has."""
+        kind, parts = ctypes.c_uint32(), ctypes.c_size_t()
+        self._call("item", pointer_to(Key(0, file, section, line)), ctypes.byref(kind), ctypes.byref(parts))
+        return Item(OWNERS[kind.value], parts.value)
+
+    def path(self, file: int) -> str:
+        """Returns the path of a file."""
+        return self._read("path", file, False).decode()
+
+    def old_path(self, file: int) -> Optional[str]:
+        """Returns the path of a file before a rename or a copy, or None if there was none."""
+        try:
+            return self._read("path", file, True).decode()
+        except Error as error:
+            if error.code != "no_item" or file >= len(self):
+                raise
+            return None
 
     def line(self, file: int, section: int, line: int) -> bytes:
         """Returns the text of a line, as bytes."""

@@ -93,6 +93,14 @@ class Key(NamedTuple):
         return "Key(%s)" % ", ".join(map("%s=%s".__mod__, zip(self._fields, indexes)))
 
 
+class Item(NamedTuple):
+    """What an item is: its kind, of a file "file", of a section "section" (of changed lines), "context", "mode" or "binary", of a line
+    "added", "removed" or "context"; and how many parts it has: of a file its sections, of a section its lines, of a line none."""
+
+    kind: str
+    parts: int
+
+
 class Side(NamedTuple):
     """One side of a file: the kind of its contents, its mode, and its text as bytes, or None."""
 

@@ -7,7 +7,7 @@ use Rattle.scm_open_session.proofs.layer_calls.start_at.Goals as goal
 
 pub returns-in-Some-clause-set : goal.returns-in-Some-clause-set
 returns-in-Some-clause-set c = λ done.
-    stage-changes (SetsStart c.args.first) (box_value c.args.session.now) (Some c.start.new.self) c.in-Some.inner.value c.deref_mut.result.now c.start.new.self
+    stage-changes (SetsStart c.args.folds c.args.first) (box_value c.args.session.now) (Some c.start.new.self) c.in-Some.inner.value c.deref_mut.result.now c.start.new.self
     (ap box_value c.in-Some.is) c.deref_mut.ensures.value refl (c.start.ensures.set (c.done_or_not_now.ensures.done done)) c.start.ensures.decoder c.start.ensures.painter
 
 pub returns-in-Some-clause-code : goal.returns-in-Some-clause-code

@@ -9,7 +9,7 @@ returns-clause-is_view c = c.started-stage.ensures.is_view ∙ ap is_view c.take
 
 pub returns-clause-set : goal.returns-clause-set
 returns-clause-set c = λ done.
-    subst (λ (s : Stage). SetsStart c.args.first s c.started-stage.result.0) c.take_stage.ensures.stage (c.started-stage.ensures.set done)
+    subst (λ (s : Stage). SetsStart c.args.folds c.args.first s c.started-stage.result.0) c.take_stage.ensures.stage (c.started-stage.ensures.set done)
 
 pub returns-clause-kept : goal.returns-clause-kept
 returns-clause-kept c = λ no.

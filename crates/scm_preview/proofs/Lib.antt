@@ -1,0 +1,2 @@
+-- where a run is after the event that accepts
+pub mod AcceptLemmas

@@ -1,0 +1,2 @@
+-- what accepting gives
+pub mod Preview
