@@ -6,7 +6,7 @@ import re
 LEFT_OUT = "try-documents", "try-fresh"
 PAGE, LINE = "docs/GATE.md", re.compile(r"^apt-get install (.*)$", re.M)
 TRIES = (
-    "tools/try-*", "tools/tries/*.py", "tools/build-*", "tools/image", "tools/measure", "tools/refuse-memory", "tools/soak-layer",
+    "tools/try-*", "tools/tries/*.py", "tools/build-*", "tools/image", "tools/measure", "tools/refuse-memory", "tools/soak-layer", "tools/compare-merges",
     "tools/sweep-faults", "examples/embed/try_*.py", "examples/terminal/try*", "examples/terminal/screens/*.py", "examples/git-select/try",
     "examples/git-select/tries/*.py",
 )

@@ -4,6 +4,7 @@ import collections
 import contextlib
 import os
 import stat
+import time
 
 from choosing.change import LINK, Side, Unread
 from choosing.folders import MOST_BYTES, TOO_LARGE, folder_of
@@ -19,9 +20,17 @@ NO_CONVERSION = "unspecified", "unset"
 # has git not hand on each answer alone
 AT_ONCE = {"GIT_FLUSH": "0"}
 
-# What is found of the files that differ: by path the new sides, why others are left out, the paths of those that are not read, and the
-# contents of sides by their names.
-Found = collections.namedtuple("Found", "sides left_out unread contents")
+# how long ago a file has to be written to be known by its times: some disks have one time for two writes within that, in nanoseconds
+REST = 2_000_000_000
+
+# What is found of the files that differ: by path the new sides, why others are left out, the paths of those that are not read, the
+# contents of sides by their names, and the names of contents by their paths and what shows that a file still has them.
+Found = collections.namedtuple("Found", "sides left_out unread contents names")
+
+
+def mark_of(found):
+    """Returns what shows that a file is still the same, by what stat says of it."""
+    return "%d %d %d %d" % (found.st_ino, found.st_size, found.st_mtime_ns, found.st_ctime_ns)
 
 
 def beyond(sizes, most):
@@ -75,11 +84,12 @@ def read_file(folder, name):
 class Look:
     """A look at files of the working tree, by `scratch`. `modes` has by path the mode that git sees, or None if git does not know the
     file. `old_sizes` has the sizes of old versions. `unread` are the paths that are not read, or None if they are to be found out by
-    `most`, how many bytes are read at most."""
+    `most`, how many bytes are read at most. A file that is as an earlier look found it is not read again: `names` are those of that."""
 
-    def __init__(self, scratch, modes, old_sizes, unread, most):
+    def __init__(self, scratch, modes, old_sizes, unread, most, names):
         self.scratch, self.modes, self.folder = scratch, modes, scratch.opened[scratch.top]
         self.left_out, self.stats, self.contents = {}, {}, {}
+        self.before, self.names, self.begun = names, {}, time.time_ns()
         for path in modes:
             self.look_at(path)
         self.unread = beyond(self.sizes(old_sizes), most) if unread is None else unread & modes.keys()
@@ -118,20 +128,23 @@ class Look:
         left_out = self.scratch.add(sorted(by_git))
         sides.update(self.scratch.sides(by_git - left_out.keys()))
         self.left_out.update(left_out)
-        return Found({path: side for path, side in sides.items() if side}, self.left_out, self.unread, self.contents)
+        return Found({path: side for path, side in sides.items() if side}, self.left_out, self.unread, self.contents, self.names)
 
     def converted(self, paths):
         """Returns the paths of those files that git is to store, as it may store other bytes than they have."""
         if self.scratch.setting("core.safecrlf") not in (*FALSE, "warn", None):
             return set(paths)
-        given, words = b"".join(os.fsencode(path) + b"\0" for path in paths), ("check-attr", "--stdin", "-z", *CONVERSIONS)
+        given, words = os.fsencode("".join([path + "\0" for path in paths])), ("check-attr", "--stdin", "-z", *CONVERSIONS)
         parts = split_by_zeros(self.scratch.git(*words, given=given, **AT_ONCE)) if paths else []
         return {path for path, value in zip(parts[0::3], parts[2::3]) if value not in NO_CONVERSION}
 
     def read(self, path, by_git, folders):
-        """Returns the side of a file, and keeps its contents. Adds its path to `by_git` if git is to store it, or says why it is left
-        out; then it has no side."""
-        is_link = stat.S_ISLNK(self.stats[path].st_mode)
+        """Returns the side of a file, and keeps its contents, if they were not read before. Adds its path to `by_git` if git is to store
+        it, or says why it is left out; then it has no side."""
+        found = self.stats[path]
+        key, is_link = (path, mark_of(found)), stat.S_ISLNK(found.st_mode)
+        if key in self.before:
+            return Side(self.mode_of(path), self.before[key])
         try:
             folder, name = folders.of(path)
             data = os.fsencode(os.readlink(name, dir_fd=folder)) if is_link else read_file(folder, name)
@@ -143,11 +156,12 @@ class Look:
             return None
         name = name_of(data, self.scratch.algorithm)
         self.contents[name] = data
+        if found.st_ctime_ns + REST < self.begun:
+            self.names[key] = name
         return Side(self.mode_of(path), name)
 
     def unread_side(self, path):
         """Returns the side of a file that is not read. Its name says what shows that it is still the same."""
-        found = self.stats[path]
-        name = "%d %d %d %d" % (found.st_ino, found.st_size, found.st_mtime_ns, found.st_ctime_ns)
-        self.contents[name] = Unread(name.encode(), found.st_size)
+        name = mark_of(self.stats[path])
+        self.contents[name] = Unread(name.encode(), self.stats[path].st_size)
         return Side(self.mode_of(path), name)

@@ -111,7 +111,7 @@ OPTIONS = (
     ),
     Option(
         ["--marks"], "FILE", "take up the marks that were kept in this file",
-        "Begins with the marks that were kept when something was refused.", None, "files",
+        "Begins with the marks that were kept when something was refused, or the front end was killed.", None, "files",
     ),
     Option(["--version"], None, "print the version", "Prints the version."),
 )

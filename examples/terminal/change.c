@@ -319,16 +319,21 @@ static void take_version(const change *change, bool is_new, side *side) {
     *side = (struct side){.mode = version->mode, .bytes = version->bytes, .is_new = is_new};
 }
 
-/* Sets `side` to the lines in `into`. Where no file stays beside a link, it is the link; where lines stay, the file stays. */
-static void take_lines(const change *change, size_t mode, const text *into, side *side) {
-    const version *file = is_file(&change->new) ? &change->new : &change->old;
-    bool is_beside_link = is_link_and_file(change), is_gone = mode == SCM_ABSENT;
-    if (is_beside_link && is_gone && into->length == 0) {
+/* Sets `side` to the lines in `into`. */
+static void take_lines(size_t mode, const text *into, side *side) {
+    *side = (struct side){.mode = mode, .bytes = {into->bytes, into->length}, .has_lines = true};
+}
+
+/* Sets the modes of `side` to those that a tree has by it. A link that is there has the bytes of its version. */
+static void place_side(const change *change, bool is_selected, side *side) {
+    size_t old_mode = change->old.mode, new_mode = change->new.mode, mode = side->mode;
+    bool is_renamed = change->old_path.length > 0;
+    side->mode = is_renamed ? scm_renamed_mode(true, old_mode, new_mode, mode)
+                            : scm_tree_mode(is_selected, old_mode, new_mode, mode, side->bytes.length == 0);
+    if (side->has_lines && side->mode != SCM_ABSENT && (side->mode & KIND) == LINK) {
         take_version(change, is_link(&change->new), side);
-    } else {
-        size_t lines_mode = is_beside_link && is_gone ? file->mode : mode;
-        *side = (struct side){.mode = lines_mode, .bytes = {into->bytes, into->length}, .has_lines = true};
     }
+    side->old_path_mode = is_renamed ? scm_renamed_mode(false, old_mode, new_mode, mode) : SCM_ABSENT;
 }
 
 uint32_t read_side(scm_session *session, size_t file, const change *change, bool is_selected, text *into, side *side) {
@@ -337,11 +342,14 @@ uint32_t read_side(scm_session *session, size_t file, const change *change, bool
     uint32_t code = scm_side(session, file, is_selected, &byte, 0, &info);
     if (code == SCM_DONE && change->has_lines) {
         code = read_bytes(session, file, is_selected, into);
-        take_lines(change, info.mode, into, side);
+        take_lines(info.mode, into, side);
     } else if (code == SCM_DONE) {
         bool is_by_mode = is_with_mode(change) && !has_words(change);
         take_version(change, info.contents == SCM_SIDE_BINARY || (is_by_mode && info.mode == change->new.mode), side);
         side->mode = has_words(change) ? side->mode : info.mode;
+    }
+    if (code == SCM_DONE) {
+        place_side(change, is_selected, side);
     }
     return code;
 }

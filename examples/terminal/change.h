@@ -21,10 +21,11 @@ typedef struct change {
     bool has_modes; /* each change of a mode is an item of its own, as a state tells it */
 } change;
 
-/* A side of a changed file. Its contents are lines if `has_lines`. Else they are those of the new version if `is_new`, or of the old
- * one. */
+/* A side of a changed file, as a tree has it. Its contents are lines if `has_lines`. Else they are those of the new version if `is_new`,
+ * or of the old one. */
 typedef struct side {
-    size_t mode;
+    size_t mode;          /* at the file's path, or SCM_ABSENT */
+    size_t old_path_mode; /* at the path before a rename, or SCM_ABSENT */
     piece bytes;
     bool has_lines;
     bool is_new;

@@ -83,7 +83,7 @@ bool is_asked_to_end(void) {
 
 bool read_source(const char *path, text *into, mode_t *permissions) {
     struct stat now;
-    int file = open(path, O_RDONLY | O_NOCTTY | O_CLOEXEC);
+    int file = open_named_file(path);
     if (file >= 0 && fstat(file, &now) == 0 && S_ISREG(now.st_mode)) {
         limit_permissions(file, permissions);
     }
@@ -121,6 +121,15 @@ static bool choose_name(random_name *name) {
     return is_chosen;
 }
 
+/* Returns whether an open file is the one that was looked at. Else errno is ESTALE. */
+static bool is_looked_at(int file, const struct stat *looked_at) {
+    struct stat now;
+    bool is_known = fstat(file, &now) == 0;
+    bool is_same = is_known && now.st_dev == looked_at->st_dev && now.st_ino == looked_at->st_ino;
+    errno = is_known && !is_same ? ESTALE : errno;
+    return is_same;
+}
+
 /* Sets `access` to that of the file that takes the place of a target. One that may not be read is its owner's alone. */
 static bool find_access(const target *target, mode_t permissions, access_rules *access) {
     set_new_access(access, permissions & NEW_FILE & ~new_file_mask());
@@ -132,7 +141,7 @@ static bool find_access(const target *target, mode_t permissions, access_rules *
         access->permissions = target->status.st_mode & OWN_FOLDER;
         return errno == EACCES;
     }
-    return close_written(file, read_access(file, access));
+    return close_written(file, is_looked_at(file, &target->status) && read_access(file, access));
 }
 
 /* Writes a file beside a target, and gives it that name. Returns false with errno set if that fails; then no file is beside it. */
@@ -159,10 +168,12 @@ static bool can_be_written(int file) {
     return is_empty;
 }
 
-/* Writes to a pipe or a device, or to what is open already, as a link of /proc says. */
+/* Writes to a pipe or a device, or to what is open already, as a link of /proc says. No other link is followed. */
 static bool write_onto(const target *target, piece bytes) {
-    int file = openat(target->folder, target->name, O_WRONLY | O_NOCTTY | O_CLOEXEC);
-    return file >= 0 && close_written(file, can_be_written(file) && write_bytes(file, bytes.bytes, bytes.length));
+    bool is_link = S_ISLNK(target->status.st_mode);
+    int file = openat(target->folder, target->name, O_WRONLY | O_NOCTTY | O_CLOEXEC | (is_link ? 0 : O_NOFOLLOW));
+    bool is_it = file >= 0 && (is_link || is_looked_at(file, &target->status));
+    return file >= 0 && close_written(file, is_it && can_be_written(file) && write_bytes(file, bytes.bytes, bytes.length));
 }
 
 /* Writes to a file, while signals wait. */
@@ -179,7 +190,13 @@ static bool write_held(const target *target, piece bytes, mode_t permissions) {
 /* Returns whether nothing is there, or a file. */
 static bool is_nothing_or_file(mode_t mode) { return mode == 0 || S_ISREG(mode); }
 
-/* Looks at a target again. Returns false with errno set if that fails: to ESTALE if what is there is of another kind by now. */
+/* Returns whether what is at a place can have come there by this user: it is the user's, or what was there `before`. */
+static bool is_own_or_same(const struct stat *now, const struct stat *before) {
+    return now->st_uid == geteuid() || (now->st_dev == before->st_dev && now->st_ino == before->st_ino);
+}
+
+/* Looks at a target again. Returns false with errno set if that fails: to ESTALE if what is there is of another kind by now, or is another
+ * user's, who put it there since. A file that came where nothing was gives nothing to the one that takes its place. */
 static bool look_again(target *target) {
     struct stat now;
     bool is_there = fstatat(target->folder, target->name, &now, AT_SYMLINK_NOFOLLOW) == 0;
@@ -188,11 +205,12 @@ static bool look_again(target *target) {
     }
     mode_t mode = is_there ? now.st_mode : 0, before = target->status.st_mode;
     bool is_of_that_kind = is_nothing_or_file(before) ? is_nothing_or_file(mode) : (mode & S_IFMT) == (before & S_IFMT);
-    if (is_of_that_kind) {
-        target->status = is_there ? now : (struct stat){0};
+    bool is_well = is_of_that_kind && (!is_there || is_own_or_same(&now, &target->status));
+    if (is_well) {
+        target->status = is_there && before != 0 ? now : (struct stat){0};
     }
-    errno = is_of_that_kind ? errno : ESTALE;
-    return is_of_that_kind;
+    errno = is_well ? errno : ESTALE;
+    return is_well;
 }
 
 bool replace_target(target *target, piece bytes, mode_t permissions) {

@@ -50,7 +50,7 @@ bool write_new_file(int folder, const char *name, const access_rules *access, pi
 bool replace_file(const char *path, piece bytes, mode_t permissions);
 
 /* Replaces a target that was found before, in the same way. Returns false with errno set if that fails: to ESTALE if something of another
- * kind came there since. */
+ * kind, or of another user, came there since. */
 bool replace_target(target *target, piece bytes, mode_t permissions);
 
 /* Holds back all signals but that of a file that is too large, which is an error of the write then. */

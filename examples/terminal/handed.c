@@ -215,17 +215,34 @@ static bool add_mode(text *into, const char *word, size_t mode) {
     return is_added;
 }
 
-/* Adds a side of file `file`: its mode, and its bytes, or which version has them if they were not handed in. */
-static uint32_t add_side(scm_session *session, const change *change, size_t file, bool is_selected, text *into) {
+/* Returns whether a side is a version, at the path of that and nowhere else. */
+static bool is_version(const change *change, const side *side, bool is_new) {
+    const version *version = is_new ? &change->new : &change->old;
+    bool is_moved_back = change->old_path.length > 0 && !is_new;
+    size_t mode = is_moved_back ? side->old_path_mode : side->mode, other_mode = is_moved_back ? side->mode : side->old_path_mode;
+    struct version found = {mode, side->bytes, {"", 0}};
+    bool is_it = side->has_lines ? is_same(&found, version) : side->is_new == is_new && mode == version->mode;
+    return is_it && other_mode == SCM_ABSENT;
+}
+
+/* Adds a side that is no version: its mode at each of its paths, and its bytes, or which version has them if they were not handed in. */
+static bool add_made_side(const side *side, bool is_selected, text *into) {
     static const piece old = {"old", 3}, new = {"new", 3};
+    return add_mode(into, is_selected ? "selected-mode" : "unselected-mode", side->mode)
+           && add_mode(into, is_selected ? "selected-old-path" : "unselected-old-path", side->old_path_mode)
+           && (side->has_lines ? add_record(into, is_selected ? "selected" : "unselected", side->bytes)
+                               : add_record(into, is_selected ? "selected-is" : "unselected-is", side->is_new ? new : old));
+}
+
+/* Adds a side of file `file`, which may be a version. */
+static uint32_t add_side(scm_session *session, const change *change, size_t file, bool is_selected, text *into) {
     text bytes = {0};
     side side;
     uint32_t code = read_side(session, file, change, is_selected, &bytes, &side);
     if (code == SCM_DONE) {
-        const char *word = is_selected ? "selected" : "unselected";
-        bool is_added = add_mode(into, is_selected ? "selected-mode" : "unselected-mode", side.mode)
-                        && (side.has_lines ? add_record(into, word, side.bytes)
-                                           : add_record(into, is_selected ? "selected-is" : "unselected-is", side.is_new ? new : old));
+        bool is_new = is_version(change, &side, true), is_one = is_new || is_version(change, &side, false);
+        const char *word = is_selected ? "selected-version" : "unselected-version";
+        bool is_added = is_one ? add_record(into, word, (piece){is_new ? "new" : "old", 3}) : add_made_side(&side, is_selected, into);
         code = is_added ? SCM_DONE : SCM_NO_MEMORY;
     }
     free(bytes.bytes);
@@ -267,11 +284,25 @@ static uint32_t add_message(scm_session *session, size_t commit, text *into) {
     return code;
 }
 
-uint32_t write_accepted_sides(scm_session *session, const handed *handed, text *into) {
-    uint32_t code = append(into, "accepted 0\n\n", 12) ? SCM_DONE : SCM_NO_MEMORY;
+/* Begins records with one that has the word `first` and no bytes, and adds the messages. */
+static uint32_t begin_records(scm_session *session, const handed *handed, const char *first, text *into) {
+    uint32_t code = add_record(into, first, (piece){"", 0}) ? SCM_DONE : SCM_NO_MEMORY;
     for (size_t i = 0; i < handed->commits && code == SCM_DONE; i++) {
         code = add_message(session, i, into);
     }
+    return code;
+}
+
+uint32_t write_marks(scm_session *session, const handed *handed, text *into) {
+    uint32_t code = begin_records(session, handed, "kept", into);
+    for (size_t i = 0; i < handed->count && code == SCM_DONE; i++) {
+        code = add_marks(session, i, into);
+    }
+    return code;
+}
+
+uint32_t write_accepted_sides(scm_session *session, const handed *handed, text *into) {
+    uint32_t code = begin_records(session, handed, "accepted", into);
     for (size_t i = 0; i < handed->count && code == SCM_DONE; i++) {
         code = add_marks(session, i, into);
         code = code == SCM_DONE ? add_side(session, &handed->changes[i].change, i, true, into) : code;

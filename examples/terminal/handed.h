@@ -44,4 +44,8 @@ const char *mark_handed(scm_session *session, const handed *handed);
  * or SCM_DONE. */
 uint32_t write_accepted_sides(scm_session *session, const handed *handed, text *into);
 
+/* Sets `into` to the messages and the marks of a session that goes on: what is kept of it if the program is killed. Returns the code of the call
+ * that failed, or SCM_DONE. */
+uint32_t write_marks(scm_session *session, const handed *handed, text *into);
+
 #endif

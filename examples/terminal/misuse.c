@@ -771,6 +771,33 @@ static void tell_path_faults(void) {
     assert(scm_path_fault("a\0b", 3) == SCM_PATH_WITH_NUL && scm_path_fault(NULL, 0) == SCM_PATH_EMPTY);
 }
 
+enum { TEXT_MODE = 0100644, RUN_MODE = 0100755, OF_LINK = 0120000, NO_KIND = 0644 };
+
+/* The mode that a file has in a tree: the side's, but that lines stay on the unselected side, and a link is there where no file is. */
+static void tell_modes(void) {
+    static const struct {
+        bool is_selected;
+        size_t old, new, mode;
+        bool is_empty;
+        size_t in_tree;
+    } sides[] = {
+        {true, TEXT_MODE, RUN_MODE, RUN_MODE, false, RUN_MODE},          {true, TEXT_MODE, SCM_ABSENT, SCM_ABSENT, true, SCM_ABSENT},
+        {true, SCM_ABSENT, RUN_MODE, SCM_ABSENT, false, SCM_ABSENT},     {false, SCM_ABSENT, RUN_MODE, SCM_ABSENT, false, RUN_MODE},
+        {false, TEXT_MODE, SCM_ABSENT, SCM_ABSENT, false, TEXT_MODE},    {false, TEXT_MODE, SCM_ABSENT, SCM_ABSENT, true, SCM_ABSENT},
+        {true, OF_LINK, TEXT_MODE, SCM_ABSENT, true, OF_LINK},           {true, OF_LINK, TEXT_MODE, TEXT_MODE, true, TEXT_MODE},
+        {false, RUN_MODE, OF_LINK, SCM_ABSENT, true, OF_LINK},           {false, RUN_MODE, OF_LINK, SCM_ABSENT, false, RUN_MODE},
+        {true, OF_LINK, OF_LINK, OF_LINK, false, OF_LINK},               {true, OF_LINK, SCM_ABSENT, SCM_ABSENT, true, SCM_ABSENT},
+    };
+    for (size_t i = 0; i < sizeof sides / sizeof *sides; i++) {
+        assert(scm_tree_mode(sides[i].is_selected, sides[i].old, sides[i].new, sides[i].mode, sides[i].is_empty) == sides[i].in_tree);
+    }
+    assert(scm_renamed_mode(true, TEXT_MODE, RUN_MODE, RUN_MODE) == RUN_MODE);
+    assert(scm_renamed_mode(false, TEXT_MODE, RUN_MODE, RUN_MODE) == SCM_ABSENT);
+    assert(scm_renamed_mode(true, TEXT_MODE, RUN_MODE, NO_KIND) == SCM_ABSENT);
+    assert(scm_renamed_mode(false, TEXT_MODE, RUN_MODE, NO_KIND) == TEXT_MODE);
+    assert(scm_renamed_mode(false, TEXT_MODE, RUN_MODE, SCM_ABSENT) == TEXT_MODE);
+}
+
 /* ---- The merge of two changed files ---- */
 
 /* Three files whose merge has a conflict: ours deleted the line that theirs changed. */
@@ -963,6 +990,7 @@ int main(void) {
     merge_files();
     merge_without_memory();
     tell_path_faults();
+    tell_modes();
     refuse_runs();
     return 0;
 }

@@ -59,8 +59,8 @@ void prepare(scm_session *session, const layer *layer, int terminal) {
     check(!why, "the keys of your own", why);
 }
 
-bool run_in_terminal(scm_session *session, int terminal, const char *title) {
-    int ended_by = scm_run(session, terminal, title);
+bool run_in_terminal(scm_session *session, int terminal, const char *title, const scm_hooks *hooks) {
+    int ended_by = scm_run_with(session, terminal, title, hooks);
     if (ended_by > 0) {
         signal(ended_by, SIG_DFL);
         raise(ended_by);

@@ -35,8 +35,9 @@ int open_terminal(void);
  * well. */
 void prepare(scm_session *session, const layer *layer, int terminal);
 
-/* Runs the session on the terminal. If a signal asks for it, ends as that does. Returns whether the terminal is still there. */
-bool run_in_terminal(scm_session *session, int terminal, const char *title);
+/* Runs the session on the terminal, with what the program does within the run, if it does something. If a signal asks for it, ends as that
+ * does. Returns whether the terminal is still there. */
+bool run_in_terminal(scm_session *session, int terminal, const char *title, const scm_hooks *hooks);
 
 /* Says how a session without accepted changes has ended. Returns the status. */
 int give_up(scm_session *session, bool is_there);

@@ -20,6 +20,7 @@ typedef struct walk {
     int folder;
     char rest[2 * PATH_MAX];
     int links;
+    bool is_to_be_read; /* what is found: then a file of another user will do */
 } walk;
 
 /* Returns whether what is in a folder is the user's, or the folder's owner's, or came there by a right that not all have. So the kernel
@@ -106,7 +107,8 @@ static bool step(walk *walk, target *target, bool *is_found) {
     bool is_there = fstatat(walk->folder, target->name, status, AT_SYMLINK_NOFOLLOW) == 0;
     *is_found = is_last && (!is_there ? errno == ENOENT : !S_ISLNK(status->st_mode) || is_of_processes(walk->folder));
     if (*is_found || !is_there) {
-        return *is_found && (!is_there || S_ISDIR(status->st_mode) || is_trusted(walk->folder, status));
+        bool is_any = !is_there || S_ISDIR(status->st_mode) || walk->is_to_be_read;
+        return *is_found && (is_any || is_trusted(walk->folder, status));
     }
     if (S_ISLNK(status->st_mode)) {
         return is_trusted(walk->folder, status) && follow_link(walk, target->name, is_last);
@@ -114,23 +116,41 @@ static bool step(walk *walk, target *target, bool *is_found) {
     return enter(walk, openat(walk->folder, target->name, O_PATH | O_DIRECTORY | O_NOFOLLOW | O_CLOEXEC));
 }
 
-bool find_target(const char *path, target *target) {
-    walk walk = {.folder = -1};
+/* Finds what a path names, for a walk that is to begin. */
+static bool find(walk *walk, const char *path, target *target) {
     bool is_found = false;
     if (!*path || strlen(path) >= PATH_MAX) {
         errno = *path ? ENAMETOOLONG : ENOENT;
         return false;
     }
-    strcpy(walk.rest, path);
-    bool is_well = begin(&walk);
+    strcpy(walk->rest, path);
+    bool is_well = begin(walk);
     while (is_well && !is_found) {
-        is_well = step(&walk, target, &is_found);
+        is_well = step(walk, target, &is_found);
     }
     if (!is_well) {
-        enter(&walk, -1);
+        enter(walk, -1);
     }
-    target->folder = walk.folder;
+    target->folder = walk->folder;
     return is_well;
+}
+
+bool find_target(const char *path, target *target) {
+    walk walk = {.folder = -1};
+    return find(&walk, path, target);
+}
+
+int open_named_file(const char *path) {
+    walk walk = {.folder = -1, .is_to_be_read = true};
+    target target;
+    if (!find(&walk, path, &target)) {
+        return -1;
+    }
+    bool is_link = S_ISLNK(target.status.st_mode);
+    int file = openat(target.folder, target.name, O_RDONLY | O_NOCTTY | O_CLOEXEC | (is_link ? 0 : O_NOFOLLOW)), error = errno;
+    close(target.folder);
+    errno = error;
+    return file;
 }
 
 int open_named_folder(const char *path) {

@@ -17,6 +17,10 @@ typedef struct target {
  * such a user there. Returns false with errno set if that fails, to OF_ANOTHER for what it does not follow; nothing is open then. */
 bool find_target(const char *path, target *target);
 
+/* Opens the file that a path names, to be read. Follows no such link either, but the file may be another user's. Returns -1 with errno set
+ * if that fails. */
+int open_named_file(const char *path);
+
 /* Opens the folder that a path names, in the same way, to be listed. Returns -1 with errno set if that fails. */
 int open_named_folder(const char *path);
 

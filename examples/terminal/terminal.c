@@ -3,6 +3,8 @@
 #define _GNU_SOURCE
 #include "decided.h"
 #include "handed.h"
+#include "kept.h"
+#include "keys.h"
 #include "layer.h"
 #include "program.h"
 #include "shown.h"
@@ -27,34 +29,7 @@ static const char HELP[] =
     "With -d, LEFT and RIGHT are folders, and RIGHT then has what LEFT has with the changes that you mark.\n"
     "A state has changes as JSON. With --json, what you accept is written in that form, also of files and folders.\n\n"
     "The status is 0 for accepted changes, 1 if you gave up, and 2 for an error.\n\n"
-    /* keys: made by tools/make-keys */
-    "Keys:\n"
-    "  Down, j                   moves down, to the next item\n"
-    "  Up, k                     moves up, to the previous item\n"
-    "  Right, l, Shift-Right, L  moves in: to the first section of a file, or the\n"
-    "                            first line of a section\n"
-    "  Left, h                   moves out: to the section of a line, or the file of\n"
-    "                            a folded section; folds an open section, and a file\n"
-    "  Space                     marks the selected item, or takes its mark away; of\n"
-    "                            a file or section, everything in it\n"
-    "  a                         inverts all marks\n"
-    "  F                         unfolds everything, or folds all if everything is\n"
-    "                            unfolded\n"
-    "  c                         accepts what is marked\n"
-    "  q                         gives up; asks first if something is marked or a\n"
-    "                            message is not empty (then Enter quits, and q goes\n"
-    "                            back)\n"
-    "  ?                         opens or closes the help, which names the keys\n"
-    "  /                         searches for a text, downwards\n"
-    "  n, N                      searches for it again, downwards or upwards\n"
-    "  v                         begins a range at the selected line; ends it\n"
-    "  Space                     while a range is begun: marks its lines, or takes\n"
-    "                            their marks away, and ends it\n"
-    "  Esc                       while a range is begun: ends it\n"
-    "  u                         undoes the last change of marks\n"
-    "  ctrl-r                    does again what was undone last\n"
-    "  >, <                      shows the columns further right or left\n"
-    /* end of keys */
+    KEYS
     "\nSELECT_THEME is dark, light, sixteen or none, and NO_COLOR none; SELECT_START is as-is, folded, open or fit. Keys of your own are in\n"
     "~/.config/gabrosty/keys, one a line: \"ctrl-n j\". The man page says more.\n";
 
@@ -251,12 +226,22 @@ static void show_message(scm_session *session, const task *task) {
     }
 }
 
+/* Runs the session on the terminal. Of changes that were handed in the marks are kept meanwhile. Returns whether the terminal is still there. */
+static bool run(scm_session *session, const task *task, int terminal) {
+    bool is_kept = task->form == HANDED_IN && !task->is_as_json;
+    keeper keeper = is_kept ? begin_keeping(task->output, &task->handed) : (struct keeper){.file = -1};
+    const scm_hooks hooks = {.context = &keeper, .rested = keep_on};
+    bool is_there = run_in_terminal(session, terminal, getenv("SELECT_TITLE"), &hooks);
+    end_keeping(&keeper);
+    return is_there;
+}
+
 /* Has the user choose, and writes what is accepted. Returns the status. */
 static int select_changes(scm_session *session, task *task) {
     int terminal = open_terminal();
     prepare(session, &task->layer, terminal);
     show_message(session, task);
-    bool is_there = run_in_terminal(session, terminal, getenv("SELECT_TITLE"));
+    bool is_there = run(session, task, terminal);
     if (scm_stage(session) != SCM_ACCEPTED) {
         return give_up(session, is_there);
     }
@@ -288,7 +273,8 @@ static int read_options(int argc, char **argv, task *task) {
     int letter;
     opterr = 0;
     task->form = TWO_FILES;
-    while ((letter = getopt_long(argc, argv, "do:h", options, NULL)) != -1) {
+    /* behind the first path are paths alone: git hands in the name of a file, which may be that of an option */
+    while ((letter = getopt_long(argc, argv, "+do:h", options, NULL)) != -1) {
         check(letter != '?', "wrong arguments", "try " NAME " --help");
         switch (letter) {
         case 'd': task->form = TWO_FOLDERS; break;

@@ -48,8 +48,19 @@ def what_is_no_folder(place):
     left = place.folder("left", {"a": b"1\n"})
     lost = place.call("gabrosty-diff-editor", left, "/nowhere")
     few, same = place.call("gabrosty-diff-editor", left), place.call("gabrosty-diff-editor", left, left)
-    is_named = lost == (1, "gabrosty-diff-editor: /nowhere is no folder\n") and few[0] == 2
+    empty = place.call("gabrosty-diff-editor", "--output", "", left, place.folder("right", {"a": b"2\n"}))
+    is_named = lost == (1, "gabrosty-diff-editor: /nowhere is no folder\n") and (few[0], empty[0]) == (2, 2)
     return is_named and same == (0, "gabrosty-diff-editor: there is nothing to choose\n") and place.has_left_nothing()
+
+
+def a_file_without_a_name(place):
+    """LEFT may be a file that a shell has open, and that has no name any more. Skipped where the system names no open files."""
+    if not os.path.isdir("/dev/fd"):
+        return "there is no /dev/fd"
+    right = place.folder("files", {"left": b"1\n", "right": b"2\n"})
+    shell = 'exec 3< left; rm left; exec gabrosty-diff-editor /dev/fd/3 right'
+    status, _ = place.type(["sh", "-c", shell], ["c"], right)
+    return (status, changed.read(right)) == (0, {"right": b"1\n"})
 
 
 def a_folder_that_becomes_a_link(place):
@@ -117,6 +128,6 @@ def what_cannot_be_written(place):
 
 
 ALL = (
-    links_out_of_the_folder, a_folder_that_becomes_a_link, by_git_difftool, as_jj_calls_it, what_is_no_folder,
+    links_out_of_the_folder, a_folder_that_becomes_a_link, by_git_difftool, as_jj_calls_it, what_is_no_folder, a_file_without_a_name,
     what_is_no_file, what_cannot_be_written, a_working_tree, permissions,
 )

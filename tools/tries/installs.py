@@ -11,6 +11,7 @@ import changed
 import trying
 from disks import disk, fill
 
+NOBODY = 65534
 PLACE, UNINSTALL = (os.path.join(trying.ROOT, "tools", name) for name in ("place", "uninstall"))
 
 
@@ -115,7 +116,40 @@ def an_install_that_is_stopped(place):
     return process.returncode == 128 + signal.SIGTERM and changed.read(top) == {"bin/a": b"0\n"} and os.listdir(top) == ["bin"]
 
 
+def owned_by_another(path):
+    """Makes a path another user's, with all below it."""
+    for at, folders, names in os.walk(path):
+        for name in ["", *folders, *names]:
+            os.chown(os.path.join(at, name), NOBODY, NOBODY, follow_symlinks=False)
+
+
+def a_prefix_of_another_user(place):
+    """Root obeys no list of another user's, and follows no link of theirs below the prefix, to install or to remove. A link of root's in a
+    folder of root's is followed. Skipped without the rights of two users."""
+    if os.geteuid():
+        return "that needs another user"
+    outside = place.folder("outside", {"a": b"1\n", "__pycache__/b": b"2\n"})
+    hostile = {"x": ("link", outside), "lib/gabrosty/y": ("link", outside), "lib/gabrosty/installed": b"x/a\nlib/gabrosty/y/\n"}
+    source, top = place.folder("source", {"bin/new": b"1\n", "share/new": b"2\n"}), place.folder("prefix", hostile)
+    owned_by_another(top)
+    ends = [call(PLACE, "--from", source, top), call(UNINSTALL, top)]
+    is_refused = [status for status, _ in ends] == [2, 1] and all("another user's" in said for _, said in ends)
+    before = changed.read(outside)
+    os.chown(top + "/lib/gabrosty/installed", 0, 0)
+    status, said = call(UNINSTALL, top)
+    is_refused = is_refused and status == 0 and changed.read(outside) == before
+    changed.write(top, {"share": ("link", outside)})
+    owned_by_another(top)
+    status, said = call(PLACE, "--from", source, top)
+    is_refused = is_refused and status == 2 and "prefix/share is no folder, or a link of another user: nothing was installed" in said
+    is_refused = is_refused and changed.read(outside) == before and changed.read(top) == {"share": ("link", outside)}
+    for path in top, top + "/share":
+        os.chown(path, 0, 0, follow_symlinks=False)
+    is_followed = call(PLACE, "--from", source, top)[0] == 0 and changed.read(outside) == {**before, "new": b"2\n"}
+    return is_refused and is_followed and call(UNINSTALL, top)[0] == 0 and changed.read(outside) == before
+
+
 ALL = (
     a_reinstall_on_a_full_disk, with_a_mask_of_the_user, files_of_others, what_is_in_the_way, where_nothing_can_be_written,
-    an_install_that_is_stopped,
+    an_install_that_is_stopped, a_prefix_of_another_user,
 )

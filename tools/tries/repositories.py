@@ -307,7 +307,7 @@ def all_or_nothing(place):
     old, new = {"a/x": b"1\n", "b/c": b"1\n", "d": b"1\n"}, {"b": b"2\n", "d": b"2\n"}
     repository = Repository(place, old, new)
     status, said = repository.select("--restore", keys=["a", "c"])
-    is_left = status == 1 and "b/c cannot be written: " in said and repository.files() == new
+    is_left = status == 1 and "b/c is not restored: that would remove b, which is not marked\n" in said and repository.files() == new
     is_left = is_left and sorted(os.listdir(repository.folder)) == [".git", "b", "d"]
     left, right = place.folder("left", old), place.folder("right", new)
     # the new file b, without the removal of b/c: the files are a/x, b, b/c and d
@@ -342,9 +342,20 @@ def a_message_that_is_no_text(place):
     return status == 2 and "the message is not UTF-8" in said and alone[0] == 2 and "for --commit" in alone[1]
 
 
+def an_object_that_is_lost(place):
+    """An object that git lacks is named, and nothing is written."""
+    repository = Repository(place, {"a": b"1\n"}, {"a": b"2\n"})
+    name = repository.git("rev-parse", "HEAD:a").strip()
+    os.unlink(os.path.join(repository.folder, ".git/objects", name[:2], name[2:]))
+    before = repository.index(), repository.files()
+    ends = [place.call("git", "select", *words, folder=repository.folder) for words in ([], ["--restore"], ["--split"])]
+    is_named = ends == [(1, "git-select: git has no object %s\n" % name)] * 3
+    return is_named and (repository.index(), repository.files()) == before
+
+
 ALL = (
     some_lines, partly_staged, partly_unstaged, lines_of_new_and_gone_files, intent_to_add, in_a_subdirectory,
     in_a_linked_worktree, a_locked_index, in_conflict, a_submodule, settings_for_line_ends, a_hook_that_refuses,
     without_a_commit, a_template, a_message_that_git_asks_for, a_message_that_is_no_text, a_file_as_old_as_the_index,
-    marks_that_are_taken_up, a_file_that_changed, all_or_nothing, what_cannot_be_written,
+    marks_that_are_taken_up, a_file_that_changed, all_or_nothing, what_cannot_be_written, an_object_that_is_lost,
 )

@@ -145,6 +145,27 @@ def what_another_user_put_there(place):
     return all(ends) and is_left
 
 
+def what_is_read_through_links(place):
+    """Where all may put files, a link of another user is not followed to read a file either: not by scm-select, and not by the merge tool. A
+    file of theirs is read, and a link of one's own is followed."""
+    if os.geteuid():
+        return NOT_ROOT
+    folder, private = shared(place), place.folder("private", {"x": OLD})
+    changed.write(folder, {"link": ("link", private + "/x"), "around": ("link", private), "file": OLD, "own": ("link", private + "/x")})
+    for name in "link", "around", "file":
+        os.chown(os.path.join(folder, name), NOBODY, NOBODY, follow_symlinks=False)
+    old, output = two(place)[0], os.path.join(place.top, "output")
+    ends = []
+    for name, is_read in (("link", False), ("around/x", False), ("file", True), ("own", True)):
+        path = os.path.join(folder, name)
+        commands = ["scm-select", path, old], ["scm-select", old, path], *(
+            ["gabrosty-merge-tool", *(path if number == turn else old for number in range(3)), output] for turn in range(3)
+        )
+        refused = "%s: it is another user's, in a folder that all may write to\n" % path
+        ends += [(refused in place.call(*command)[1]) != is_read for command in commands]
+    return all(ends)
+
+
 def signals_while_it_writes(place):
     """A signal that comes while a file is written waits until it is in its place: nothing is left beside it. A limit of the size of
     files is an error that is named."""
@@ -452,8 +473,8 @@ def a_handler_that_comes_late(place):
 
 
 ALL = (
-    group_and_list_stay, no_more_for_another_group, lists_that_cannot_be_read, what_another_user_put_there, signals_while_it_writes,
-    a_signal_before_the_first_step, what_happens_between, names_of_one_file, a_folder_that_is_moved, what_a_new_folder_has,
-    another_folder_where_one_was_made, a_deeper_tree, many_small_files,
-    characters_of_both_lists, what_another_program_hands_in, json_for_a_terminal, folders_in_one_another, a_handler_that_comes_late,
+    group_and_list_stay, no_more_for_another_group, lists_that_cannot_be_read, what_another_user_put_there, what_is_read_through_links,
+    signals_while_it_writes, a_signal_before_the_first_step, what_happens_between, names_of_one_file, a_folder_that_is_moved,
+    what_a_new_folder_has, another_folder_where_one_was_made, a_deeper_tree, many_small_files, characters_of_both_lists,
+    what_another_program_hands_in, json_for_a_terminal, folders_in_one_another, a_handler_that_comes_late,
 )

@@ -7,6 +7,7 @@ import shutil
 import signal
 import subprocess
 import sys
+import time
 
 import changed
 from faults import ACCEPTS, select
@@ -217,29 +218,55 @@ def hostile_names(place):
 
 
 def a_front_end_that_is_killed(place):
-    """The terminal is given back: its settings, its first screen, no mouse, and the cursor. It is said which signal it was."""
+    """The terminal is given back: its settings, its first screen, no mouse, and the cursor. It is said which signal it was. SIGILL is that of
+    a check that fails. The marks are kept, and can be taken up."""
     repository = Repository(place, {"a": b"1\n"}, {"a": b"2\n"})
     script, pid = os.path.join(place.top, "front"), os.path.join(place.top, "pid")
     changed.write_file(script, b'#!/bin/sh\necho $$ > "$PID_FILE"\nexec scm-select "$@"\n')
     os.chmod(script, 0o755)
-    for number in signal.SIGKILL, signal.SIGSEGV:
+    for number in signal.SIGKILL, signal.SIGSEGV, signal.SIGILL:
         shell = "stty -a > before; git select; echo status $?; stty -a > after"
         environment = {**place.environment, "SELECT": script, "PID_FILE": pid}
         typed = Typed(["sh", "-c", shell], 80, 24, environment, repository.folder)
         typed.press("a")
+        # the marks are kept where the user rests
+        time.sleep(1)
         os.kill(int(changed.read_file(pid)), number)
         typed.end()
         said = typed.seen.partition(b"the front end was killed")[0]
         is_back = all(code in said for code in (b"\x1b[?1049l", b"\x1b[?25h", b"\x1b[?2004l", b"\x1b[?7h"))
         settings = [changed.read_file(os.path.join(repository.folder, name)) for name in ("before", "after")]
-        words = b"the front end was killed by %s: the marks are lost" % signal.Signals(number).name.encode()
+        words = b"the front end was killed by %s\r\n" % signal.Signals(number).name.encode()
         is_said = words in typed.seen and b"status 1" in typed.seen and b"nothing changed" in typed.seen
+        kept = re.search(rb"your marks are kept; to take them up: git-select --marks (\S+)\r\n", typed.seen)
         for name in "before", "after":
             os.unlink(os.path.join(repository.folder, name))
-        if not is_back or settings[0] != settings[1] or not is_said:
+        if not is_back or settings[0] != settings[1] or not is_said or not kept:
             print(settings, typed.seen[-600:])
             return False
+        again = Typed(["git", "select", "--marks", os.fsdecode(kept[1])], 80, 24, place.environment, repository.folder)
+        again.press("c")
+        if again.end() or repository.index_files() != {"a": b"2\n"}:
+            print(again.said())
+            return False
+        repository.git("reset", "--quiet")
+        os.unlink(os.fsdecode(kept[1]))
     return repository.is_sound()
+
+
+def a_front_end_that_leaves_no_marks(place):
+    """If nothing is marked, or the front end is another one, which keeps none, it is said that they are lost. A file of marks that is not whole
+    counts as none."""
+    repository = Repository(place, {"a": b"1\n"}, {"a": b"2\n"})
+    ends = []
+    for left in b"", b"kept 0\n\nmarks 2\n00\n", b"kept 0\n\nmarks 2\n1", b"kept 0\n\n", b"marks 2\n11\n", b"accepted 0\n\nmarks 2\n11\n":
+        script = os.path.join(place.top, "front")
+        changed.write_file(script, b'#!/bin/sh\nprintf "%%s" \'%s\' > "$3"\nkill -9 $$\n' % left)
+        os.chmod(script, 0o755)
+        typed = Typed(["sh", "-c", "stty -echo; git select; echo status $?"], 80, 24, {**place.environment, "SELECT": script}, repository.folder)
+        typed.end()
+        ends.append(b"the front end was killed by SIGKILL: the marks are lost\r\n" in typed.seen and b"--marks" not in typed.seen)
+    return all(ends) and repository.is_sound()
 
 
 def marks_of_another_length(place):
@@ -308,9 +335,21 @@ def is_read(place, shell):
     return not shutil.which(shell) or place.call(shell, how, file_for(place, shell))[0] == 0
 
 
+def lacks_its_parent(repository, where):
+    """Makes a second commit, and takes the first one away, which git is to fetch from `where`. Returns the name of the second one."""
+    first = repository.git("rev-parse", "HEAD").strip()
+    repository.git("commit", "--quiet", "--allow-empty", "--message=second")
+    configure(repository, {
+        "core.repositoryFormatVersion": "1", "extensions.partialClone": "origin", "protocol.ext.allow": "always",
+        "remote.origin.promisor": "true", "remote.origin.url": where,
+    })
+    os.unlink(os.path.join(repository.folder, ".git/objects", first[:2], first[2:]))
+    return repository.git("rev-parse", "HEAD").strip()
+
+
 def what_shells_complete(place):
     """bash completes each option of the help, and the names of commits; and what zsh and fish are given has each option too. A branch
-    whose name is a command runs nowhere, and neither does what a repository sets for signatures."""
+    whose name is a command runs nowhere, and neither does what a repository sets for signatures, or to fetch a commit that it lacks."""
     repository = Repository(place, {"a": b"1\n"}, {"a": b"2\n"})
     repository.git("update-ref", "refs/heads/$(touch${IFS}ran)", "HEAD")
     signed = repository.git("cat-file", "commit", "HEAD").replace("\n\n", "\ngpgsig x\n\n", 1)
@@ -326,6 +365,8 @@ def what_shells_complete(place):
         is_there = is_there and completed(place, repository, "git-select", "--") == long
         is_there = is_there and completed(place, repository, "git", "select", "--sp") == {"--split"}
         is_there = is_there and completed(place, repository, "git-select", "--fixup", "") == {commit[:7]}
+        second = lacks_its_parent(repository, "ext::touch %s/ran" % repository.folder)
+        is_there = is_there and completed(place, repository, "git-select", "--fixup", "") <= {second[:7]}
     is_there = is_there and all(is_read(place, shell) for shell in FILES)
     return is_there and len(options) > 10 and not os.path.exists(os.path.join(repository.folder, "ran"))
 
@@ -345,5 +386,5 @@ def what_is_loaded(place):
 
 ALL = (
     a_module_of_the_clone, standard_files_that_are_closed, a_help_that_cannot_be_written, each_message, hostile_names,
-    a_front_end_that_is_killed, marks_of_another_length, the_message_at_the_start, what_shells_complete, what_is_loaded,
+    a_front_end_that_is_killed, a_front_end_that_leaves_no_marks, marks_of_another_length, the_message_at_the_start, what_shells_complete, what_is_loaded,
 )

@@ -597,6 +597,25 @@ def marks_in_what_is_no_file(place):
     return all(ends) and repository.index() == repository.index_of() and repository.is_sound()
 
 
+def named_files_through_links(place):
+    """The files that --marks and commit.template name are not read through a link of another user, where all may put theirs. Skipped
+    without the right to give files away."""
+    if os.geteuid():
+        return "that needs another user"
+    repository, shared = Repository(place, {"a": b"1\n"}, {"a": b"2\n"}), place.folder("shared")
+    os.chmod(shared, 0o1777)
+    private = os.path.join(place.folder("private", {"x": b"private\n"}), "x")
+    for name, owner in (("link", NOBODY), ("own", 0)):
+        os.symlink(private, os.path.join(shared, name))
+        os.chown(os.path.join(shared, name), owner, owner, follow_symlinks=False)
+    refused = 1, "git-select: %s/link: it is another user's, in a folder that all may write to\n" % shared
+    ends = [select(repository, "--marks", shared + "/link") == refused]
+    ends.append(select(repository, "--marks", shared + "/own") == (1, "git-select: %s/own has no marks that were kept\n" % shared))
+    repository.git("config", "commit.template", shared + "/link")
+    ends.append(select(repository, "--commit", GIT_EDITOR="false") == refused)
+    return all(ends) and repository.index() == repository.index_of() and repository.is_sound()
+
+
 def tree_of(repository, *lines):
     """Stores a tree by hand, as git itself makes none. Returns its name."""
     return repository.git("mktree", given="".join(line + "\n" for line in lines).encode()).strip()
@@ -767,7 +786,14 @@ def a_home_of_another_user(place):
     os.chown(home, NOBODY, NOBODY)
     end = editor(place, "--output", right, right, left, HOME=home, XDG_STATE_HOME="")
     words = "%s: no plan can be kept in %s/.local/state/gabrosty: it lies in a folder of another user; XDG_STATE_HOME names another folder"
-    return end == (1, words % (EDITOR, home) + "\n") and os.listdir(home) == [] and changed.read(right) == {"a": b"2\n"}
+    refused = 1, words % (EDITOR, home) + "\n"
+    is_left = end == refused and os.listdir(home) == []
+    # neither in a folder of root's that a link of theirs leads to
+    own = place.folder("own")
+    os.symlink(own, home + "/.local")
+    os.chown(home + "/.local", NOBODY, NOBODY, follow_symlinks=False)
+    end = editor(place, "--output", right, right, left, HOME=home, XDG_STATE_HOME="")
+    return is_left and end == refused and os.listdir(own) == [] and changed.read(right) == {"a": b"2\n"}
 
 
 def a_race_for_a_new_folder(place):
@@ -800,8 +826,8 @@ def a_race_for_a_new_folder(place):
 
 def links_of_another_user(place):
     """A link or a file of another user, in a folder with a sticky bit that all may write to, is not followed and not written to: neither
-    the last one of OUTPUT or RIGHT, nor one before it. One of the user's own is, and one of the folder's owner. Skipped without the right
-    to give files away."""
+    the last one of OUTPUT or RIGHT, nor one before it. Nor is such a link followed to read LEFT; a file of another user is read. One of the
+    user's own is followed, and one of the folder's owner. Skipped without the right to give files away."""
     if os.geteuid():
         return "that needs another user"
     private, shared = place.folder("private", {"x": b"private\n"}), place.folder("shared", {"file": b"theirs\n"})
@@ -817,6 +843,9 @@ def links_of_another_user(place):
         path = os.path.join(shared, name)
         ends.append(editor(place, "--output", path, *files) == (1, words % (EDITOR, path)))
         ends.append(editor(place, left + "/x", path) == (1, words % (EDITOR, path)))
+    for path in shared + "/link", shared + "/around/x":
+        ends.append(editor(place, path, files[1]) == (1, words % (EDITOR, path)))
+    ends.append(editor(place, "--dry-run", shared + "/file", files[1])[0] == 0)
     around = shared + "/around"
     for given in (["--output", around, left, right], [left, around], [around, right]):
         ends.append(editor(place, *given) == (1, words % (EDITOR, around)))
@@ -826,6 +855,36 @@ def links_of_another_user(place):
     os.chown(shared, NOBODY, NOBODY)
     ends.append(editor(place, "--output", shared + "/link", *files[::-1])[0] == 0 and changed.read(private) == {"x": b"1\n"})
     return all(ends) and is_left
+
+
+# another user puts a file or a link where OUTPUT is to be, just before that is looked at
+PUT_BY_ANOTHER = """from choosing import files
+kept, (_, output, left, _) = files.Files.read, words
+def read(self, path):
+    if path == "output" and not os.path.lexists(output):
+        os.symlink("/nowhere", output) if left.endswith("link") else os.close(os.open(output, os.O_CREAT))
+        os.chown(output, 65534, 65534, follow_symlinks=False)
+    return kept(self, path)
+files.Files.read = read
+"""
+
+
+def a_file_of_another_user_in_time(place):
+    """A file or a link that another user puts where OUTPUT is to be, in a folder that all may write to, is named, and stays. Skipped without
+    the right to give files away."""
+    if os.geteuid():
+        return "that needs another user"
+    shared, files = place.folder("shared"), place.folder("files", {"file": b"1\n", "link": b"1\n", "new": b"2\n"})
+    os.chmod(shared, 0o1777)
+    output = os.path.join(shared, "output")
+    ends = []
+    for name, is_kind in (("file", stat.S_ISREG), ("link", stat.S_ISLNK)):
+        end = edit_patched(place, PUT_BY_ANOTHER, "--output", output, os.path.join(files, name), os.path.join(files, "new"))
+        found = os.lstat(output)
+        is_named = end == (1, "%s: %s: it is another user's, in a folder that all may write to\n" % (EDITOR, output))
+        ends.append(is_named and is_kind(found.st_mode) and found.st_uid == NOBODY)
+        os.unlink(output)
+    return all(ends) and os.listdir(shared) == []
 
 
 # another empty folder of the user's, which all may read, takes the place of the spare folder
@@ -880,11 +939,10 @@ ALL = (
     a_clone_with_a_plan, a_folder_with_a_plan, plans_that_are_malformed, what_is_kept_and_changed, a_plan_that_fits_to_nothing,
     what_another_user_left, where_no_plan_can_be_kept, bits_that_set_a_user, permissions_of_new_files, what_becomes_a_fifo,
     a_deep_folder, names_of_git_on_other_disks, a_spare_folder_that_stays, a_folder_that_others_write_into, two_files_that_are_cut_off,
-    a_lock_that_is_killed, folders_that_undo_leaves, a_new_file_for_hg, links_that_hg_hands_in,
-    a_folder_on_a_disk_of_its_own,
-    a_race_by_another_user, names_like_ours_beside_the_index, marks_that_are_no_text, marks_in_what_is_no_file,
+    a_lock_that_is_killed, folders_that_undo_leaves, a_new_file_for_hg, links_that_hg_hands_in, a_folder_on_a_disk_of_its_own,
+    a_race_by_another_user, names_like_ours_beside_the_index, marks_that_are_no_text, marks_in_what_is_no_file, named_files_through_links,
     paths_that_git_refuses, what_git_says_beside_its_editor, files_that_have_too_much_together, a_lock_that_was_copied,
-    links_where_plans_are_kept, a_file_that_changes_unseen, no_home, a_home_of_another_user,
-    a_state_folder_of_a_clone, a_race_for_a_new_folder, links_of_another_user, a_spare_folder_that_others_may_read, a_lock_that_is_a_pipe,
+    links_where_plans_are_kept, a_file_that_changes_unseen, no_home, a_home_of_another_user, a_state_folder_of_a_clone, a_race_for_a_new_folder,
+    links_of_another_user, a_file_of_another_user_in_time, a_spare_folder_that_others_may_read, a_lock_that_is_a_pipe,
     texts_of_many_megabytes, characters_that_disks_leave_out,
 )

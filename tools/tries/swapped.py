@@ -1,4 +1,5 @@
 """git-select where someone puts another repository in the place of the user's, for tools/try-tools."""
+import contextlib
 import os
 import shutil
 
@@ -242,6 +243,37 @@ def a_link_that_leads_elsewhere(place):
     return is_said and changed.read(mine) == {"x": b"mine\n"} and changed.read(others) == {"x": b"2\n"}
 
 
+# a folder that is named becomes a link just when it was looked at
+BECOMES_A_LINK = """sys.path.append(os.environ["PARENT"])
+from choosing import named
+kept = named.find
+def find(path, *more):
+    found = kept(path, *more)
+    if os.path.basename(path) == "named" and not os.path.islink("named"):
+        os.rename("named", "moved")
+        os.symlink("private", "named")
+    return found
+named.find = find
+"""
+
+
+def a_named_folder_that_becomes_a_link(place):
+    """A folder that is named as LEFT, RIGHT or OUTPUT, and becomes a link when it was looked at, is named: what the link leads to is neither
+    read nor written."""
+    ends = []
+    for words in (["named", "other"], ["other", "named"], ["--output", "named", "named", "other"]):
+        shutil.rmtree(os.path.join(place.top, "moved"), ignore_errors=True)
+        with contextlib.suppress(FileNotFoundError):
+            os.unlink(os.path.join(place.top, "named"))
+        names = {"private": b"private\n", "other": b"1\n", "named": b"2\n"}
+        folders = [place.folder(name, {"x": data}) for name, data in names.items()]
+        end = edit_patched(place, BECOMES_A_LINK, *words)
+        is_named = end == (1, "%s: %s: Not a directory\n" % (EDITOR, folders[2]))
+        found = [changed.read(folder) for folder in (*folders[:2], os.path.join(place.top, "moved"))]
+        ends.append(is_named and found == [{"x": data} for data in names.values()])
+    return all(ends)
+
+
 def a_link_in_the_working_tree(place):
     """A folder or a file of the working tree that git names, and that is a link by now, is named, and what it leads to stays."""
     outside, left = place.folder("outside", {"x": b"private\n"}), os.path.join(place.folder("left", {"x": b"1\n"}), "x")
@@ -256,5 +288,6 @@ def a_link_in_the_working_tree(place):
 
 ALL = (
     another_repository_meanwhile, another_repository_at_the_start, a_folder_behind_the_last_look, a_folder_that_becomes_a_link,
-    a_repository_of_another_user, a_link_that_leads_elsewhere, a_link_in_the_working_tree, a_file_that_becomes_large,
+    a_repository_of_another_user, a_link_that_leads_elsewhere, a_named_folder_that_becomes_a_link, a_link_in_the_working_tree,
+    a_file_that_becomes_large,
 )

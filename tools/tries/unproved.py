@@ -5,6 +5,7 @@ import subprocess
 
 import changed
 import options
+import starts
 import trying
 from places import Place
 
@@ -28,6 +29,15 @@ def is_taken_for_proved(folder):
     return subprocess.run([os.path.join(clone, "tools/build-c"), "--is-proved"]).returncode != 1
 
 
+def keeps_marks(prefix):
+    """Whether the marks outlive a check that fails."""
+    place = Place(prefix)
+    try:
+        return starts.a_front_end_that_is_killed(place)
+    finally:
+        place.close()
+
+
 def without_a_proof(folder, version):
     """Installs the programs without a proof into `folder`, and uses them. Returns what holds, by its words."""
     prefix = os.path.join(folder, "unproved")
@@ -39,6 +49,7 @@ def without_a_proof(folder, version):
         return {
             "each program without a proof says so": all([says_so(place, name, version) for name in PROGRAMS]),
             "a program without a proof": options.stage_all(place, *changed.CASES["text edits"]),
+            "marks outlive a check that fails": keeps_marks(prefix),
             "no library without a proof is taken for a proved one": not is_taken_for_proved(folder),
         }
     finally:

@@ -3,7 +3,7 @@ _git_select() {
     local name word=${COMP_WORDS[COMP_CWORD]} words=
     compopt +o nospace 2> /dev/null
     case ${COMP_WORDS[COMP_CWORD - 1]} in
-    --fixup) words=$(git log --no-show-signature -20 --format=%h 2> /dev/null) ;;
+    --fixup) words=$(env GIT_NO_LAZY_FETCH=1 GIT_ALLOW_PROTOCOL= git log --no-show-signature -20 --format=%h 2> /dev/null) ;;
     -m|--message) ;;
     --only) ;;
     --then) ;;

@@ -4,7 +4,7 @@ complete -c git-select -l restore -d 'take chosen changes back in the working tr
 complete -c git-select -l stash -d 'take chosen changes back in the working tree, and keep them as a stash, which git stash pop brings back'
 complete -c git-select -l commit -d 'commit chosen changes, with those that are staged; `e` edits the message'
 complete -c git-select -l amend -d 'add chosen changes, and those that are staged, to the last commit; `e` edits its message'
-complete -c git-select -l fixup -x -a '(git log --no-show-signature -20 --format=%h 2> /dev/null)' -d 'commit chosen changes, with those that are staged, as a fixup of this commit'
+complete -c git-select -l fixup -x -a '(env GIT_NO_LAZY_FETCH=1 GIT_ALLOW_PROTOCOL= git log --no-show-signature -20 --format=%h 2> /dev/null)' -d 'commit chosen changes, with those that are staged, as a fixup of this commit'
 complete -c git-select -l split -d 'make two commits of the last one: the first has the chosen changes, and the second the rest'
 complete -c git-select -l finish -d 'finish a restore or a stash that was cut off'
 complete -c git-select -l undo -d 'undo a restore or a stash that was cut off'
