@@ -1,7 +1,0 @@
-use Rattle.std.proofs.Common.{rules}
-use Rattle.scm_render.specs.Drawing.{blank_picture}
-use Rattle.scm_render_tests.proofs.render.captions_over_texts.Goals as goal
-
-pub draw_blank-requires : goal.draw_blank-requires
-unfolding blank_picture
-draw_blank-requires g c = record { areas = (search rules, tt) }

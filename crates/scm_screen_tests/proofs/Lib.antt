@@ -1,0 +1,4 @@
+pub mod NearLemmas
+pub mod SampleLemmas
+pub mod ViewLemmas
+pub mod CornerLemmas

@@ -1,0 +1,44 @@
+//! Tests of the screen: of rectangles, masks, texts and the grid, of drawing by sample components, of the views and their indexes, and of
+//! the bytes that a terminal sends and receives.
+#![tactic(auto)]
+
+#[cfg(test)]
+mod alone;
+#[cfg(test)]
+mod apps;
+#[cfg(test)]
+mod beginnings;
+#[cfg(test)]
+mod cell_memory;
+#[cfg(test)]
+mod cells;
+#[cfg(test)]
+mod checks;
+#[cfg(test)]
+mod index;
+#[cfg(test)]
+mod memory;
+#[cfg(test)]
+mod over_letters;
+#[cfg(test)]
+mod painted;
+#[cfg(test)]
+mod paints;
+#[cfg(test)]
+mod pieces;
+#[cfg(test)]
+mod render;
+#[cfg(test)]
+mod same_answers;
+pub mod samples;
+#[cfg(test)]
+mod shown;
+#[cfg(test)]
+mod states;
+pub mod tags;
+#[cfg(test)]
+mod terminals;
+#[cfg(test)]
+mod views;
+#[cfg(test)]
+mod visible;

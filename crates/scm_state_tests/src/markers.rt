@@ -1,0 +1,137 @@
+//! Tables of merges with markers around what is open, in the style `diff3` of git.
+use crate::merge_table::mark;
+use scm_merge::{Labels, bytes_with_markers, merged_file};
+use scm_types::{FileMode, Text};
+use std::alloc::{AllocError, Global};
+use std::process::Abort;
+use std::test::Fail;
+
+/// The base, ours and theirs, the marks of the items as bits, the lowest one first, and the merge.
+type Marked = (
+    &'static str,
+    &'static str,
+    &'static str,
+    usize,
+    &'static str,
+);
+
+const MERGES: &[Marked] = &[
+    // an open conflict, and the same one settled
+    (
+        "a\nb\nc\n",
+        "a\nx\nc\n",
+        "a\ny\nc\n",
+        0b010,
+        "a\n<<<<<<< main\nx\n||||||| old\nb\n=======\ny\n>>>>>>> topic\nc\n",
+    ),
+    ("a\nb\nc\n", "a\nx\nc\n", "a\ny\nc\n", 0b011, "a\nx\nc\n"),
+    // versions without lines
+    (
+        "a\nb\nc\n",
+        "a\nc\n",
+        "a\ny\nc\n",
+        0b010,
+        "a\n<<<<<<< main\n||||||| old\nb\n=======\ny\n>>>>>>> topic\nc\n",
+    ),
+    (
+        "a\n",
+        "a\nx\n",
+        "a\ny\n",
+        0b010,
+        "a\n<<<<<<< main\nx\n||||||| old\n=======\ny\n>>>>>>> topic\n",
+    ),
+    // lines that both sides have around the conflict
+    (
+        "a\nb\nc\n",
+        "a\np\nx\nq\nc\n",
+        "a\np\ny\nq\nc\n",
+        0b010,
+        "a\np\n<<<<<<< main\nx\n||||||| old\nb\n=======\ny\n>>>>>>> topic\nq\nc\n",
+    ),
+    // the first conflict is settled, and the second one is open
+    (
+        "a\nb\nc\n",
+        "x\nb\nz\n",
+        "y\nb\nw\n",
+        0b010011,
+        "x\nb\n<<<<<<< main\nz\n||||||| old\nc\n=======\nw\n>>>>>>> topic\n",
+    ),
+    // last lines without a line end get one before a marker
+    (
+        "a\nb",
+        "a\nx",
+        "a\ny",
+        0b010,
+        "a\n<<<<<<< main\nx\n||||||| old\nb\n=======\ny\n>>>>>>> topic\n",
+    ),
+    // the first line end is CR LF, so those of the markers are, too
+    (
+        "a\r\nb\r\n",
+        "a\r\nx",
+        "a\r\ny\n",
+        0b010,
+        "a\r\n<<<<<<< main\r\nx\r\n||||||| old\r\nb\r\n=======\r\ny\n>>>>>>> topic\r\n",
+    ),
+    (
+        "a\nb\r\n",
+        "a\nx\r\n",
+        "a\ny\r\n",
+        0b010,
+        "a\n<<<<<<< main\nx\r\n||||||| old\nb\r\n=======\ny\r\n>>>>>>> topic\n",
+    ),
+    // a line that begins with a marker makes the markers longer
+    (
+        "a\n=======\n",
+        "a\n>>>>>>>>x\n",
+        "a\n|||||\n",
+        0b010,
+        "a\n<<<<<<<<< main\n>>>>>>>>x\n||||||||| old\n=======\n=========\n|||||\n>>>>>>>>> topic\n",
+    ),
+    // six signs, other bytes and signs that differ do not
+    (
+        "======\nb\n",
+        "======\n-------- x\n",
+        "======\n<><><><><>\n",
+        0b010,
+        "======\n<<<<<<< main\n-------- x\n||||||| old\nb\n=======\n<><><><><>\n>>>>>>> topic\n",
+    ),
+];
+
+/// Checks the merge with markers.
+fn check_markers(rt: &impl Abort, alloc: Global, merge: Marked) -> Result<(), AllocError> {
+    let mode = FileMode::Unix(0o100644);
+    let mut file = merged_file(alloc, Text::from("f"), mode, merge.0, merge.1, merge.2)?;
+    mark(&mut file, merge.3);
+    let labels = Labels {
+        ours: "main",
+        base: "old",
+        theirs: "topic",
+    };
+    let bytes = bytes_with_markers(alloc, &file, labels)?;
+    assert!(rt; bytes.as_slice() == merge.4.as_bytes());
+    Ok(())
+}
+
+#[test]
+fn open_conflicts_have_markers(rt: HostRuntime) -> Result<(), Fail> {
+    for merge in MERGES {
+        check_markers(&rt, rt.alloc(), *merge)?;
+    }
+    Ok(())
+}
+
+#[test]
+fn labels_with_a_line_end_are_left_out(rt: HostRuntime) -> Result<(), Fail> {
+    let alloc = rt.alloc();
+    let mode = FileMode::Unix(0o100644);
+    let file = merged_file(alloc, Text::from("f"), mode, "b\n", "x\n", "y\n")?;
+    let labels = Labels {
+        ours: "a\nb",
+        base: "",
+        theirs: "a\rb",
+    };
+    let bytes = bytes_with_markers(alloc, &file, labels)?;
+    let wanted = b"<<<<<<<\nx\n|||||||\nb\n=======\ny\n>>>>>>>\n";
+    assert!(rt; bytes.as_slice() == wanted.as_slice());
+    Ok(())
+}

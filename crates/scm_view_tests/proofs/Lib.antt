@@ -1,2 +1,0 @@
-pub mod ViewLemmas
-pub mod CornerLemmas

@@ -1,6 +1,0 @@
-use Rattle.std.proofs.Common.{rules}
-use Rattle.scm_view_tests.proofs.CornerLemmas.{rect-here}
-use Rattle.scm_view_tests.proofs.alone.draw_dialog.Goals as goal
-
-pub draw_component-requires : goal.draw_component-requires
-draw_component-requires g c = c.parts_are_in_range.ensures.whole _ _ (c.components_are_in_range.ensures.dialogs c.args.dialog.now _ (rect-here _ c.check_sight.ensures) (search rules))

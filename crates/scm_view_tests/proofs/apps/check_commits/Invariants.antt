@@ -1,6 +1,0 @@
-use Rattle.std.proofs.Common.{drop}
-use Rattle.scm_view_tests.specs.Small.{AreSmallCommits}
-use Rattle.scm_view_tests.proofs.apps.check_commits.Given as goal
-
-abbrev pub invariant-loop-view : goal.invariant-loop-view
-invariant-loop-view g l = AreSmallCommits (drop l.view-index l.views) → AreSmallCommits l.views

@@ -1,3 +1,0 @@
--- Views of few and short texts.
-pub mod Small
-pub mod Corner
