@@ -425,7 +425,8 @@ def real_conflict(place):
 
     log = git("log", "--raw", "--no-abbrev", "--no-renames", "--format=", "--diff-filter=AM", "--", OFTEN_CHANGED).decode()
     names = [line.split(" ")[3] for line in log.splitlines()]
-    for new, base, old in zip(names, names[1:], names[2:]):
+    # the first ones come first, so that a later commit changes nothing here
+    for old, base, new in zip(names[::-1], names[-2::-1], names[-3::-1]):
         texts = [git("cat-file", "blob", name) for name in (base, old, new)]
         paths = files_of(place, *texts)
         if merged_by_git(paths)[0] in (2, 3):
