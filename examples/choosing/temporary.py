@@ -2,15 +2,16 @@
 import functools
 import os
 
-VARIABLES, PLACES = ("TMPDIR", "TEMP", "TMP"), ("/tmp", "/var/tmp", "/usr/tmp", os.curdir)
+VARIABLES, PLACES = ("TMPDIR", "TEMP", "TMP"), ("/tmp", "/var/tmp", "/usr/tmp")
 
 
 @functools.lru_cache(maxsize=None)
 def place():
-    """Returns the folder for temporary files: the first one that can be written to."""
-    places = [*filter(None, map(os.environ.get, VARIABLES)), *PLACES]
+    """Returns the folder for temporary files: the first one that can be written to. It is never in the current folder, which may be a
+    stranger's, unless the user names that by its whole path."""
+    places = [*filter(os.path.isabs, (os.environ.get(name, "") for name in VARIABLES)), *PLACES]
     usable = (it for it in places if os.path.isdir(it) and os.access(it, os.W_OK | os.X_OK))
-    return os.path.abspath(next(usable, PLACES[0]))
+    return next(usable, PLACES[0])
 
 
 def new_path(prefix, suffix="", folder=None):

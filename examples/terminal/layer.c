@@ -94,15 +94,19 @@ uint32_t start_layer(scm_session *session, const layer *layer, int terminal) {
 
 /* ---- Keys of the user's own ---- */
 
+const char *folder_named(const char *name) {
+    const char *folder = getenv(name);
+    return folder && *folder == '/' ? folder : NULL;
+}
+
 /* Sets `path` to that of the file of keys. Returns whether there may be one, and sets `is_named` if the user names it. */
 static bool path_of_keys(char *path, size_t room, bool *is_named) {
-    const char *named = getenv("SELECT_KEYS"), *settings = getenv("XDG_CONFIG_HOME"), *home = getenv("HOME");
+    const char *named = getenv("SELECT_KEYS"), *settings = folder_named("XDG_CONFIG_HOME"), *home = folder_named("HOME");
     *is_named = named && *named;
-    bool has_settings = settings && *settings == '/';
-    int length = *is_named      ? snprintf(path, room, "%s", named)
-                 : has_settings ? snprintf(path, room, "%s/gabrosty/keys", settings)
-                                : snprintf(path, room, "%s/.config/gabrosty/keys", home ? home : "");
-    return length < (int)room && (*is_named || has_settings || home);
+    int length = *is_named  ? snprintf(path, room, "%s", named)
+                 : settings ? snprintf(path, room, "%s/gabrosty/keys", settings)
+                            : snprintf(path, room, "%s/.config/gabrosty/keys", home ? home : "");
+    return length < (int)room && (*is_named || settings || home);
 }
 
 /* Returns the end of the word at `at`. */

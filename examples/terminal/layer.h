@@ -26,6 +26,10 @@ uint32_t open_layer(scm_session *session, const layer *layer, const text *json, 
  * call that failed, or SCM_DONE. */
 uint32_t start_layer(scm_session *session, const layer *layer, int terminal);
 
+/* Returns the folder that the variable `name` names by its whole path, or NULL: another path would lead to where the program was started,
+ * which may be a stranger's. */
+const char *folder_named(const char *name);
+
 /* Gives a session that has begun the keys of the user's own: those of the file that SELECT_KEYS names, or of gabrosty/keys in
  * XDG_CONFIG_HOME or in .config of the home, if it is there. Returns which line is wrong, and what to write, until the next call; or
  * returns NULL. */

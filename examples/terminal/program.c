@@ -6,6 +6,7 @@
 
 #include <signal.h>
 #include <stdio.h>
+#include <stdlib.h>
 
 void check(bool is_well, const char *what, const char *why) {
     int error = errno;
@@ -37,6 +38,9 @@ void hear_ends(void) {
 
 void read_environment(layer *layer) {
     const char *values = NULL, *name = read_layer(layer, &values);
+    if (!folder_named("TMPDIR")) {
+        unsetenv("TMPDIR"); /* then the library makes its files in /tmp */
+    }
     if (name) {
         say("%s is %s: write %s", name, getenv(name), values);
         exit(FAILED);

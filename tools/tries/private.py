@@ -13,6 +13,8 @@ from strangers import EDITOR, clear, editor, failing
 OTHER_GROUP, OTHER_USER = 65533, 65534
 LIST, LIST_OF_NEW = "system.posix_acl_access", "system.posix_acl_default"
 NO_ID = 0xFFFFFFFF
+# the bits that new files do not get
+MASK = 0o022
 
 
 def list_for(user, may, mask):
@@ -119,6 +121,21 @@ def a_file_with_a_list_of_users(place):
     return all(ends)
 
 
+def a_list_that_cannot_be_read(place):
+    """Where the disk does not say which list a file has, what is written is its owner's alone: also a folder that is made again, and what
+    is new. Where it only says that it keeps none, the permissions are what the bits say."""
+    ends = []
+    for error, bits, of_folder in (("EIO", 0o600, 0o700), ("ENOTSUP", 0o660, 0o770)):
+        left = place.folder("left", {"a": b"1\n", "b": b"1\n", "d/f": b"1\n"})
+        right = private_folder(place, "right", {"a": b"2\n", "d/e": b"2\n"}, 0o770)
+        for path in left + "/b", right + "/a":
+            os.chmod(path, 0o660)
+        end = failing(place, place.top, ("getxattr", "", error), EDITOR, "--output", right, right, left)
+        ends.append(end == (0, "") and changed.read(right) == {"a": b"1\n", "b": b"1\n", "d/f": b"1\n"})
+        ends.append([bits_at(right + path) for path in ("/a", "/b", "/d")] == [bits, bits & ~MASK, of_folder])
+    return all(ends)
+
+
 def a_new_file_where_git_keeps_a_list(place):
     """A new file of the working tree has no list, also if git's folder gives one to what is new in it. The new index has the group and the
     list of the old one. Skipped on a disk that keeps no lists."""
@@ -141,5 +158,5 @@ def a_new_file_where_git_keeps_a_list(place):
 
 ALL = (
     a_private_folder_that_is_made_anew, a_private_folder_that_is_put_back, a_file_of_another_group, a_file_with_a_list_of_users,
-    a_new_file_where_git_keeps_a_list,
+    a_list_that_cannot_be_read, a_new_file_where_git_keeps_a_list,
 )

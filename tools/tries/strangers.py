@@ -759,6 +759,23 @@ def no_home(place):
     return ends == [(1, said), (1, EDITOR + ": there is no writing that was cut off\n")] and changed.read(right) == {"a": b"2\n"}
 
 
+def folders_of_half_a_path(place):
+    """Where variables name folders by less than a whole path, no keys are taken from the current folder, which may be a stranger's, and no
+    temporary file is made there."""
+    left, right, half = place.folder("left", {"a": b"1\n"}), place.folder("right", {"a": b"2\n"}), {"HOME": ".", "TMPDIR": "own"}
+    keys = {"keys": b"w c\n"}
+    own, listed = place.folder("own", {"gabrosty/" + name: data for name, data in keys.items()}), os.path.join(place.top, "listed")
+    place.folder(".config/gabrosty", keys)
+    # the keys are such that the first one would accept, and the last one gives up
+    for settings in "", "own":
+        more = {**half, "SELECT_LAYER": "on", "XDG_CONFIG_HOME": settings}
+        if place.type(["scm-select", "-o", left + "/a", left + "/a", right + "/a"], ["space", "w", "q", "enter"], **more)[0] != 1:
+            return False
+    status, _ = editor(place, "--output", right, right, left, MEANWHILE="ls '%s' > '%s'" % (own, listed), **half)
+    with open(listed) as file:
+        return (status, file.read()) == (0, "gabrosty\n") and changed.read(left) == {"a": b"1\n"} == changed.read(right)
+
+
 def a_state_folder_of_a_clone(place):
     """Where XDG_STATE_HOME is a folder that a repository tracks, no plan in it is followed, though it fits in each part."""
     left, right = place.folder("left", {"a": b"1\n"}), place.folder("right", {"a": b"2\n"})
@@ -942,7 +959,8 @@ ALL = (
     a_lock_that_is_killed, folders_that_undo_leaves, a_new_file_for_hg, links_that_hg_hands_in, a_folder_on_a_disk_of_its_own,
     a_race_by_another_user, names_like_ours_beside_the_index, marks_that_are_no_text, marks_in_what_is_no_file, named_files_through_links,
     paths_that_git_refuses, what_git_says_beside_its_editor, files_that_have_too_much_together, a_lock_that_was_copied,
-    links_where_plans_are_kept, a_file_that_changes_unseen, no_home, a_home_of_another_user, a_state_folder_of_a_clone, a_race_for_a_new_folder,
+    links_where_plans_are_kept, a_file_that_changes_unseen, no_home, folders_of_half_a_path,
+    a_home_of_another_user, a_state_folder_of_a_clone, a_race_for_a_new_folder,
     links_of_another_user, a_file_of_another_user_in_time, a_spare_folder_that_others_may_read, a_lock_that_is_a_pipe,
     texts_of_many_megabytes, characters_that_disks_leave_out,
 )
