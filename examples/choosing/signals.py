@@ -27,7 +27,9 @@ def stop(number, _=None):
 
 
 def stop_on_signals():
-    """Has signals end the program as an error does, so that its temporary files are removed."""
+    """Has signals end the program as an error does, so that its temporary files are removed. How a program ends that this one runs is
+    heard, also if whoever began this one ignores that: else each of them would count as one that did well."""
+    signal.signal(signal.SIGCHLD, signal.SIG_DFL)
     for number in SIGNALS:
         if signal.getsignal(number) != signal.SIG_IGN:
             signal.signal(number, stop)

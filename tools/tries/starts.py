@@ -68,6 +68,23 @@ def standard_files_that_are_closed(place):
     return True
 
 
+def ends_that_are_ignored(place):
+    """Whoever began the program ignores how those end that it runs. What git could not do does not count as done: no file is taken back
+    that git has no stash of, and the front end that gave up wrote nothing."""
+    ignore = "import os, signal, sys; signal.signal(signal.SIGCHLD, signal.SIG_IGN); os.execvp(sys.argv[1], sys.argv[1:])"
+    how = {"stdout": subprocess.PIPE, "stderr": subprocess.STDOUT, "stdin": subprocess.DEVNULL, "start_new_session": True}
+    repository, ends = Repository(place, {"a": b"1\n"}, {"a": b"2\n"}), []
+    changed.write_file(os.path.join(repository.folder, ".git/refs/stash.lock"), b"")
+    for way, more in (("--stash", ACCEPTS), ("--restore", {"SELECT": "false"})):
+        # a shell may hear them again, so there is none
+        program = [sys.executable, "-IS", os.path.join(place.prefix, "bin/git-select"), way]
+        environment = {**os.environ, **place.environment, **more}
+        done = subprocess.run([sys.executable, "-c", ignore, *program], cwd=repository.folder, env=environment, **how)
+        ends.append(done.returncode == 1 and repository.files() == {"a": b"2\n"})
+    place.forget_marks()
+    return all(ends) and repository.is_sound()
+
+
 def a_help_that_cannot_be_written(place):
     """It is one line, and the status is 1."""
     ends = []
@@ -385,6 +402,6 @@ def what_is_loaded(place):
 
 
 ALL = (
-    a_module_of_the_clone, standard_files_that_are_closed, a_help_that_cannot_be_written, each_message, hostile_names,
+    a_module_of_the_clone, standard_files_that_are_closed, ends_that_are_ignored, a_help_that_cannot_be_written, each_message, hostile_names,
     a_front_end_that_is_killed, a_front_end_that_leaves_no_marks, marks_of_another_length, the_message_at_the_start, what_shells_complete, what_is_loaded,
 )
