@@ -48,4 +48,6 @@ def shown(path):
 def words_of(error):
     """Returns what an error says, in one line."""
     name, reason = getattr(error, "filename", None), getattr(error, "strerror", None)
-    return "%s: %s" % (shown(name), reason) if name else reason or str(error)
+    # of what is open an error has a number
+    is_named = isinstance(name, (str, bytes)) and name
+    return "%s: %s" % (shown(name), reason) if is_named else reason or str(error)

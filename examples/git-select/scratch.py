@@ -11,8 +11,10 @@ from choosing.temporary import new_folder, new_path
 from choosing.words import Stop
 from repository import index_lines, update_index
 
+# the words by which git runs no hook: what it writes is not the repository's
+NO_HOOKS = "-c", "core.hooksPath=" + os.devnull
 # the words by which git stores quickly what need not last
-FOR_NOW = "-c", "core.fsync=none", "-c", "core.compression=0"
+FOR_NOW = "-c", "core.fsync=none", "-c", "core.compression=0", *NO_HOOKS
 # of how many files that come and go git compares each with each, to find those that have another path
 MOST_COMPARED = 200
 # the words by which git gives objects by their names. It need not have a large one in memory

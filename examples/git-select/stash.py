@@ -9,6 +9,7 @@ from choosing.git import Git
 from choosing.waiting import waits
 from choosing.words import HalfDone, Stop, printable, shown
 from restore import Restore
+from scratch import NO_HOOKS
 from ways import Stage
 
 
@@ -30,7 +31,7 @@ class Trial(Git):
     writes to. `entries` are the paths, each with the mode and the bytes that the file has."""
 
     # what watches the repository's files knows nothing of these
-    options = "-c", "core.fsmonitor=false", "-c", "core.splitIndex=false"
+    options = "-c", "core.fsmonitor=false", "-c", "core.splitIndex=false", *NO_HOOKS
 
     def __init__(self, repository, scratch, index, folder, entries):
         import shutil

@@ -219,6 +219,17 @@ def hooks_around_a_commit(place):
     return all(ends)
 
 
+def no_hook_before_the_choice(place):
+    """No hook of the repository runs for what is written only to look at it: a user who gives up has run none."""
+    log = os.path.join(place.top, "log")
+    repository, ends = Repository(place, {"a": b"1\n", "c": b"1\n"}, {"a": b"2\r\n", "b": b"1\n"}), []
+    write_hook(repository, "post-index-change", "echo >> '%s'\n" % log)
+    for word, is_run in ("q", False), ("c", True):
+        # what is marked is asked for once more
+        ends.append(repository.select(keys=["a", word, "enter"])[0] == (not is_run) and os.path.exists(log) == is_run)
+    return all(ends) and repository.is_sound()
+
+
 def a_message_beside_a_template(place):
     """A message that is given as an option is no template: its lines that begin with # stay."""
     repository = Repository(place, {"a": b"1\n"}, {"a": b"2\n"})
@@ -249,5 +260,5 @@ ALL = (
     in_a_folder_with_a_strange_name, by_variables, with_the_files_elsewhere, with_long_names_of_objects,
     with_an_index_in_two_parts, with_a_sparse_index, what_the_working_tree_hides, modes_that_git_does_not_look_at,
     links_that_are_files, a_filter_in_both_ways, another_encoding, a_renamed_file_that_is_partly_staged, a_signed_commit,
-    hooks_around_a_commit, a_message_beside_a_template, with_the_layer,
+    hooks_around_a_commit, no_hook_before_the_choice, a_message_beside_a_template, with_the_layer,
 )

@@ -402,6 +402,19 @@ def a_spare_folder_that_stays(place):
     return all(ends) and place.has_left_nothing()
 
 
+def an_error_without_a_name(place):
+    """Where the system says of an open folder that it cannot be listed, that is one line, and the marks are kept."""
+    repository = Repository(place, {"a": b"1\n"}, {"a": b"2\n"})
+    fails, reason = ("listdir", "", "EIO"), "Input/output error"
+    _, said = failing(place, repository.folder, fails, "git-select")
+    is_kept = "git-select: %s: nothing was staged\ngit-select: your marks are kept; " % reason in said and said.count("\n") == 3
+    left, right = place.folder("left", OLD), place.folder("right", NEW)
+    ends = [failing(place, place.top, fails, EDITOR, "--output", right, left, right, *words) for words in ([], ["--undo"])]
+    clear(place)
+    is_one_line = all(status == 1 and said.endswith("%s: %s\n" % (EDITOR, reason)) and said.count("\n") == 2 for status, said in ends)
+    return is_kept and is_one_line and changed.read(right) == NEW
+
+
 def a_folder_that_others_write_into(place):
     """What someone puts into the folder that keeps what comes and goes is not removed, and stops nothing later."""
     repository = Repository(place, OLD, NEW)
@@ -955,7 +968,7 @@ def texts_of_many_megabytes(place):
 ALL = (
     a_clone_with_a_plan, a_folder_with_a_plan, plans_that_are_malformed, what_is_kept_and_changed, a_plan_that_fits_to_nothing,
     what_another_user_left, where_no_plan_can_be_kept, bits_that_set_a_user, permissions_of_new_files, what_becomes_a_fifo,
-    a_deep_folder, names_of_git_on_other_disks, a_spare_folder_that_stays, a_folder_that_others_write_into, two_files_that_are_cut_off,
+    a_deep_folder, names_of_git_on_other_disks, a_spare_folder_that_stays, an_error_without_a_name, a_folder_that_others_write_into, two_files_that_are_cut_off,
     a_lock_that_is_killed, folders_that_undo_leaves, a_new_file_for_hg, links_that_hg_hands_in, a_folder_on_a_disk_of_its_own,
     a_race_by_another_user, names_like_ours_beside_the_index, marks_that_are_no_text, marks_in_what_is_no_file, named_files_through_links,
     paths_that_git_refuses, what_git_says_beside_its_editor, files_that_have_too_much_together, a_lock_that_was_copied,
