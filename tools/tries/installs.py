@@ -149,7 +149,17 @@ def a_prefix_of_another_user(place):
     return is_refused and is_followed and call(UNINSTALL, top)[0] == 0 and changed.read(outside) == before
 
 
+def a_module_of_another(place):
+    """Whatever PYTHONPATH says, no module of the current folder is read, which may be a stranger's."""
+    planted = {name + ".py": b"open('ran', 'w')\n" for name in ("argparse", "contextlib", "os", "stat", "sitecustomize", "shutil", "signal")}
+    folder, top, ends = place.folder("clone", planted), os.path.join(place.top, "prefix"), []
+    for path in ".", "", ":":
+        how = {"cwd": folder, "stdout": subprocess.DEVNULL, "env": {**os.environ, "DESTDIR": "", "PYTHONPATH": path}}
+        ends += [subprocess.run(words, **how).returncode for words in ([PLACE, "--from", place.prefix, top], [UNINSTALL, top])]
+    return not any(ends) and changed.read(folder) == planted and not os.path.lexists(top)
+
+
 ALL = (
     a_reinstall_on_a_full_disk, with_a_mask_of_the_user, files_of_others, what_is_in_the_way, where_nothing_can_be_written,
-    an_install_that_is_stopped, a_prefix_of_another_user,
+    an_install_that_is_stopped, a_prefix_of_another_user, a_module_of_another,
 )
