@@ -2,6 +2,7 @@
 import functools
 import os
 
+own = []  # the folders for temporary files that this program has made
 VARIABLES, PLACES = ("TMPDIR", "TEMP", "TMP"), ("/tmp", "/var/tmp", "/usr/tmp")
 
 
@@ -23,7 +24,15 @@ def new_folder(prefix, folder=None):
     """Makes a folder for this user alone. Returns its path."""
     path = new_path(prefix, folder=folder)
     os.mkdir(path, 0o700)
+    own.append(path)
     return path
+
+
+def own_below(top):
+    """Returns the paths below the folder `top` of this program's own folders: the user may keep temporary files in what is compared."""
+    begin = os.path.join(os.path.realpath(top), "")
+    found = map(os.path.realpath, own)
+    return [path[len(begin) :] for path in found if path.startswith(begin)]
 
 
 def new_file(prefix, suffix):

@@ -15,6 +15,7 @@ from choosing.paths import is_own
 from choosing.permissions import permissions_of_both
 from choosing.plans import BESIDE, WITHIN
 from choosing.rooms import UserRoom
+from choosing.temporary import own_below
 from choosing.words import Stop, shown
 
 # what all files have together that differ, or that OUTPUT is given
@@ -33,9 +34,9 @@ IS_FOR_ONE_FILE = "GIT_DIFF_PATH_COUNTER" in os.environ
 
 
 def paths_below(files):
-    """Returns why what lies below a folder is left out, or None, by path. What OWN names is not among it, and a folder is only if it
-    is left out."""
-    spare = names_within(files)
+    """Returns why what lies below a folder is left out, or None, by path. What OWN names is not among it, nor this program's own folder
+    for temporary files, and a folder is only if it is left out."""
+    spare, hidden = names_within(files), own_below(files.top)
 
     def reason_against(path, status):
         if path in spare:
@@ -47,8 +48,8 @@ def paths_below(files):
             return "it is neither a file nor a link"
         return TOO_LARGE if is_file and status.st_size > MOST_BYTES else None
 
-    found = below(files.at, lambda path: path not in spare and not is_own(path.rpartition("/")[2]))
-    found = {path: status for path, status in found.items() if path.rpartition("/")[2] not in OWN}
+    found = below(files.at, lambda path: path not in spare and path not in hidden and not is_own(path.rpartition("/")[2]))
+    found = {path: status for path, status in found.items() if path not in hidden and path.rpartition("/")[2] not in OWN}
     reasons = {path: reason_against(path, status) for path, status in found.items()}
     return {path: reason for path, reason in reasons.items() if reason or not stat.S_ISDIR(found[path].st_mode)}
 

@@ -8,6 +8,7 @@ from choosing.files import Files
 from choosing.git import Git, reason_in, split_by_zeros
 from choosing.plans import KEPT
 from choosing.rooms import NAME, Room
+from choosing.temporary import own_below
 from choosing.waiting import counted
 from choosing.words import Stop, printable, shown
 from index import Index
@@ -308,12 +309,15 @@ class Repository(Git):
             self.git("stash", "drop", "--quiet")
 
     def untracked(self, paths, start):
-        """Returns the paths that only the working tree has, and what git said of folders that it cannot read."""
+        """Returns the paths that only the working tree has, but for this program's own, and what git said of folders that it cannot
+        read."""
         words = "ls-files", "-z", "--others", "--exclude-standard", "--full-name", "--"
         status, output, said = self.run(*words, *paths, folder=start)
         if status:
             raise Stop(reason_in(said))
-        return split_by_zeros(output), [printable(line) for line in os.fsdecode(said).splitlines()]
+        hidden = tuple(path + "/" for path in own_below(self.top))
+        found = [path for path in split_by_zeros(output) if not path.startswith(hidden)]
+        return found, [printable(line) for line in os.fsdecode(said).splitlines()]
 
     def reason_against(self, path):
         """Returns why what is at `path` now cannot be staged, or None if it can."""

@@ -5,7 +5,7 @@ import subprocess
 import time
 
 import changed
-from faults import ACCEPTS
+from faults import ACCEPTS, select
 from places import Repository
 from settings import UPPER, configure
 
@@ -50,6 +50,18 @@ def what_git_does_not_know(place):
         ends.append(paths_shown(place, repository, "-uno") == known)
     wrong = place.call("git", "select", "-usome", folder=repository.folder)
     return is_by_option and all(ends) and wrong[0] == 2 and repository.is_sound()
+
+
+def temporary_files_in_what_is_compared(place):
+    """If TMPDIR lies in the working tree, or in RIGHT, the program's own files there are not shown, also where it chooses twice."""
+    repository = Repository(place, {"a": b"1\n"}, {"a": b"2\n", "own/b": b"1\n"})
+    own = {"TMPDIR": os.path.join(repository.folder, "own")}
+    is_staged = select(repository, "--then", "stage", **own) == (0, "staged: a\nstaged: own/b\ngit-select: there is nothing to stage\n")
+    left, right = place.folder("left", {"a": b"1\n"}), place.folder("right", {"a": b"2\n", "own/b": b"1\n"})
+    words = ["gabrosty-diff-editor", "--output", left, left, right]
+    status, _ = place.type(words, ["a", "c"], TMPDIR=os.path.join(right, "own"))
+    is_written = status == 0 and sorted(changed.read(left)) == ["a", "own/b"]
+    return is_staged and is_written and os.listdir(own["TMPDIR"]) == ["b"] and repository.is_sound()
 
 
 def what_is_too_much_to_read(place):
@@ -218,6 +230,6 @@ def what_is_read_once(place):
 
 
 ALL = (
-    what_git_does_not_know, what_is_too_much_to_read, a_large_file_that_is_gone, a_large_file_that_changes, what_stands_for_a_large_file,
+    what_git_does_not_know, temporary_files_in_what_is_compared, what_is_too_much_to_read, a_large_file_that_is_gone, a_large_file_that_changes, what_stands_for_a_large_file,
     nothing_is_stored_before, as_git_add_stores_it, a_line_end_that_git_refuses, many_files, renamed_among_many, what_is_read_once,
 )
