@@ -18,6 +18,8 @@ NO_FILE = "it is neither a file nor a link"
 FALSE = "false", "no", "off", "0", ""
 SETTINGS = r"^(core\.(filemode|safecrlf)|status\.showuntrackedfiles)$"
 IS_ANOTHER = "%s is another folder by now"
+# git's letter for a path that a sparse working tree is not to have
+SKIPPED = "S"
 # what git says before a path that it passes over
 REFUSED = b"Ignoring path "
 
@@ -25,6 +27,11 @@ REFUSED = b"Ignoring path "
 def index_lines(entries):
     """Returns paths with their sides in the form that `git update-index --index-info` reads."""
     return os.fsencode("".join(["%s %s\t%s\0" % (side.mode, side.name, path) for path, side in entries]))
+
+
+def lines_of(paths):
+    """Returns paths as git reads them with -z."""
+    return os.fsencode("".join([path + "\0" for path in paths]))
 
 
 def update_index(git, entries, **more):
@@ -341,6 +348,22 @@ class Repository(Git):
     def unindexed(self):
         """Returns the paths that only the working tree has, with those that git is told to ignore."""
         return split_by_zeros(self.git("ls-files", "-z", "--others"))
+
+    def skipped(self, paths, index):
+        """Returns those of `paths` that a sparse working tree is not to have: as an index says, or of a path that it has not, git's rules."""
+        lines = split_by_zeros(self.git("ls-files", "-z", "-t", GIT_INDEX_FILE=index))
+        letters = {line[2:]: line[0] for line in lines}
+        found, missing = [path for path in paths if letters.get(path) == SKIPPED], [path for path in paths if path not in letters]
+        if missing and self.run("config", "--type=bool", "--get", "core.sparseCheckout")[1].strip() == b"true":
+            # before 2.41 git does not say it
+            status, output, _ = self.run("sparse-checkout", "check-rules", "-z", given=lines_of(missing))
+            found += sorted({*missing} - {*split_by_zeros(output)}) if status == 0 else []
+        return found
+
+    def skip(self, paths, index):
+        """Has an index say of its `paths` that the working tree is not to have them."""
+        if paths:
+            self.git("update-index", "-z", "--skip-worktree", "--stdin", given=lines_of(paths), GIT_INDEX_FILE=index)
 
     def update(self, entries, **more):
         """Writes paths with their sides into the index (see update_index)."""

@@ -188,10 +188,14 @@ class Stage(Way):
         """Puts `choices` in place, under the `lock` of the index. Returns what to report, and whether something was left."""
         taken = self.without_blocked(choices)
         if taken:
-            self.repository.update(self.stored(taken, self.now), GIT_INDEX_FILE=lock.copy)
+            self.put(self.stored(taken, self.now), lock.copy)
             lock.keep()
             self.written.append("the index")
         return self.reports(taken), len(taken) < len(choices)
+
+    def put(self, entries, index):
+        """Writes paths with their sides into an index."""
+        self.repository.update(entries, GIT_INDEX_FILE=index)
 
     def reports(self, choices):
         emptied = [choice.change.path for choice in choices if self.is_emptied(*choice)]
@@ -216,3 +220,9 @@ class Unstage(Stage):
 
     def read(self, scratch, only=None):
         return changed_in_index(self, scratch)
+
+    def put(self, entries, index):
+        # the working tree does not have each file of the index: what it is not to have would count as deleted there
+        skipped = self.repository.skipped([path for path, side in entries if side.mode != ABSENT], index)
+        super().put(entries, index)
+        self.repository.skip(skipped, index)

@@ -62,6 +62,8 @@ void hold_signals(sigset_t *before) {
     signal(SIGXFSZ, SIG_IGN);
     sigfillset(&held);
     sigdelset(&held, SIGXFSZ);
+    /* it says that a check failed */
+    sigdelset(&held, SIGILL);
     sigprocmask(SIG_BLOCK, &held, before);
 }
 

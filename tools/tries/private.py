@@ -17,9 +17,9 @@ NO_ID = 0xFFFFFFFF
 MASK = 0o022
 
 
-def list_for(user, may, mask):
+def list_for(user, may, mask, owner=6):
     """Returns a list as Linux keeps it: the owner may read and write, a single user has the rights `may`, and the group none."""
-    entries = (1, 6, NO_ID), (2, may, user), (4, 0, NO_ID), (16, mask, NO_ID), (32, 0, NO_ID)
+    entries = (1, owner, NO_ID), (2, may, user), (4, 0, NO_ID), (16, mask, NO_ID), (32, 0, NO_ID)
     return struct.pack("<I", 2) + b"".join(struct.pack("<HHI", *entry) for entry in entries)
 
 
@@ -108,7 +108,7 @@ def a_file_with_a_list_of_users(place):
     for failure, bits, lists in ((None, 0o640, {LIST: wanted}), (("setxattr", "", "ENOTSUP"), 0o600, {})):
         left = place.folder("left", {"a": b"1\n", "b": b"1\n", "c": b"1\n"})
         right = place.folder("right", {"a": b"2\n", "b": b"2\n"})
-        if not with_list(right + "/a", LIST, wanted) or not with_list(place.top, LIST_OF_NEW, list_for(OTHER_USER, 7, 7)):
+        if not with_list(right + "/a", LIST, wanted) or not with_list(place.top, LIST_OF_NEW, list_for(OTHER_USER, 7, 7, owner=7)):
             return "the disk keeps no lists of users"
         os.chmod(right + "/b", 0o640)
         with_list(left + "/c", LIST, list_for(OTHER_USER, 6, 6))
@@ -141,7 +141,7 @@ def a_new_file_where_git_keeps_a_list(place):
     list of the old one. Skipped on a disk that keeps no lists."""
     repository, ends = Repository(place, {"a": b"1\n", "b": ("run", b"1\n"), "d/c": b"1\n"}, {"a": b"1\n", "d/e": b"1\n"}), []
     own = os.path.join(repository.folder, ".git")
-    if not with_list(own, LIST_OF_NEW, list_for(OTHER_USER, 7, 7)):
+    if not with_list(own, LIST_OF_NEW, list_for(OTHER_USER, 7, 7, owner=7)):
         return "the disk keeps no lists of users"
     ends.append(select(repository, "--restore")[0] == 0)
     for name, bits in (("b", 0o755), ("d/c", 0o644)):

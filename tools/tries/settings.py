@@ -106,6 +106,29 @@ def with_a_sparse_index(place):
     return is_done and left == (["a", "in/a", "out/a", "out/b/c"], "") and not os.path.exists(repository.folder + "/out")
 
 
+def what_a_sparse_tree_has_not(place):
+    """What is taken out of the index where the working tree is not to have it does not count as deleted there, as with git reset. Before
+    2.41 git does not say whether it is to have a file that the index lacks."""
+    old, ends = {"a/x": b"1\n", "b/x": b"1\n", "b/y": b"1\n"}, []
+    repository = Repository(place, old, old)
+    says = repository.git("sparse-checkout", "check-rules", given=b"a/x\n", check=False)
+    for new in ({"a/x": b"2\n", "b/x": b"2\n", "b/y": b"2\n"}, {"a/x": b"2\n", "b/x": b"2\n"})[: 2 if says else 1]:
+        changed.write(repository.folder, new)
+        repository.commit()
+        last = repository.git("rev-parse", "HEAD").strip()
+        repository.git("reset", "--quiet", "--hard", "HEAD~")
+        repository.git("sparse-checkout", "set", "--cone", "a")
+        for unstage in lambda: repository.git("reset", "--quiet"), lambda: repository.select("--unstage", keys=["a", "c"]):
+            repository.git("cherry-pick", "--no-commit", last)
+            is_staged = len(repository.git("diff", "--cached", "--name-only").splitlines()) == 3
+            unstage()
+            ends.append(is_staged and repository.git("ls-files", "-t") == "H a/x\nS b/x\nS b/y\n")
+            ends.append(repository.git("status", "--porcelain") == " M a/x\n")
+            repository.git("reset", "--quiet", "--hard")
+        repository.git("sparse-checkout", "disable")
+    return all(ends) and repository.is_sound()
+
+
 def what_the_working_tree_hides(place):
     """A file that git is told to pass over is neither shown nor taken along."""
     for word, letter in (("--skip-worktree", "S"), ("--assume-unchanged", "h")):
@@ -258,7 +281,7 @@ def with_the_layer(place):
 
 ALL = (
     in_a_folder_with_a_strange_name, by_variables, with_the_files_elsewhere, with_long_names_of_objects,
-    with_an_index_in_two_parts, with_a_sparse_index, what_the_working_tree_hides, modes_that_git_does_not_look_at,
+    with_an_index_in_two_parts, with_a_sparse_index, what_a_sparse_tree_has_not, what_the_working_tree_hides, modes_that_git_does_not_look_at,
     links_that_are_files, a_filter_in_both_ways, another_encoding, a_renamed_file_that_is_partly_staged, a_signed_commit,
     hooks_around_a_commit, no_hook_before_the_choice, a_message_beside_a_template, with_the_layer,
 )
