@@ -1,15 +1,17 @@
 """gabrosty-diff-editor as jj, git difftool and hg extdiff call it, and with each of its options, for tools/try-tools."""
 import os
+import re
 import shutil
 import signal
 import stat
 import subprocess
 import sys
+import time
 
 import changed
 from choosing.records import records_in
 from faults import ACCEPTS, END_AT, MEND_PLACES
-from places import Repository
+from places import Repository, Typed
 
 NAME = "gabrosty-diff-editor"
 OLD, NEW = b"1\n2\n3\n", b"one\n2\nthree\n"
@@ -281,8 +283,37 @@ def writing_that_is_killed(place):
     return is_whole and all(ends) and is_none and count > 40 and any("writing was cut off" in words for words in told)
 
 
+def taken_up(place, said):
+    """Types `c` into the command that is said to take up the marks that were kept. Returns its status, or None if none is named."""
+    found = re.search(r"your marks are kept; to take them up: (.*?)\r?\n", said)
+    status = place.type(["sh", "-c", found[1]], ["c"])[0] if found else None
+    place.forget_marks()
+    return status
+
+
+def marks_that_are_kept(place):
+    """Where something is refused, or the front end is killed, a command is named that takes up the marks, whatever --mark-all says. A name
+    that a shell would take for more is quoted."""
+    script, pid, ends = file_in(place.top, "front", b'#!/bin/sh\necho $$ > "$PID_FILE"\nexec scm-select "$@"\n', 0o755), place.top + "/pid", []
+    left, right = place.folder("left $(id)", {"a": OLD, "b": OLD}), place.folder("right", {"a": NEW, "b": NEW})
+    typed = Typed([NAME, "--mark-all", left, right], 60, 24, {**place.environment, "SELECT": script, "PID_FILE": pid}, place.top)
+    # the first file alone is left unmarked
+    typed.press("space")
+    # the marks are kept where the user rests
+    time.sleep(1)
+    os.kill(int(read_data(pid)), signal.SIGKILL)
+    ends.append(typed.end() == 1 and taken_up(place, typed.said()) == 0 and changed.read(right) == {"a": OLD, "b": NEW})
+    changed.write(right, {"a": NEW, "b": NEW})
+    change = lambda: changed.write_file(right + "/b", OLD)  # noqa: E731
+    status, said = place.type([NAME, left, right], ["space", "j", "j", "c"], before_last=change)
+    changed.write_file(right + "/b", NEW)
+    ends.append(status == 1 and "b changed meanwhile: nothing was written" in said and taken_up(place, said) == 0)
+    ends.append(changed.read(right) == {"a": NEW, "b": OLD})
+    return all(ends) and place.has_left_nothing()
+
+
 ALL = (
     two_files, a_file_that_comes_or_goes, what_are_not_two_of_a_kind, a_file_that_changed_meanwhile, git_difftool_on_one_file,
     hg_extdiff, a_third_folder, a_third_file, nothing_is_written, everything_is_marked_first, without_git, the_words_of_jj,
-    lines_of_a_conflict, writing_that_is_killed,
+    lines_of_a_conflict, writing_that_is_killed, marks_that_are_kept,
 )
