@@ -1,6 +1,7 @@
 /* Merges two changed versions of a file in a terminal, over the library for C: reads three files, has the user settle the conflicts, and
  * writes the merge. No proof covers this file, nor those beside it, of which it is made. */
 #define _GNU_SOURCE
+#include "again.h"
 #include "keys.h"
 #include "merging.h"
 #include "program.h"
@@ -19,6 +20,7 @@ static const char HELP[] =
     "  --path NAME            the name of the file that is shown, if it is not that of OUTPUT\n"
     "  --base-label LABEL, --ours-label LABEL, --theirs-label LABEL\n"
     "                         what is shown of a version, as the name of its branch\n"
+    "  --marks FILE           take up the marks of a run that was cut off: it says where they are\n"
     "  --markers              write the merge also if conflicts are open, with conflict markers around these; the status is 1\n"
     "  --version, --help      print the version, or this text\n\n"
     "The status is 0 if the merge was written, 1 if you left it or conflicts are open, and 2 for an error. Unless it is 0, OUTPUT stays,\n"
@@ -40,6 +42,8 @@ typedef struct task {
     target target;                             /* OUTPUT, in a folder that is open */
     mode_t permissions;                        /* that all files have that were read */
     bool has_markers;                          /* the merge is written also if conflicts are open */
+    const char *marks;                         /* the file with marks that are taken up, or NULL */
+    kept_marks kept;                           /* where marks are kept while the user chooses */
     labels labels;
     layer layer;
     merge merge;
@@ -69,6 +73,31 @@ static void read_versions(task *task) {
     read_version(task->theirs, &merge->theirs, &task->permissions);
     check_code(find_conflicts(merge), "the files cannot be compared");
     task->open = merge->conflicts;
+}
+
+/* Gives the conflicts the marks that were kept, if the user names a file of them. */
+static void take_up_marks(task *task, uint64_t known) {
+    text lines = {0}, *marks = &task->merge.marks;
+    const char *why = task->marks ? read_marks(task->marks, known, &lines) : NULL;
+    check(!why, task->marks, why);
+    piece left = {lines.bytes, lines.length}, found = next_marks(&left);
+    if (task->marks) {
+        check(found.length == marks->length, task->marks, "it has not the marks of each conflict");
+        memcpy(marks->bytes, found.bytes, found.length);
+        check_code(count_open(&task->merge, &task->open), "cannot go on");
+    }
+    free(lines.bytes);
+}
+
+/* Has the marks be kept while the user chooses, and takes up those that were kept. */
+static void begin_keeping(task *task) {
+    const text *versions[] = {&task->merge.base, &task->merge.ours, &task->merge.theirs};
+    uint64_t known = KNOWN_BY_NOTHING;
+    for (size_t i = 0; i < sizeof versions / sizeof *versions; i++) {
+        known = known_by(known, (piece){versions[i]->bytes, versions[i]->length});
+    }
+    take_up_marks(task, known);
+    task->kept = begin_marks(known_by(KNOWN_BY_NOTHING, (piece){task->output, strlen(task->output)}), known, task->marks);
 }
 
 /* ---- What is shown ---- */
@@ -124,6 +153,12 @@ static void follow_marks(void *context, scm_session *session) {
     }
 }
 
+/* Keeps the marks where the user rests. */
+static void keep_here(void *context, scm_session *session) {
+    task *task = context;
+    keep_now(&task->kept, session);
+}
+
 /* Goes to the next open conflict, or to the previous one. */
 static void press_key(void *context, scm_session *session, uint32_t key) {
     const task *task = context;
@@ -140,9 +175,10 @@ static void press_key(void *context, scm_session *session, uint32_t key) {
 static bool run(scm_session *session, task *task, int terminal) {
     text title = {0};
     const char *asked = getenv("SELECT_TITLE");
-    const scm_hooks hooks = {.context = task, .changed = follow_marks, .pressed = press_key};
+    bool is_on = task->layer.is_on;
+    const scm_hooks hooks = {task, is_on ? follow_marks : NULL, keep_here, is_on ? press_key : NULL};
     check(append_words(&title, NAME ": ") && add_count(&title, task), "cannot go on", NULL);
-    bool is_there = run_in_terminal(session, terminal, asked ? asked : title.bytes, task->layer.is_on ? &hooks : NULL);
+    bool is_there = run_in_terminal(session, terminal, asked ? asked : title.bytes, &hooks);
     free(title.bytes);
     return is_there;
 }
@@ -215,11 +251,15 @@ static bool choose(task *task, int terminal, int *status) {
  * status. */
 static int settle(task *task) {
     int terminal = open_terminal(), status = GIVEN_UP, letter = 0;
+    bool is_accepted;
+    begin_keeping(task);
     do {
-        if (!choose(task, terminal, &status)) {
-            return status;
-        }
-    } while (task->open > 0 && !leaves_open(letter = ask(task, terminal)));
+        is_accepted = choose(task, terminal, &status);
+    } while (is_accepted && task->open > 0 && !leaves_open(letter = ask(task, terminal)));
+    end_marks(&task->kept);
+    if (!is_accepted) {
+        return status;
+    }
     bool has_open = task->open > 0, is_written = !has_open || (task->has_markers && letter > 0);
     if (is_written) {
         write_output(task);
@@ -241,7 +281,8 @@ static int read_options(int argc, char **argv, task *task) {
         {"path", required_argument, NULL, 'p'},       {"base-label", required_argument, NULL, 'B'},
         {"ours-label", required_argument, NULL, 'O'}, {"theirs-label", required_argument, NULL, 'T'},
         {"markers", no_argument, NULL, 'm'},          {"help", no_argument, NULL, 'h'},
-        {"version", no_argument, NULL, 'v'},          {0},
+        {"version", no_argument, NULL, 'v'},          {"marks", required_argument, NULL, 'k'},
+        {0},
     };
     int letter;
     opterr = 0;
@@ -254,6 +295,7 @@ static int read_options(int argc, char **argv, task *task) {
         case 'O': task->labels.ours = (piece){optarg, strlen(optarg)}; break;
         case 'T': task->labels.theirs = (piece){optarg, strlen(optarg)}; break;
         case 'm': task->has_markers = true; break;
+        case 'k': task->marks = optarg; break;
         default: return letter;
         }
     }

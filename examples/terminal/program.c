@@ -32,7 +32,7 @@ void fill_standard_files(void) {
 }
 
 void hear_ends(void) {
-    hear_failed_checks();
+    hear_failures();
     signal(SIGCHLD, SIG_DFL); /* else the editor's status would be lost */
 }
 

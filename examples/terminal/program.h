@@ -19,7 +19,7 @@ void check_code(uint32_t code, const char *what);
 /* Fills the places of standard files that are closed, so that no other file comes there. */
 void fill_standard_files(void);
 
-/* Has the program end as others do: it says where a check that is compiled in fails, and hears how a program that it runs has ended. */
+/* Has the program end as others do: it says where it fails itself, and hears how a program that it runs has ended. */
 void hear_ends(void);
 
 /* Reads the environment into `layer`. Says so and exits if a variable has a value of another form. */

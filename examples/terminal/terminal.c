@@ -1,6 +1,7 @@
 /* Selects changes in a terminal, over the library for C: reads files, folders or a state, runs it, and writes what was accepted. No
  * proof covers this file, nor those beside it, of which it is made. */
 #define _GNU_SOURCE
+#include "again.h"
 #include "decided.h"
 #include "handed.h"
 #include "kept.h"
@@ -20,14 +21,15 @@
 #include <unistd.h>
 
 static const char HELP[] =
-    "usage: " NAME " [-o FILE] OLD NEW\n"
-    "       " NAME " -d LEFT RIGHT\n"
+    "usage: " NAME " [-o FILE] [--marks FILE] OLD NEW\n"
+    "       " NAME " -d [--marks FILE] LEFT RIGHT\n"
     "       " NAME " [-o FILE] STATE.json\n"
     "       " NAME " --changes CHANGES ACCEPTED\n"
     "       " NAME " --decide < ROWS\n\n"
     "Shows how the file NEW differs from OLD, and writes OLD with the changes that you mark to FILE, or to standard output.\n"
     "With -d, LEFT and RIGHT are folders, and RIGHT then has what LEFT has with the changes that you mark.\n"
-    "A state has changes as JSON. With --json, what you accept is written in that form, also of files and folders.\n\n"
+    "A state has changes as JSON. With --json, what you accept is written in that form, also of files and folders.\n"
+    "--marks takes up the marks of a run that was cut off: it says where they are.\n\n"
     "The status is 0 for accepted changes, 1 if you gave up, and 2 for an error.\n\n"
     KEYS
     "\nSELECT_THEME is dark, light, sixteen or none, and NO_COLOR none; SELECT_START is as-is, folded, open or fit. Keys of your own are in\n"
@@ -44,6 +46,8 @@ typedef struct task {
     bool is_as_json;
     const char *from, *to; /* the paths of what is shown; `to` is NULL for a state */
     const char *output;    /* the file to write to, or NULL for standard output */
+    const char *marks;     /* the file with marks that are taken up, or NULL */
+    uint64_t known;        /* by what the two versions that are shown are known */
     mode_t permissions;    /* that all files have that were read */
     layer layer;
     text bytes;            /* of the state, or of what was handed in */
@@ -55,8 +59,15 @@ typedef struct task {
 /* How many bytes of a file take so long to be compared that the user is told. */
 enum { MANY_BYTES = 1 << 22 };
 
+/* Has a version be known. */
+static uint64_t known_version(uint64_t known, const version *version) {
+    uint64_t mode = version->mode;
+    return known_by(known_by(known, (piece){(const char *)&mode, sizeof mode}), version->bytes);
+}
+
 /* Adds a change to the state. On a terminal it says meanwhile what takes long. If a line is too long to be shown, says so. */
-static void add(scm_session *session, const task *task, change *change) {
+static void add(scm_session *session, task *task, change *change) {
+    task->known = known_version(known_version(known_by(task->known, change->path), &change->old), &change->new);
     if (task->is_as_json && task->form != HANDED_IN) {
         show_modes(change);
     }
@@ -121,8 +132,24 @@ static void open_handed(scm_session *session, task *task) {
     }
 }
 
+/* Gives the files the marks that were kept, if the user names a file of them. */
+static void take_up_marks(scm_session *session, const task *task) {
+    text lines = {0};
+    size_t files = 0;
+    const char *why = task->marks ? read_marks(task->marks, task->known, &lines) : NULL;
+    check(!why, task->marks, why);
+    piece left = {lines.bytes, lines.length};
+    check_code(scm_files(session, &files), "cannot go on");
+    for (size_t i = 0; task->marks && i < files; i++) {
+        piece marks = next_marks(&left);
+        check(scm_state_marks(session, i, marks.bytes, marks.length) == SCM_DONE, task->marks, "it has not the marks of each file");
+    }
+    free(lines.bytes);
+}
+
 /* Begins a session over the state that was made. */
 static void begin(scm_session *session, task *task) {
+    take_up_marks(session, task);
     uint32_t code = begin_layer(session, &task->layer, WIDTH, HEIGHT);
     check(code != SCM_NOT_ACCEPTED, task->to, "there are too many lines to be shown: hand in fewer files");
     check_code(code, task->to);
@@ -226,8 +253,24 @@ static void show_message(scm_session *session, const task *task) {
     }
 }
 
+/* Keeps the marks where the user rests. */
+static void keep_here(void *marks, scm_session *session) { keep_now(marks, session); }
+
+/* Runs the session on the terminal, while its marks are kept for another run. Returns whether the terminal is still there. */
+static bool run_again(scm_session *session, const task *task, int terminal) {
+    uint64_t name = known_by(KNOWN_BY_NOTHING, (piece){task->from, strlen(task->from)});
+    kept_marks marks = begin_marks(known_by(name, (piece){task->to, strlen(task->to)}), task->known, task->marks);
+    const scm_hooks hooks = {.context = &marks, .rested = keep_here};
+    bool is_there = run_in_terminal(session, terminal, getenv("SELECT_TITLE"), &hooks);
+    end_marks(&marks);
+    return is_there;
+}
+
 /* Runs the session on the terminal. Of changes that were handed in the marks are kept meanwhile. Returns whether the terminal is still there. */
 static bool run(scm_session *session, const task *task, int terminal) {
+    if (task->form == TWO_FILES || task->form == TWO_FOLDERS) {
+        return run_again(session, task, terminal);
+    }
     bool is_kept = task->form == HANDED_IN && !task->is_as_json;
     keeper keeper = is_kept ? begin_keeping(task->output, &task->handed) : (struct keeper){.file = -1};
     const scm_hooks hooks = {.context = &keeper, .rested = keep_on};
@@ -268,7 +311,8 @@ static int read_options(int argc, char **argv, task *task) {
     static const struct option options[] = {
         {"dir-diff", no_argument, NULL, 'd'}, {"output", required_argument, NULL, 'o'}, {"json", no_argument, NULL, 'j'},
         {"changes", no_argument, NULL, 'c'},  {"help", no_argument, NULL, 'h'},         {"version", no_argument, NULL, 'v'},
-        {"decide", no_argument, NULL, 'D'},   {0},
+        {"decide", no_argument, NULL, 'D'},   {"marks", required_argument, NULL, 'm'},
+        {0},
     };
     int letter;
     opterr = 0;
@@ -281,6 +325,7 @@ static int read_options(int argc, char **argv, task *task) {
         case 'c': task->form = HANDED_IN; break;
         case 'j': task->is_as_json = true; break;
         case 'o': task->output = optarg; break;
+        case 'm': task->marks = optarg; break;
         default: return letter;
         }
     }
@@ -291,7 +336,8 @@ static int read_options(int argc, char **argv, task *task) {
 static void read_paths(int count, char **paths, task *task) {
     bool is_state = task->form == TWO_FILES && count == 1;
     bool has_output = task->form == TWO_FOLDERS && !task->is_as_json && task->output;
-    check((count == 2 || is_state) && !has_output, "wrong arguments", "try " NAME " --help");
+    bool has_marks = task->marks && (is_state || task->form == HANDED_IN);
+    check((count == 2 || is_state) && !has_output && !has_marks, "wrong arguments", "try " NAME " --help");
     task->form = is_state ? A_STATE : task->form;
     task->from = paths[0];
     task->to = is_state ? NULL : paths[1];

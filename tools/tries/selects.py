@@ -3,6 +3,7 @@ import json
 import os
 import pathlib
 import shutil
+import signal
 import subprocess
 import threading
 import time
@@ -418,10 +419,55 @@ def links_as_json(place):
     return sides == ["120000", "100644", "100644", "120000", "120000", "<absent>"] and changed.read(right) == link
 
 
+def cut_off(place, number, *command):
+    """Types `space` into a command, and kills it by a signal. Returns what it said, and the file in which its marks are."""
+    # at the first conflict, or the first file
+    typed = Typed(command, 60, 24, {**place.environment, "SELECT_LAYER": "on"}, place.top)
+    typed.press("space")
+    # the marks are kept where the user rests
+    time.sleep(1)
+    os.kill(typed.process, number)
+    is_killed = typed.end() == -number
+    kept = [os.path.join(place.temporary, name) for name in os.listdir(place.temporary)]
+    is_given_back = number == signal.SIGKILL or typed.seen.rpartition(b"\x1b[?1049l")[1]
+    return typed.said() if is_killed and is_given_back else "", kept[0] if len(kept) == 1 else "none"
+
+
+def is_named(place, said, program, path, words, command):
+    """Whether the file of the marks is named where the program failed, or where it was killed by the next call."""
+    kept = "%s: your marks are kept; to take them up: --marks %s\n" % (program, path)
+    left = "%s: a run was cut off, and its marks are kept; to take them up: --marks %s\n" % (program, path)
+    return words in said and kept in said if words else left in place.type(command, ["q", "enter"])[1]
+
+
+def marks_of_a_run_that_was_cut_off(place):
+    """Where a check fails, where the program itself does, and where it is killed: another run takes up the marks. Where what is shown has
+    changed, it says so. At the end no file is left."""
+    left, right = place.folder("left", {"a": OLD, "b": OLD}), place.folder("right", {"a": NEW, "b": NEW})
+    versions = [os.path.join(place.top, name) for name in ("base", "ours", "theirs", "merged")]
+    for path, data in zip(versions, (b"1\n", b"2\n", b"3\n", b"")):
+        changed.write_file(path, data)
+    # each with other paths, of which the marks are not
+    calls = {"scm-select": (["-d", left, right], ["-d", right, left]), "gabrosty-merge-tool": (versions, [versions[1], versions[0], *versions[2:]])}
+    ends, words = [], {signal.SIGILL: "a check that is compiled in failed", signal.SIGSEGV: "the program failed, and ends", signal.SIGKILL: ""}
+    for program, (paths, others) in calls.items():
+        for number in words:
+            changed.write(right, {"a": NEW, "b": NEW})
+            changed.write_file(versions[3], b"")
+            said, path = cut_off(place, number, program, *paths)
+            ends.append(is_named(place, said, program, path, words[number], [program, *paths]))
+            ends.append(place.type([program, "--marks", path, *others], [])[0] == 2 and os.path.exists(path))
+            ends.append(place.type([program, "--marks", path, *paths], ["c"])[0] == 0)
+            os.unlink(path)
+            is_chosen = (changed.read(right), data_of(versions[3])) in (({"a": NEW, "b": OLD}, b""), ({"a": NEW, "b": NEW}, b"2\n"))
+            ends.append(is_chosen and not os.listdir(place.temporary))
+    return all(ends)
+
+
 ALL = (
     two_files_alone, contents_of_all_kinds, two_equal_files, what_is_wrong, a_path_like_an_option, as_json, folders_with_more,
     permissions_of_what_is_new, links_in_the_way, a_spare_folder_that_is_swapped, names_that_hide_nothing, names_of_git_and_jj,
     a_deep_tree, files_that_change_while_they_are_read, what_is_said_of_each_kind, a_text_in_the_place_of_a_link,
-    what_accepting_does, links_as_json,
+    what_accepting_does, links_as_json, marks_of_a_run_that_was_cut_off,
 )
 EACH = folders_of_each_kind,
