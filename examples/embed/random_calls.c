@@ -440,14 +440,21 @@ static size_t random_mode(void) {
     return modes[random_below(sizeof modes / sizeof *modes)];
 }
 
-/* Whatever a side is, a tree has one of the modes that are given, and a renamed file is at one of its paths. */
-static void check_modes(void) {
-    size_t old = random_mode(), new = random_mode(), mode = random_mode();
-    size_t found = scm_tree_mode(random_below(2), old, new, mode, random_below(2));
-    assert(found == old || found == new || found == mode || found == SCM_ABSENT);
-    bool is_version = old != SCM_ABSENT && new != SCM_ABSENT;
-    bool is_old = scm_renamed_mode(false, old, new, mode) != SCM_ABSENT, is_new = scm_renamed_mode(true, old, new, mode) != SCM_ABSENT;
-    assert(!is_version || is_old != is_new);
+/* Whatever a side is, a tree has one of the modes that are given, and a renamed file is at one of its paths. If a state has no items of a file,
+ * its versions do not differ. */
+static void check_sides(void) {
+    scm_changed changed = {random_mode(), random_mode(), (uint32_t)random_below(4), random_below(2)};
+    scm_side_info side = {(uint32_t)random_below(3), random_mode(), random_below(2)};
+    scm_in_tree found;
+    scm_shown shown;
+    scm_tree_side(&changed, random_below(2), &side, &found);
+    bool is_known = found.mode == changed.old_mode || found.mode == changed.new_mode || found.mode == side.mode;
+    assert((is_known || found.mode == SCM_ABSENT) && found.contents <= SCM_OF_NEW);
+    bool is_both = changed.is_renamed && changed.old_mode != SCM_ABSENT && changed.new_mode != SCM_ABSENT;
+    assert(is_both ? (found.mode != SCM_ABSENT) != (found.old_path_mode != SCM_ABSENT) : found.old_path_mode == SCM_ABSENT);
+    scm_tree_shown(&changed, true, &shown);
+    assert(shown.has_mode == (shown.old_mode != shown.new_mode));
+    assert(shown.has_mode || shown.has_contents || changed.shown == SCM_BY_LINES || changed.shown > SCM_BY_ONE_ITEM || is_both);
 }
 
 /* Decides what becomes of random rows, in a buffer that may be too short. */
@@ -462,7 +469,7 @@ static uint32_t decide(void) {
         check_decided(out, length);
     }
     assert(scm_path_fault(rows, count) <= SCM_PATH_WITH_NUL);
-    check_modes();
+    check_sides();
     return code;
 }
 

@@ -471,14 +471,27 @@ def check_escape():
     assert refused(lambda: session.is_escape_pending) == "closed"
 
 
+def check_sides():
+    """What a tree has of a changed file by a side, and what a state is given of such a file."""
+    text, run, link = 0o100644, 0o100755, 0o120000
+    found = scm.tree_side(link, text, scm.BY_LINES, (scm.UNCHANGED, scm.ABSENT, 0))
+    assert (found.mode, found.old_path_mode, found.contents) == (link, scm.ABSENT, scm.OF_OLD)
+    found = scm.tree_side(scm.ABSENT, text, scm.BY_LINES, (scm.TEXT, scm.ABSENT, 5), is_selected=False)
+    assert (found.mode, found.contents) == (text, scm.OF_SIDE)
+    found = scm.tree_side(run, text, scm.BY_ITEMS, (scm.BINARY, 0o755, 0), is_renamed=True)
+    assert (found.mode, found.old_path_mode, found.contents) == (scm.ABSENT, run, scm.OF_NEW)
+    shown = scm.tree_shown(scm.ABSENT, text, scm.BY_ONE_ITEM)
+    assert (shown.old_mode, shown.new_mode, shown.has_mode, shown.has_contents) == (text, text, False, True)
+    assert is_no_number(scm.tree_shown, -1, text, scm.BY_LINES)
+
+
 def check_trees():
     """What becomes of paths, also of so many that the answer has to be asked for again. And which paths are refused."""
     assert scm.decide(b"-nn a/b\0o-o a\0") == b"o a\0- a/b\0x a/b\0y a\0" and scm.decide(b"") == b""
     many = [b"f%d" % number for number in range(2000)]
     found = scm.decide(b"".join(b"onn %s\0" % path for path in many))
     assert sorted(found.split(b"\0")[:-1]) == sorted(b"n " + path for path in many)
-    assert scm.tree_mode(False, scm.ABSENT, 0o100644, scm.ABSENT, False) == scm.renamed_mode(True, 0o100755, 0o100644, 0o100644) == 0o100644
-    assert scm.tree_mode(True, 0o120000, 0o100644, scm.ABSENT, True) == 0o120000 and scm.renamed_mode(True, 1, 2, 3) == scm.ABSENT
+    check_sides()
     assert [scm.path_fault(path) for path in (b"a/b", b"a/../b", b".Git", b"a\0b")] == ["", "dot_dot", "of_git", "with_nul"]
 
 

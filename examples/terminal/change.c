@@ -43,31 +43,27 @@ void show_modes(change *change) {
     change->has_lines = change->has_lines && !is_link_and_file(change);
 }
 
-/* Returns a version as its lines are shown: a link beside them counts as no file. So lines are chosen as those of a file that is new or
- * deleted, and no link is ever made of a part of its target. */
-static version shown_version(const change *change, const version *version) {
-    static const struct version none = {SCM_ABSENT, {"", 0}, {"", 0}};
-    return change->has_lines && is_link_and_file(change) && is_link(version) ? none : *version;
+/* Returns a change as the library decides how it is shown, and what a tree has of it. Its contents are one item with the mode if it has words
+ * for the new ones, and the mode is no item of its own. */
+static scm_changed changed_of(const change *change) {
+    bool has_words = !change->has_modes && change->new.words.length > 0;
+    uint32_t shown = change->has_lines ? SCM_BY_LINES : has_words ? SCM_BY_ONE_ITEM : SCM_BY_ITEMS;
+    return (scm_changed){change->old.mode, change->new.mode, shown, change->old_path.length > 0};
 }
 
-/* Returns whether contents that are no text come and go with the mode. */
-static bool is_with_mode(const change *change) {
-    bool is_other_kind = is_absent(&change->old) || is_absent(&change->new) || is_link(&change->old) || is_link(&change->new);
-    return change->old.mode != change->new.mode && is_other_kind;
+/* Returns what a state is to be given of a change. */
+static scm_shown shown_as(const change *change) {
+    scm_changed changed = changed_of(change);
+    scm_shown shown;
+    /* bytes that were not handed in differ if the words for them do */
+    bool is_other = !are_equal(change->old.bytes, change->new.bytes) || !are_equal(change->old.words, change->new.words);
+    scm_tree_shown(&changed, is_other, &shown);
+    return shown;
 }
 
-/* Returns whether the item of such contents has words for what comes, in the place of a mode. */
-static bool has_words(const change *change) {
-    bool can_be_named = !change->has_lines && !change->has_modes && change->old_path.length == 0;
-    return can_be_named && is_with_mode(change) && !is_absent(&change->new) && change->new.words.length > 0;
-}
-
-/* Returns the mode from which the selector shows a change. The new path of a renamed file is an item: that of a change of mode, from
- * one that no file has. */
-static size_t mode_before(const change *change) {
-    size_t old_mode = shown_version(change, &change->old).mode;
-    return change->old_path.length > 0 ? change->old.mode & ~(size_t)KIND : has_words(change) ? change->new.mode : old_mode;
-}
+/* Returns the lines of a version that is shown with this mode: of no file there are none. So no link is ever made of a part of its
+ * target. */
+static piece lines_of(const version *version, size_t mode) { return mode == SCM_ABSENT ? (piece){"", 0} : version->bytes; }
 
 /* ---- What the file is, in words ---- */
 
@@ -177,7 +173,8 @@ static uint32_t compare_lines(piece old, piece new, size_t *count) {
 
 /* Sets `count` to the number of changed lines. */
 static uint32_t count_changed(const change *change, size_t *count) {
-    piece old = shown_version(change, &change->old).bytes, new = shown_version(change, &change->new).bytes;
+    scm_shown shown = shown_as(change);
+    piece old = lines_of(&change->old, shown.old_mode), new = lines_of(&change->new, shown.new_mode);
     leave_common(&old, &new);
     if (old.length > 0 && new.length > 0) {
         return count_own_lines(old, new, count) ? SCM_DONE : compare_lines(old, new, count);
@@ -196,7 +193,8 @@ static bool add_word(text *note, bool is_so, const char *word) { return !is_so |
 /* Adds how many lines come and go, if any do. */
 static uint32_t add_counts(text *note, const change *change) {
     size_t changed = 0;
-    size_t old = lines_in(shown_version(change, &change->old).bytes), new = lines_in(shown_version(change, &change->new).bytes);
+    scm_shown shown = shown_as(change);
+    size_t old = lines_in(lines_of(&change->old, shown.old_mode)), new = lines_in(lines_of(&change->new, shown.new_mode));
     uint32_t code = change->has_lines ? count_changed(change, &changed) : SCM_DONE;
     if (code != SCM_DONE || changed == 0) {
         return code;
@@ -254,18 +252,15 @@ static uint32_t make_title(text *title, const change *change) {
 
 /* ---- To a state ---- */
 
-/* Adds a file whose contents are not shown by lines: its mode if that changes, and its contents if they do not go with the mode, or have
- * words for both. */
+/* Adds a file whose contents are not shown by lines. */
 static uint32_t add_items(scm_session *session, piece title, const change *change) {
     piece old = change->old.words, new = change->new.words, old_path = change->old_path;
-    size_t before = mode_before(change);
-    /* bytes that were not handed in differ if the words for them do */
-    bool is_other = !are_equal(change->old.bytes, change->new.bytes) || !are_equal(old, new);
-    uint32_t code = scm_state_file(session, title.bytes, title.length, old_path.bytes, old_path.length, before);
-    if (code == SCM_DONE && before != change->new.mode) {
-        code = scm_state_mode(session, false, change->new.mode);
+    scm_shown shown = shown_as(change);
+    uint32_t code = scm_state_file(session, title.bytes, title.length, old_path.bytes, old_path.length, shown.old_mode);
+    if (code == SCM_DONE && shown.has_mode) {
+        code = scm_state_mode(session, false, shown.new_mode);
     }
-    if (code == SCM_DONE && is_other && (!is_with_mode(change) || has_words(change))) {
+    if (code == SCM_DONE && shown.has_contents) {
         code = scm_state_binary(session, false, old.bytes, old.length, new.bytes, new.length);
     }
     return code;
@@ -273,9 +268,10 @@ static uint32_t add_items(scm_session *session, piece title, const change *chang
 
 /* Adds a file by its two versions. */
 static uint32_t add_texts(scm_session *session, piece path, const change *change) {
-    version old = shown_version(change, &change->old), new = shown_version(change, &change->new);
-    return scm_state_texts(session, path.bytes, path.length, change->old_path.bytes, change->old_path.length, old.bytes.bytes,
-                           old.bytes.length, mode_before(change), new.bytes.bytes, new.bytes.length, new.mode);
+    scm_shown shown = shown_as(change);
+    piece old = lines_of(&change->old, shown.old_mode), new = lines_of(&change->new, shown.new_mode);
+    return scm_state_texts(session, path.bytes, path.length, change->old_path.bytes, change->old_path.length, old.bytes, old.length,
+                           shown.old_mode, new.bytes, new.length, shown.new_mode);
 }
 
 static uint32_t add_titled(scm_session *session, const change *change) {
@@ -313,43 +309,21 @@ static uint32_t read_bytes(scm_session *session, size_t file, bool is_selected, 
     return code;
 }
 
-/* Sets `side` to a version of the change. */
-static void take_version(const change *change, bool is_new, side *side) {
-    const version *version = is_new ? &change->new : &change->old;
-    *side = (struct side){.mode = version->mode, .bytes = version->bytes, .is_new = is_new};
-}
-
-/* Sets `side` to the lines in `into`. */
-static void take_lines(size_t mode, const text *into, side *side) {
-    *side = (struct side){.mode = mode, .bytes = {into->bytes, into->length}, .has_lines = true};
-}
-
-/* Sets the modes of `side` to those that a tree has by it. A link that is there has the bytes of its version. */
-static void place_side(const change *change, bool is_selected, side *side) {
-    size_t old_mode = change->old.mode, new_mode = change->new.mode, mode = side->mode;
-    bool is_renamed = change->old_path.length > 0;
-    side->mode = is_renamed ? scm_renamed_mode(true, old_mode, new_mode, mode)
-                            : scm_tree_mode(is_selected, old_mode, new_mode, mode, side->bytes.length == 0);
-    if (side->has_lines && side->mode != SCM_ABSENT && (side->mode & KIND) == LINK) {
-        take_version(change, is_link(&change->new), side);
-    }
-    side->old_path_mode = is_renamed ? scm_renamed_mode(false, old_mode, new_mode, mode) : SCM_ABSENT;
-}
-
 uint32_t read_side(scm_session *session, size_t file, const change *change, bool is_selected, text *into, side *side) {
+    scm_changed changed = changed_of(change);
     scm_side_info info;
+    scm_in_tree found;
     char byte;
     uint32_t code = scm_side(session, file, is_selected, &byte, 0, &info);
-    if (code == SCM_DONE && change->has_lines) {
-        code = read_bytes(session, file, is_selected, into);
-        take_lines(info.mode, into, side);
-    } else if (code == SCM_DONE) {
-        bool is_by_mode = is_with_mode(change) && !has_words(change);
-        take_version(change, info.contents == SCM_SIDE_BINARY || (is_by_mode && info.mode == change->new.mode), side);
-        side->mode = has_words(change) ? side->mode : info.mode;
+    if (code != SCM_DONE) {
+        return code;
     }
-    if (code == SCM_DONE) {
-        place_side(change, is_selected, side);
+    scm_tree_side(&changed, is_selected, &info, &found);
+    const version *version = found.contents == SCM_OF_NEW ? &change->new : &change->old;
+    *side = (struct side){found.mode, found.old_path_mode, version->bytes, found.contents == SCM_OF_SIDE, found.contents == SCM_OF_NEW};
+    if (side->has_lines) {
+        code = read_bytes(session, file, is_selected, into);
+        side->bytes = (piece){into->bytes, into->length};
     }
     return code;
 }

@@ -771,31 +771,74 @@ static void tell_path_faults(void) {
     assert(scm_path_fault("a\0b", 3) == SCM_PATH_WITH_NUL && scm_path_fault(NULL, 0) == SCM_PATH_EMPTY);
 }
 
-enum { TEXT_MODE = 0100644, RUN_MODE = 0100755, OF_LINK = 0120000, NO_KIND = 0644 };
+enum { TEXT_MODE = 0100644, RUN_MODE = 0100755, OF_LINK = 0120000, NO_KIND = 0644, BARE = 0755 };
 
-/* The mode that a file has in a tree: the side's, but that lines stay on the unselected side, and a link is there where no file is. */
-static void tell_modes(void) {
+/* What a tree has of a changed file by a side: the side's mode, but that lines stay on the unselected side, that a link is there where no file
+ * is, and that a renamed file is at one of its paths. Contents that are items are those of a version. */
+static void tell_sides(void) {
     static const struct {
+        scm_changed changed;
         bool is_selected;
-        size_t old, new, mode;
-        bool is_empty;
-        size_t in_tree;
+        scm_side_info side;
+        scm_in_tree found;
     } sides[] = {
-        {true, TEXT_MODE, RUN_MODE, RUN_MODE, false, RUN_MODE},          {true, TEXT_MODE, SCM_ABSENT, SCM_ABSENT, true, SCM_ABSENT},
-        {true, SCM_ABSENT, RUN_MODE, SCM_ABSENT, false, SCM_ABSENT},     {false, SCM_ABSENT, RUN_MODE, SCM_ABSENT, false, RUN_MODE},
-        {false, TEXT_MODE, SCM_ABSENT, SCM_ABSENT, false, TEXT_MODE},    {false, TEXT_MODE, SCM_ABSENT, SCM_ABSENT, true, SCM_ABSENT},
-        {true, OF_LINK, TEXT_MODE, SCM_ABSENT, true, OF_LINK},           {true, OF_LINK, TEXT_MODE, TEXT_MODE, true, TEXT_MODE},
-        {false, RUN_MODE, OF_LINK, SCM_ABSENT, true, OF_LINK},           {false, RUN_MODE, OF_LINK, SCM_ABSENT, false, RUN_MODE},
-        {true, OF_LINK, OF_LINK, OF_LINK, false, OF_LINK},               {true, OF_LINK, SCM_ABSENT, SCM_ABSENT, true, SCM_ABSENT},
+        {{TEXT_MODE, RUN_MODE, SCM_BY_LINES, false}, true, {SCM_SIDE_TEXT, RUN_MODE, 1}, {RUN_MODE, SCM_ABSENT, SCM_OF_SIDE}},
+        {{TEXT_MODE, SCM_ABSENT, SCM_BY_LINES, false}, true, {SCM_SIDE_TEXT, SCM_ABSENT, 1}, {SCM_ABSENT, SCM_ABSENT, SCM_OF_SIDE}},
+        {{TEXT_MODE, SCM_ABSENT, SCM_BY_LINES, false}, false, {SCM_SIDE_TEXT, SCM_ABSENT, 1}, {TEXT_MODE, SCM_ABSENT, SCM_OF_SIDE}},
+        {{SCM_ABSENT, RUN_MODE, SCM_BY_LINES, false}, false, {SCM_SIDE_TEXT, SCM_ABSENT, 1}, {RUN_MODE, SCM_ABSENT, SCM_OF_SIDE}},
+        {{TEXT_MODE, SCM_ABSENT, SCM_BY_LINES, false}, false, {SCM_SIDE_UNCHANGED, SCM_ABSENT, 0}, {SCM_ABSENT, SCM_ABSENT, SCM_OF_SIDE}},
+        /* a link beside lines */
+        {{OF_LINK, TEXT_MODE, SCM_BY_LINES, false}, true, {SCM_SIDE_UNCHANGED, SCM_ABSENT, 0}, {OF_LINK, SCM_ABSENT, SCM_OF_OLD}},
+        {{OF_LINK, TEXT_MODE, SCM_BY_LINES, false}, true, {SCM_SIDE_TEXT, TEXT_MODE, 0}, {TEXT_MODE, SCM_ABSENT, SCM_OF_SIDE}},
+        {{RUN_MODE, OF_LINK, SCM_BY_LINES, false}, false, {SCM_SIDE_UNCHANGED, SCM_ABSENT, 0}, {OF_LINK, SCM_ABSENT, SCM_OF_NEW}},
+        {{RUN_MODE, OF_LINK, SCM_BY_LINES, false}, false, {SCM_SIDE_TEXT, SCM_ABSENT, 1}, {RUN_MODE, SCM_ABSENT, SCM_OF_SIDE}},
+        {{OF_LINK, OF_LINK, SCM_BY_LINES, false}, true, {SCM_SIDE_TEXT, OF_LINK, 1}, {OF_LINK, SCM_ABSENT, SCM_OF_SIDE}},
+        /* items: the contents apart from the mode, or along with it */
+        {{TEXT_MODE, RUN_MODE, SCM_BY_ITEMS, false}, true, {SCM_SIDE_UNCHANGED, RUN_MODE, 0}, {RUN_MODE, SCM_ABSENT, SCM_OF_OLD}},
+        {{TEXT_MODE, RUN_MODE, SCM_BY_ITEMS, false}, true, {SCM_SIDE_BINARY, TEXT_MODE, 0}, {TEXT_MODE, SCM_ABSENT, SCM_OF_NEW}},
+        {{OF_LINK, RUN_MODE, SCM_BY_ITEMS, false}, true, {SCM_SIDE_UNCHANGED, RUN_MODE, 0}, {RUN_MODE, SCM_ABSENT, SCM_OF_NEW}},
+        {{OF_LINK, RUN_MODE, SCM_BY_ITEMS, false}, false, {SCM_SIDE_UNCHANGED, OF_LINK, 0}, {OF_LINK, SCM_ABSENT, SCM_OF_OLD}},
+        {{TEXT_MODE, SCM_ABSENT, SCM_BY_ITEMS, false}, true, {SCM_SIDE_UNCHANGED, SCM_ABSENT, 0}, {SCM_ABSENT, SCM_ABSENT, SCM_OF_NEW}},
+        /* one item for all of the file */
+        {{SCM_ABSENT, RUN_MODE, SCM_BY_ONE_ITEM, false}, true, {SCM_SIDE_UNCHANGED, RUN_MODE, 0}, {SCM_ABSENT, SCM_ABSENT, SCM_OF_OLD}},
+        {{SCM_ABSENT, RUN_MODE, SCM_BY_ONE_ITEM, false}, true, {SCM_SIDE_BINARY, RUN_MODE, 0}, {RUN_MODE, SCM_ABSENT, SCM_OF_NEW}},
+        /* a renamed file */
+        {{TEXT_MODE, RUN_MODE, SCM_BY_LINES, true}, true, {SCM_SIDE_TEXT, RUN_MODE, 1}, {RUN_MODE, SCM_ABSENT, SCM_OF_SIDE}},
+        {{TEXT_MODE, RUN_MODE, SCM_BY_LINES, true}, true, {SCM_SIDE_TEXT, NO_KIND, 1}, {SCM_ABSENT, TEXT_MODE, SCM_OF_SIDE}},
+        {{TEXT_MODE, RUN_MODE, SCM_BY_ITEMS, true}, false, {SCM_SIDE_BINARY, SCM_ABSENT, 0}, {SCM_ABSENT, TEXT_MODE, SCM_OF_NEW}},
     };
     for (size_t i = 0; i < sizeof sides / sizeof *sides; i++) {
-        assert(scm_tree_mode(sides[i].is_selected, sides[i].old, sides[i].new, sides[i].mode, sides[i].is_empty) == sides[i].in_tree);
+        scm_in_tree found = {0}, wanted = sides[i].found;
+        scm_tree_side(&sides[i].changed, sides[i].is_selected, &sides[i].side, &found);
+        assert(found.mode == wanted.mode && found.old_path_mode == wanted.old_path_mode && found.contents == wanted.contents);
     }
-    assert(scm_renamed_mode(true, TEXT_MODE, RUN_MODE, RUN_MODE) == RUN_MODE);
-    assert(scm_renamed_mode(false, TEXT_MODE, RUN_MODE, RUN_MODE) == SCM_ABSENT);
-    assert(scm_renamed_mode(true, TEXT_MODE, RUN_MODE, NO_KIND) == SCM_ABSENT);
-    assert(scm_renamed_mode(false, TEXT_MODE, RUN_MODE, NO_KIND) == TEXT_MODE);
-    assert(scm_renamed_mode(false, TEXT_MODE, RUN_MODE, SCM_ABSENT) == TEXT_MODE);
+}
+
+/* What a state is given of a changed file. */
+static void tell_shown(void) {
+    static const struct {
+        scm_changed changed;
+        bool is_other;
+        scm_shown shown;
+    } files[] = {
+        {{TEXT_MODE, RUN_MODE, SCM_BY_LINES, false}, true, {TEXT_MODE, RUN_MODE, true, false}},
+        {{OF_LINK, TEXT_MODE, SCM_BY_LINES, false}, true, {SCM_ABSENT, TEXT_MODE, true, false}},
+        {{TEXT_MODE, OF_LINK, SCM_BY_LINES, false}, true, {TEXT_MODE, SCM_ABSENT, true, false}},
+        {{TEXT_MODE, TEXT_MODE, SCM_BY_ITEMS, false}, true, {TEXT_MODE, TEXT_MODE, false, true}},
+        {{TEXT_MODE, RUN_MODE, SCM_BY_ITEMS, false}, false, {TEXT_MODE, RUN_MODE, true, false}},
+        {{OF_LINK, TEXT_MODE, SCM_BY_ITEMS, false}, true, {OF_LINK, TEXT_MODE, true, false}},
+        {{OF_LINK, TEXT_MODE, SCM_BY_ONE_ITEM, false}, true, {TEXT_MODE, TEXT_MODE, false, true}},
+        {{SCM_ABSENT, TEXT_MODE, SCM_BY_ONE_ITEM, false}, false, {TEXT_MODE, TEXT_MODE, false, true}},
+        {{TEXT_MODE, SCM_ABSENT, SCM_BY_ONE_ITEM, false}, true, {TEXT_MODE, SCM_ABSENT, true, false}},
+        {{TEXT_MODE, RUN_MODE, SCM_BY_ONE_ITEM, false}, true, {TEXT_MODE, RUN_MODE, true, true}},
+        {{RUN_MODE, TEXT_MODE, SCM_BY_ONE_ITEM, true}, true, {BARE, TEXT_MODE, true, true}},
+    };
+    for (size_t i = 0; i < sizeof files / sizeof *files; i++) {
+        scm_shown shown = {0}, wanted = files[i].shown;
+        scm_tree_shown(&files[i].changed, files[i].is_other, &shown);
+        assert(shown.old_mode == wanted.old_mode && shown.new_mode == wanted.new_mode);
+        assert(shown.has_mode == wanted.has_mode && shown.has_contents == wanted.has_contents);
+    }
 }
 
 /* ---- The merge of two changed files ---- */
@@ -990,7 +1033,8 @@ int main(void) {
     merge_files();
     merge_without_memory();
     tell_path_faults();
-    tell_modes();
+    tell_sides();
+    tell_shown();
     refuse_runs();
     return 0;
 }

@@ -35,6 +35,35 @@ pub struct SideInfo {
     pub length: usize,
 }
 
+/// A changed file.
+#[repr(C)]
+#[derive(Debug)]
+pub struct Changed {
+    pub old_mode: usize,
+    pub new_mode: usize,
+    pub shown: u32,
+    pub is_renamed: bool,
+}
+
+/// What a state is given of a changed file.
+#[repr(C)]
+#[derive(Debug, Default)]
+pub struct Shown {
+    pub old_mode: usize,
+    pub new_mode: usize,
+    pub has_mode: bool,
+    pub has_contents: bool,
+}
+
+/// What a tree has of a changed file.
+#[repr(C)]
+#[derive(Debug, Default)]
+pub struct InTree {
+    pub mode: usize,
+    pub old_path_mode: usize,
+    pub contents: u32,
+}
+
 /// A commit, a file, a section and a line, counted from 0, or `NOTHING`.
 #[repr(C)]
 #[derive(Clone, Copy, Debug)]
@@ -106,8 +135,8 @@ extern "C" {
     pub fn scm_run(session: Session, terminal: c_int, title: Bytes) -> c_int;
     pub fn scm_decide_rows(rows: Bytes, length: usize, out: Room, room: usize, written: *mut usize) -> u32;
     pub fn scm_path_fault(path: Bytes, length: usize) -> u32;
-    pub fn scm_tree_mode(selected: bool, old_mode: usize, new_mode: usize, mode: usize, is_empty: bool) -> usize;
-    pub fn scm_renamed_mode(at_new: bool, old_mode: usize, new_mode: usize, mode: usize) -> usize;
+    pub fn scm_tree_shown(changed: *const Changed, is_other: bool, shown: *mut Shown);
+    pub fn scm_tree_side(changed: *const Changed, selected: bool, side: *const SideInfo, in_tree: *mut InTree);
     pub fn scm_merge_texts(base: Bytes, base_length: usize, ours: Bytes, our_length: usize, theirs: Bytes, their_length: usize, out: Room, room: usize, written: *mut usize) -> u32;
     pub fn scm_merged_bytes(base: Bytes, base_length: usize, ours: Bytes, our_length: usize, theirs: Bytes, their_length: usize, marks: Bytes, count: usize, out: Room, room: usize, written: *mut usize) -> u32;
     pub fn scm_open_conflicts(base: Bytes, base_length: usize, ours: Bytes, our_length: usize, theirs: Bytes, their_length: usize, marks: Bytes, count: usize, open: *mut usize) -> u32;

@@ -1,5 +1,5 @@
 //! What becomes of paths, and which paths are refused.
-use scm_record::trees::{decide_rows, path_fault, renamed_modes, tree_mode, PathFault};
+use scm_record::trees::{decide_rows, path_fault, Changed, InTree, Origin, PathFault, Shown, ShownBy, Side};
 use scm_record::FileMode::{self, Absent, Unix};
 
 #[test]
@@ -48,18 +48,87 @@ fn paths_are_refused() {
     }
 }
 
+/// A change that is shown by `shown_by`.
+fn changed(old_mode: FileMode, new_mode: FileMode, shown_by: ShownBy) -> Changed {
+    Changed {
+        old_mode,
+        new_mode,
+        shown_by,
+        is_renamed: false,
+    }
+}
+
+/// A selected side with no bytes.
+fn empty(mode: FileMode) -> Side {
+    Side {
+        is_selected: true,
+        mode,
+        is_binary: false,
+        is_empty: true,
+    }
+}
+
+/// What a tree has at one path.
+fn there(mode: FileMode, contents: Origin) -> InTree {
+    InTree {
+        mode,
+        old_path_mode: Absent,
+        contents,
+    }
+}
+
 #[test]
-fn files_have_a_mode_in_a_tree() {
+fn files_have_a_version_in_a_tree() {
     let (text, link) = (FileMode::FILE_DEFAULT, Unix(0o120_000));
-    assert_eq!(tree_mode(true, text, Absent, Absent, true), Absent);
-    assert_eq!(tree_mode(false, Absent, text, Absent, false), text);
-    assert_eq!(tree_mode(true, link, text, Absent, true), link);
-    assert_eq!(tree_mode(true, link, text, text, true), text);
+    let gone = changed(text, Absent, ShownBy::Lines);
+    assert_eq!(gone.in_tree(empty(Absent)), there(Absent, Origin::Side));
+    let lines = Side {
+        is_selected: false,
+        is_empty: false,
+        ..empty(Absent)
+    };
+    assert_eq!(gone.in_tree(lines), there(text, Origin::Side));
+    let beside = changed(link, text, ShownBy::Lines);
+    assert_eq!(beside.in_tree(empty(Absent)), there(link, Origin::Old));
+    assert_eq!(beside.in_tree(empty(text)), there(text, Origin::Side));
+    let whole = changed(Absent, text, ShownBy::OneItem);
+    assert_eq!(whole.in_tree(empty(text)), there(Absent, Origin::Old));
+    let item = Side {
+        is_binary: true,
+        ..empty(text)
+    };
+    assert_eq!(whole.in_tree(item), there(text, Origin::New));
 }
 
 #[test]
 fn renamed_files_are_at_one_path() {
     let (old, new) = (Unix(0o100_755), FileMode::FILE_DEFAULT);
-    assert_eq!(renamed_modes(old, new, new), (Absent, new));
-    assert_eq!(renamed_modes(old, new, Unix(0o755)), (old, Absent));
+    let renamed = Changed {
+        is_renamed: true,
+        ..changed(old, new, ShownBy::Lines)
+    };
+    assert_eq!(renamed.in_tree(empty(new)), there(new, Origin::Side));
+    let stays = InTree {
+        old_path_mode: old,
+        ..there(Absent, Origin::Side)
+    };
+    assert_eq!(renamed.in_tree(empty(Unix(0o755))), stays);
+}
+
+#[test]
+fn states_are_given_items() {
+    let (text, run) = (FileMode::FILE_DEFAULT, Unix(0o100_755));
+    let shown = Shown {
+        old_mode: text,
+        new_mode: run,
+        has_mode: true,
+        has_contents: true,
+    };
+    assert_eq!(changed(text, run, ShownBy::Items).shown(true), shown);
+    let whole = Shown {
+        old_mode: run,
+        has_mode: false,
+        ..shown
+    };
+    assert_eq!(changed(Absent, run, ShownBy::OneItem).shown(true), whole);
 }

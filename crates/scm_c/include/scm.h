@@ -674,18 +674,56 @@ SCM_USE_CODE uint32_t scm_decide_rows(const char *rows, size_t length, char *out
  * names a file below the top folder on each file system. */
 uint32_t scm_path_fault(const char *path, size_t length);
 
-/* Returns the mode that a tree has at the path of a file by a side of it, the selected side if `selected`, or SCM_ABSENT if
- * nothing is there. `old_mode` and `new_mode` are those of the file's versions, SCM_ABSENT of one that does not exist. `mode` is
- * the side's, as scm_side says it, and `is_empty` says whether the side has no bytes.
- *
- * It is the side's mode, but for two cases. On the unselected side a file with lines stays. And if one version is a link and the
- * other one a file, whose lines are shown as those of a new or a deleted file, the link is there where that file is not. */
-size_t scm_tree_mode(bool selected, size_t old_mode, size_t new_mode, size_t mode, bool is_empty);
+/* How the contents of a changed file are shown. */
+enum {
+    SCM_BY_LINES = 0,    /* by lines; a link beside a file that is shown so counts as no file */
+    SCM_BY_ITEMS = 1,    /* by items: the mode, and the contents, unless they come and go with the mode */
+    SCM_BY_ONE_ITEM = 2, /* by one item, if a new version comes whose contents come with its mode, and else as by items */
+};
 
-/* Returns the mode that a renamed file has in a tree by a side, at its new path if `at_new` and else at its old path, or
- * SCM_ABSENT: it is at exactly one of them. It is at the new path if the side's `mode` is `new_mode`. So its state has an item
- * that changes the mode from another one, which no file has. */
-size_t scm_renamed_mode(bool at_new, size_t old_mode, size_t new_mode, size_t mode);
+/* Whose contents a file has in a tree. */
+enum {
+    SCM_OF_SIDE = 0, /* those of the side, as scm_side_bytes writes them */
+    SCM_OF_OLD = 1,  /* those of the old version */
+    SCM_OF_NEW = 2,  /* those of the new version */
+};
+
+/* A changed file: the modes of its two versions, SCM_ABSENT of one that does not exist, and how it is shown. */
+typedef struct scm_changed {
+    size_t old_mode;
+    size_t new_mode;
+    uint32_t shown;  /* SCM_BY_LINES to SCM_BY_ONE_ITEM */
+    bool is_renamed; /* the old version has another path; then both exist */
+} scm_changed;
+
+/* What a state is to be given of a changed file. */
+typedef struct scm_shown {
+    size_t old_mode;   /* the mode before the changes, for scm_state_file or scm_state_texts */
+    size_t new_mode;   /* the mode after all of them, for scm_state_mode or scm_state_texts */
+    bool has_mode;     /* whether they differ: then the mode is an item */
+    bool has_contents; /* whether the contents are an item, for scm_state_binary */
+} scm_shown;
+
+/* What a tree has of a changed file. */
+typedef struct scm_in_tree {
+    size_t mode;          /* at the file's path, or SCM_ABSENT */
+    size_t old_path_mode; /* at the path before a rename, or SCM_ABSENT */
+    uint32_t contents;    /* SCM_OF_SIDE to SCM_OF_NEW */
+} scm_in_tree;
+
+/* Writes to `shown` what a state is to be given of a changed file. `is_other` says whether the contents of its versions differ.
+ *
+ * If it is shown by lines, the texts of both versions are given with these modes, and a version of mode SCM_ABSENT has none. The mode
+ * before the changes of a renamed file has no kind, as no file has it: so its new path is an item, a change of the mode. */
+void scm_tree_shown(const scm_changed *changed, bool is_other, scm_shown *shown);
+
+/* Writes to `in_tree` what a tree has of a changed file, which a state was given as scm_tree_shown says, by a side of it: the selected
+ * side if `selected`. `side` is what scm_side says of that side.
+ *
+ * If nothing is marked, the selected side is the old version and the other one the new version, and if everything is marked the
+ * reverse. On the unselected side a file with lines stays. If one version is a link and the other one a file with lines, the link is
+ * there where that file is not. A renamed file is at exactly one of its paths. */
+void scm_tree_side(const scm_changed *changed, bool selected, const scm_side_info *side, scm_in_tree *in_tree);
 
 /* ---- The merge of two changed files ----
  *

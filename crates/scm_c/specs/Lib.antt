@@ -2,3 +2,5 @@
 pub mod Ownership
 -- what calls tell of a merge
 pub mod Merges
+-- a side of a session's file, as trees take it
+pub mod Sides

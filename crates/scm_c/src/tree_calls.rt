@@ -1,13 +1,21 @@
-//! Calls without a session: what becomes of paths, which paths are refused, and the mode that a file has in a tree.
+//! Calls without a session: what becomes of paths, which paths are refused, how a changed file is shown, and what a tree has of
+//! it by a side.
 ghost use Rattle.std.specs.Prelude.{◌≡◌, ◌<◌, true};
 ghost use Rattle.scm_c_values.specs.Codes.{IsCode};
 ghost use Rattle.scm_paths.specs.Names.{fault_of};
 ghost use Rattle.scm_tree_records.specs.Calls.{TellsAnswer};
 ghost use Rattle.scm_tree_records.specs.Faults.{fault_number};
-ghost use Rattle.scm_tree_sides.specs.Bits.{bits_in_tree, renamed_bits};
+ghost use Rattle.scm_tree_sides.specs.Bits.{changed_of, in_tree_bits, shown_bits};
+ghost use Rattle.scm_tree_sides.specs.InTree.{in_tree};
+ghost use Rattle.scm_tree_sides.specs.Shown.{shown_as};
+ghost use Rattle.scm_c.specs.Sides.{side_told};
 
+use scm_c_values::codes::SIDE_BINARY;
+use scm_c_values::sides::Side;
 use scm_tree_records::{decide_rows, path_fault_number};
-use scm_tree_sides::{bits_in_tree, renamed_bits};
+use scm_tree_sides::bits::{
+    ChangedBits, InTreeBits, ShownBits, in_tree_bits, mode_with_bits, shown_bits,
+};
 use std::alloc::Global;
 
 /// Writes to `out` the records of what becomes of the paths that the records `rows` have, clipped to the length of `out`,
@@ -35,26 +43,37 @@ pub extern "C" fn scm_path_fault(path: &[u8]) -> u32
     path_fault_number(path)
 }
 
-/// Returns the mode that a tree has at the path of a file by a side, or `usize::MAX` if nothing is there. `old` and `new` are
-/// the modes of the file's versions, `mode` is the side's, and `is_empty` says whether the side has no bytes.
-#[unsafe(no_mangle)]
-pub extern "C" fn scm_tree_mode(
-    selected: bool,
-    old: usize,
-    new: usize,
-    mode: usize,
-    is_empty: bool,
-) -> usize
-    ensures { result ≡ bits_in_tree selected old new mode is_empty }
+/// Returns a side of which this is told.
+fn side_told(selected: bool, told: &Side) -> scm_tree_sides::Side
+    ensures { result ≡ side_told selected told.now }
 {
-    bits_in_tree(selected, old, new, mode, is_empty)
+    scm_tree_sides::Side {
+        selected,
+        mode: mode_with_bits(told.mode),
+        is_binary: told.contents == SIDE_BINARY,
+        is_empty: told.len == 0,
+    }
 }
 
-/// Returns the mode that a renamed file has by a side at its new path if `at_new`, or else at its old path; `usize::MAX` if it is
-/// at the other one. `old` and `new` are the modes of its versions, and `mode` is the side's.
+/// Writes to `shown` what a state is to be given of a changed file, whose contents differ if `is_other`.
 #[unsafe(no_mangle)]
-pub extern "C" fn scm_renamed_mode(at_new: bool, old: usize, new: usize, mode: usize) -> usize
-    ensures { result ≡ renamed_bits at_new old new mode }
+pub extern "C" fn scm_tree_shown(changed: &ChangedBits, is_other: bool, shown: &mut ShownBits)
+    ensures { shown.new ≡ shown_bits (shown_as (changed_of changed.now) is_other) }
 {
-    renamed_bits(at_new, old, new, mode)
+    *shown = shown_bits(changed, is_other);
+}
+
+/// Writes to `found` what a tree has of a changed file by a side of it, of which `side` is told: the selected side if
+/// `selected`, or the other one.
+#[unsafe(no_mangle)]
+pub extern "C" fn scm_tree_side(
+    changed: &ChangedBits,
+    selected: bool,
+    side: &Side,
+    found: &mut InTreeBits,
+)
+    ensures { found.new
+        ≡ in_tree_bits (in_tree (changed_of changed.now) (side_told selected side.now)) }
+{
+    *found = in_tree_bits(changed, side_told(selected, side));
 }

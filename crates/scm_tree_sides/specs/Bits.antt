@@ -1,9 +1,17 @@
--- Modes as numbers. The greatest `usize` stands for no file.
-use Rattle.std.specs.Prelude.{ℕ, ◌-◌, ◌^◌, ◌==◌, Bool, true, false, Option, Some, None, if◌then◌else◌}
+-- Changed files as C has them. The greatest `usize` stands for no file.
+use Rattle.std.specs.Prelude.{ℕ, ◌-◌, ◌^◌, ◌==◌, Option, Some, None, if◌then◌else◌}
 use Rattle.scm_types.specs.declared.file_mode.FileMode.{FileMode}
 use Rattle.scm_types.specs.declared.file_mode.FileMode.TheVariants.{Unix, Absent}
-use Rattle.scm_tree_sides.specs.SideVersions.{renamed_modes}
-use Rattle.scm_tree_sides.specs.Links.{mode_in_tree}
+use Rattle.scm_tree_sides.specs.declared.shown.Shown.{Shown}
+use Rattle.scm_tree_sides.specs.declared.shown.Shown.TheVariants.{Lines, Items, Whole}
+use Rattle.scm_tree_sides.specs.declared.shown.Changed.{Changed}
+use Rattle.scm_tree_sides.specs.declared.shown.ShownAs.{ShownAs}
+use Rattle.scm_tree_sides.specs.declared.placed.Origin.{Origin}
+use Rattle.scm_tree_sides.specs.declared.placed.Origin.TheVariants.{OfSide, OfOld, OfNew}
+use Rattle.scm_tree_sides.specs.declared.placed.InTree.{InTree}
+use Rattle.scm_tree_sides.specs.declared.bits.ChangedBits.{ChangedBits}
+use Rattle.scm_tree_sides.specs.declared.bits.ShownBits.{ShownBits}
+use Rattle.scm_tree_sides.specs.declared.bits.InTreeBits.{InTreeBits}
 
 abbrev pub no_mode : ℕ
 no_mode = 2 ^ 64 - 1
@@ -21,12 +29,21 @@ abbrev pub bits_of : Option ℕ → ℕ
 bits_of None = no_mode
 bits_of (Some mode) = mode
 
--- the bits that a tree has at the path of a file by a side
-abbrev pub bits_in_tree : Bool → ℕ → ℕ → ℕ → Bool → ℕ
-bits_in_tree selected old new mode is_empty =
-    bits_of (mode_in_tree selected (version_mode old) (version_mode new) (mode_with_bits mode) is_empty)
+-- how contents are shown: by items if the number is 1, by one item if it is 2, and else by lines
+abbrev pub shown_of : ℕ → Shown
+shown_of number = if number == 1 then Items else if number == 2 then Whole else Lines
 
--- the bits that a renamed file has at its new path, or else at its old path
-abbrev pub renamed_bits : Bool → ℕ → ℕ → ℕ → ℕ
-renamed_bits true old new mode = bits_of (renamed_modes old new (mode_with_bits mode)).1
-renamed_bits false old new mode = bits_of (renamed_modes old new (mode_with_bits mode)).0
+abbrev pub changed_of : ChangedBits → Changed
+changed_of c = record { modes = record { old = version_mode c.old; new = version_mode c.new }; shown = shown_of c.shown; is_renamed = c.is_renamed }
+
+abbrev pub shown_bits : ShownAs → ShownBits
+shown_bits s = record { old = bits_of s.old; new = bits_of s.new; has_mode = s.has_mode; has_contents = s.has_contents }
+
+-- whose contents a file has: 0 are those of the side, 1 those of the old version, 2 those of the new one
+abbrev pub origin_number : Origin → ℕ
+origin_number OfSide = 0
+origin_number OfOld = 1
+origin_number OfNew = 2
+
+abbrev pub in_tree_bits : InTree → InTreeBits
+in_tree_bits t = record { mode = bits_of t.mode; old_path_mode = bits_of t.old_path_mode; contents = origin_number t.contents }

@@ -18,7 +18,8 @@ Or it has the user choose, by one call:
 The library is the one that LIBSCM names, or where `tools/install`, `tools/build-shared` or a wheel puts it, or where the system
 looks. `scm.library` is the open library itself."""
 from ._library import (
-    ABSENT, CODES, NO_INDEX, PATH_FAULTS, Error, decide, library, open_library, path_fault, renamed_mode, tree_mode, version, words,
+    ABSENT, BY_ITEMS, BY_LINES, BY_ONE_ITEM, CODES, NO_INDEX, OF_NEW, OF_OLD, OF_SIDE, PATH_FAULTS, Error, InTree, Shown, decide, library,
+    open_library, path_fault, tree_shown, tree_side, version, words,
 )
 from ._merge import MergeLine, marked_bytes, merge_texts, merged_bytes, open_conflicts
 from ._session import Session
@@ -32,8 +33,9 @@ UNCHANGED, TEXT, BINARY = Contents.UNCHANGED, Contents.TEXT, Contents.BINARY
 UNCHECKED, PARTLY, CHECKED = Mark.UNCHECKED, Mark.PARTLY, Mark.CHECKED
 
 __all__ = [
-    "ABSENT", "ACCEPTED", "BINARY", "BUILDING", "CHECKED", "CODES", "Contents", "EDITING", "ENDED", "ENDS", "Error", "FOLDS", "Folds",
-    "Item", "Key", "Mark", "MergeLine", "NONE", "NO_INDEX", "OWNERS", "PARTLY", "PATH_FAULTS", "Path", "Session", "Side", "Stage", "TEXT",
-    "THEMES", "Text", "Theme", "UNCHANGED", "UNCHECKED", "WAITING", "__version__", "decide", "library", "marked_bytes", "merge_texts",
-    "merged_bytes", "open_conflicts", "open_library", "path_fault", "renamed_mode", "tree_mode", "words",
+    "ABSENT", "ACCEPTED", "BINARY", "BUILDING", "BY_ITEMS", "BY_LINES", "BY_ONE_ITEM", "CHECKED", "CODES", "Contents", "EDITING",
+    "ENDED", "ENDS", "Error", "FOLDS", "Folds", "InTree", "Item", "Key", "Mark", "MergeLine", "NONE", "NO_INDEX", "OF_NEW", "OF_OLD",
+    "OF_SIDE", "OWNERS", "PARTLY", "PATH_FAULTS", "Path", "Session", "Shown", "Side", "Stage", "TEXT", "THEMES", "Text", "Theme",
+    "UNCHANGED", "UNCHECKED", "WAITING", "__version__", "decide", "library", "marked_bytes", "merge_texts", "merged_bytes",
+    "open_conflicts", "open_library", "path_fault", "tree_shown", "tree_side", "words",
 ]

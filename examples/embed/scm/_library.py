@@ -8,6 +8,9 @@ NAME = "libscm.so.1"
 CODES = "done closed not_now no_word not_text bad_state not_accepted too_long no_memory no_item no_number no_key".split()
 # the names of what can be wrong with a path
 PATH_FAULTS = ["", *"empty dot dot_dot of_git of_jj with_nul".split()]
+# how the contents of a changed file are shown, and whose contents it has in a tree, by numbers
+SHOWN_BY = BY_LINES, BY_ITEMS, BY_ONE_ITEM = range(3)
+ORIGINS = OF_SIDE, OF_OLD, OF_NEW = range(3)
 # the mode of a file that does not exist, and an index that names nothing
 ABSENT = NO_INDEX = int(ctypes.c_size_t(-1).value)
 
@@ -28,6 +31,25 @@ class SideInfo(ctypes.Structure):
     """What C says of a side of a file."""
 
     _fields_ = [("contents", ctypes.c_uint32), ("mode", ctypes.c_size_t), ("length", ctypes.c_size_t)]
+
+
+class Changed(ctypes.Structure):
+    """A changed file: the modes of its two versions, `ABSENT` of one that does not exist; how its contents are shown, one of `SHOWN_BY`;
+    and whether the old version has another path."""
+
+    _fields_ = [("old_mode", ctypes.c_size_t), ("new_mode", ctypes.c_size_t), ("shown", ctypes.c_uint32), ("is_renamed", ctypes.c_bool)]
+
+
+class Shown(ctypes.Structure):
+    """What a state is to be given of a changed file: scm.h says more."""
+
+    _fields_ = [("old_mode", ctypes.c_size_t), ("new_mode", ctypes.c_size_t), ("has_mode", ctypes.c_bool), ("has_contents", ctypes.c_bool)]
+
+
+class InTree(ctypes.Structure):
+    """What a tree has of a changed file: its modes at its paths, or `ABSENT`, and whose contents it has, one of `ORIGINS`."""
+
+    _fields_ = [("mode", ctypes.c_size_t), ("old_path_mode", ctypes.c_size_t), ("contents", ctypes.c_uint32)]
 
 
 # the arguments of each call behind its session: B is a bool, T a text or room for one, N a size or an index, H a number of 16
@@ -78,9 +100,10 @@ def declare() -> None:
     library.scm_decide_rows.argtypes = [ctypes.c_char_p, ctypes.c_size_t, ctypes.c_char_p, ctypes.c_size_t, ctypes.POINTER(ctypes.c_size_t)]
     library.scm_decide_rows.restype = ctypes.c_uint32
     library.scm_path_fault.argtypes, library.scm_path_fault.restype = [ctypes.c_char_p, ctypes.c_size_t], ctypes.c_uint32
-    library.scm_tree_mode.argtypes = [ctypes.c_bool, *[ctypes.c_size_t] * 3, ctypes.c_bool]
-    library.scm_renamed_mode.argtypes = [ctypes.c_bool, *[ctypes.c_size_t] * 3]
-    library.scm_tree_mode.restype = library.scm_renamed_mode.restype = ctypes.c_size_t
+    changed = ctypes.POINTER(Changed)
+    library.scm_tree_shown.argtypes = [changed, ctypes.c_bool, ctypes.POINTER(Shown)]
+    library.scm_tree_side.argtypes = [changed, ctypes.c_bool, ctypes.POINTER(SideInfo), ctypes.POINTER(InTree)]
+    library.scm_tree_shown.restype = library.scm_tree_side.restype = None
     sized, told = [ctypes.c_char_p, ctypes.c_size_t], ctypes.POINTER(ctypes.c_size_t)
     merges = (
         ("merge_texts", [*sized, told]), ("merged_bytes", [*sized, *sized, told]), ("open_conflicts", [*sized, told]),
@@ -140,18 +163,28 @@ def path_fault(path: bytes) -> str:
     return PATH_FAULTS[int(library.scm_path_fault(path, len(path)))]
 
 
-def tree_mode(selected: bool, old_mode: int, new_mode: int, mode: int, is_empty: bool) -> int:
-    """Returns the mode that a tree has at the path of a file by a side of it, or `ABSENT`. scm.h says more, at scm_tree_mode."""
-    for number in (old_mode, new_mode, mode):
-        check("N", number)
-    return int(library.scm_tree_mode(selected, old_mode, new_mode, mode, is_empty))
+def changed(old_mode: int, new_mode: int, shown: int, is_renamed: bool) -> Changed:
+    """Returns a changed file, as C has it."""
+    for letter, number in zip("NNU", (old_mode, new_mode, shown)):
+        check(letter, number)
+    return Changed(old_mode, new_mode, shown, is_renamed)
 
 
-def renamed_mode(at_new: bool, old_mode: int, new_mode: int, mode: int) -> int:
-    """Returns the mode that a renamed file has in a tree by a side, at its new path or at its old one, or `ABSENT`."""
-    for number in (old_mode, new_mode, mode):
-        check("N", number)
-    return int(library.scm_renamed_mode(at_new, old_mode, new_mode, mode))
+def tree_shown(old_mode: int, new_mode: int, shown: int, *, is_renamed: bool = False, is_other: bool = True) -> Shown:
+    """Returns what a state is to be given of a changed file, whose contents differ if `is_other`. scm.h says more, at scm_tree_shown."""
+    found = Shown()
+    library.scm_tree_shown(changed(old_mode, new_mode, shown, is_renamed), is_other, found)
+    return found
+
+
+def tree_side(old_mode: int, new_mode: int, shown: int, side: tuple[int, int, int], *, is_renamed: bool = False, is_selected: bool = True) -> InTree:
+    """Returns what a tree has of a changed file by a side, of which `side` is the kind of the contents, the mode and the number of bytes. scm.h
+    says more, at scm_tree_side."""
+    for letter, number in zip("UNN", side):
+        check(letter, number)
+    found = InTree()
+    library.scm_tree_side(changed(old_mode, new_mode, shown, is_renamed), is_selected, SideInfo(*side), found)
+    return found
 
 
 class Error(Exception):
