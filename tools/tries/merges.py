@@ -562,6 +562,81 @@ class Edited:
             yield ours[len(ours) - end :], None
 
 
+def jj_settings():
+    """Returns the settings for jj that the program's page names."""
+    import tomllib
+
+    page = (trying.ROOT / "examples/merge-tool/README.md").read_text()
+    return tomllib.loads(re.search(r"```toml\n(.*?)```", page, re.S)[1])
+
+
+class AsJj:
+    """Stands for jj, which is not installed here, as its documents have `jj resolve`: it hands in the versions as files that nobody may write
+    to, and an empty output. It refuses a status that is not named, and an output that is empty. With a status that means conflicts it reads them
+    from the markers."""
+
+    def __init__(self, place, path, versions):
+        settings = jj_settings()
+        self.tool = settings["merge-tools"][settings["ui"]["merge-editor"]]
+        name = path.rpartition("/")[2]
+        names = {role: role + "_" + name for role in (*versions, "output")}
+        folder = place.folder("jj-resolve", {names[role]: versions.get(role, b"") for role in names})
+        self.paths = {role: os.path.join(folder, names[role]) for role in names}
+        for role in versions:
+            os.chmod(self.paths[role], 0o444)
+        given = {**self.paths, "path": path}
+        self.command = [self.tool["program"], *(given[word[1:]] if word.startswith("$") else word for word in self.tool["merge-args"])]
+
+    def resolved(self, status):
+        """Returns the parts that jj takes: texts, and of each conflict that is left our version, that of the base, and theirs. Returns None if it
+        takes nothing."""
+        data = read_data(self.paths["output"])
+        is_left = status in self.tool["merge-conflict-exit-codes"]
+        if (status and not is_left) or not data:
+            return None
+        return parts_by_markers(data) if is_left else [data]
+
+
+def parts_by_markers(data):
+    """Returns the texts and the conflicts of a file with markers in the style of git."""
+    parts, at = [b""], None
+    for line in data.splitlines(keepends=True):
+        sign = re.match(rb"([<|=>])\1{6,}( |\r?\n|$)", line)
+        if sign is None and at is None:
+            parts[-1] += line
+        elif sign is None:
+            parts[-1][at] += line
+        elif sign[1] == b"<":
+            parts.append([b"", b"", b""])
+            at = 0
+        elif sign[1] == b">":
+            parts.append(b"")
+            at = None
+        else:
+            at = b"<|=".index(sign[1])
+    return parts
+
+
+def jj_resolve(place):
+    """By the settings for jj that its page names, the program hands back what was chosen, and what is left open as conflict markers."""
+    try:
+        import tomllib  # noqa: F401
+    except ImportError:
+        return "there is no tomllib"
+    versions = {"base": b"1\n2\n3\n4\n5\n", "left": b"one\n2\n3\n4\nfive\n", "right": b"eins\n2\n3\n4\nfuenf\n"}
+    jj = AsJj(place, "src/a.txt", versions)
+    is_left = jj.resolved(type_into(place, ["q", "enter"], jj.command)[0]) is None
+    with shown(place, jj.command) as typed:
+        is_named = b"src/a.txt" in typed.screen()
+        typed.press("space")
+        leave_open(typed, b"l", ASKED_FOR_MARKERS)
+        parts = jj.resolved(typed.end())
+    is_half = parts == [b"one\n2\n3\n4\n", [b"five\n", b"5\n", b"fuenf\n"], b""]
+    keys = ["space", "pagedown", "pagedown", "pagedown", "space", "c"]
+    is_whole = jj.resolved(type_into(place, keys, jj.command)[0]) == [versions["left"]]
+    return is_left and is_named and is_half and is_whole and all(read_data(jj.paths[role]) == versions[role] for role in versions)
+
+
 def keys_for(chance, conflicts):
     """Returns keys that mark random items from the header of the first section on, what is taken then of each conflict, and how many of
     them are open."""
@@ -728,7 +803,7 @@ def options_that_shells_complete(place):
 ALL = (
     each_version, deleted_lines, open_conflicts, ways_to_open_conflicts, many_open_conflicts, conflict_markers, labels_of_versions, left_by_the_user, without_a_conflict,
     what_comes_to_output_meanwhile, outputs_with_names_of_options, refused_files, named_in_another_way, git_mergetool, git_mergetool_that_is_left, git_mergetool_with_backups,
-    git_mergetool_on_an_added_file, git_mergetool_on_a_deleted_file, git_mergetool_on_a_renamed_file, git_mergetool_on_a_real_conflict, git_rerere, hg_resolve, random_choices,
+    git_mergetool_on_an_added_file, git_mergetool_on_a_deleted_file, git_mergetool_on_a_renamed_file, git_mergetool_on_a_real_conflict, git_rerere, hg_resolve, jj_resolve, random_choices,
     beside_git_merge_file, library_beside_git_merge_file, each_call_that_fails, full_disk,
     options_that_shells_complete,
 )
