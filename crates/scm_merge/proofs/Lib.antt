@@ -8,6 +8,8 @@ pub mod SharedLemmas
 pub mod PartLemmas
 -- laws of the merge
 pub mod LawLemmas
+-- merges whose sides are exchanged
+pub mod ExchangeLemmas
 -- what marks give
 pub mod MarkLemmas
 -- the merge of three texts, from bytes to bytes

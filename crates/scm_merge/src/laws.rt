@@ -50,6 +50,20 @@ pub fn sides_change_places(
         ≡ map exchanged (outcomes_from base.now ours.now theirs.now 0 regions.now) }
 {}
 
+/// Proves that a merge with ours and theirs exchanged is one of the exchanged sides: its regions are what a
+/// merge of these is made of, by the same differences of each side, and as many conflicts are open.
+pub fn exchanged_merges_are_merges(
+    base: &[Text<'_>],
+    ours: &[Text<'_>],
+    theirs: &[Text<'_>],
+    regions: &[Region],
+)
+    requires { AreMerged base.now ours.now theirs.now regions.now }
+    ensures merged { AreMerged base.now theirs.now ours.now (map exchanged_region regions.now) }
+    ensures open { conflict_count (outcomes_from base.now theirs.now ours.now 0 (map exchanged_region regions.now))
+        ≡ conflict_count (outcomes_from base.now ours.now theirs.now 0 regions.now) }
+{}
+
 /// Proves that a part is a conflict exactly if no two of its three lists are equal.
 pub fn conflicts_have_three_versions(base: &[Text<'_>], ours: &[Text<'_>], theirs: &[Text<'_>])
     ensures { IsConflictOfThree
