@@ -1,5 +1,7 @@
 //! What becomes of paths, and which paths are refused.
-use scm_record::trees::{decide_rows, path_fault, Changed, InTree, Origin, PathFault, Shown, ShownBy, Side};
+use scm_record::trees::{
+    decide_rows, path_fault, Changed, InTree, Origin, PathFault, Shown, ShownBy, Side,
+};
 use scm_record::FileMode::{self, Absent, Unix};
 
 #[test]
