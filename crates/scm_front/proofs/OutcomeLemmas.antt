@@ -94,13 +94,13 @@ module _ (l next : Live) (event : Event) (g : EventLeads l event (turns.Waiting 
 
 -- ---- sessions that differ by folds, the selection and the scroll alone
 
-abbrev IsRefoldedView : ViewState → ViewState → Type 0
+abbrev pub IsRefoldedView : ViewState → ViewState → Type 0
 IsRefoldedView old new = new ≡ record old { selection = new.selection; expanded = new.expanded }
 
 pub same-folds : (l : Live) → IsRefolded l l
 same-folds l = record { kind = refl; shown = refl }
 
-via-view : (first mid last : ViewState) → IsRefoldedView first mid → IsRefoldedView mid last → IsRefoldedView first last
+pub via-view : (first mid last : ViewState) → IsRefoldedView first mid → IsRefoldedView mid last → IsRefoldedView first last
 via-view first mid last e f =
     f ∙ ap (λ (view : ViewState). record view { selection = last.selection; expanded = last.expanded }) e
 
@@ -214,14 +214,11 @@ either-refolds : (c : Bool) (old a b : ViewState) → IsRefoldedView old a → I
 either-refolds true old a b h k = h
 either-refolds false old a b h k = k
 
-pub expand-all : (l : Live) → l.session.pending ≡ [] → ComesRefolded l events.ExpandAll
-expand-all l calm =
-    let c = flip-all l calm in
-    let view = l.session.shown in
-    let is : IsRefoldedView view (flipped_view view) =
+-- only the selection and the folds differ then
+pub flipped-refolds : (view : ViewState) → IsRefoldedView view (flipped_view view)
+flipped-refolds view =
     either-refolds (is_some view.quit_dialog) view _ _ refl
-    (either-refolds (is_same_set view.expanded (key_set (all_keys view.state.files))) view _ _ refl refl) in
-    record { next = c.next; leads = c.leads; refolded = record { kind = c.kind; shown = subst (IsRefoldedView view) (sym c.shown) is } }
+    (either-refolds (is_same_set view.expanded (key_set (all_keys view.state.files))) view _ _ refl refl)
 
 pub expand-item : (l : Live) → l.session.pending ≡ [] → ComesRefolded l events.ExpandItem
 expand-item l calm = by-dialog l.session.shown.quit_dialog without under

@@ -6,6 +6,7 @@ use Rattle.std.specs.List.{All}
 use Rattle.std.specs.Prelude.{not, is_some, if◌then◌else◌}
 use Rattle.scm_errors.specs.declared.error.RecordError.{RecordError}
 use Rattle.scm_errors.specs.declared.error.RecordError.TheVariants.{OutOfMemory}
+use Rattle.scm_types.specs.Keys.{file_of}
 use Rattle.scm_types.specs.declared.keys.SelectionKey.{SelectionKey}
 use Rattle.scm_view.specs.ViewState.{ViewState}
 use Rattle.scm_selection.specs.KeyLists.{all_keys}
@@ -21,12 +22,13 @@ use Rattle.scm_record.specs.declared.live.Turn.{Turn}
 use Rattle.scm_record.specs.declared.live.Turn.TheVariants.{Waiting, Editing, Accepted}
 use Rattle.scm_front_items.specs.declared.targets.Deed.{Deed}
 use Rattle.scm_front_items.specs.declared.targets.Deed.TheVariants.{Mark, Fold}
+use Rattle.scm_front_items.specs.Plans.{file_folds, fold_of, is_folded, section_around, section_folds}
 use Rattle.scm_front_items.specs.Targets.{key_of}
 use Rattle.scm_front.specs.Deeds.{is_due, event_of, DeedDone, DeedsLead, done, skips, does, ends, RoundLeads, returns, leaves}
 use Rattle.scm_front.specs.Presses.{PressesFail, PressesLead, calls_of}
-use Rattle.scm_front.specs.Starting.{AreFolds, IsFold, IsRefolded, Refolds, Starts, Unfolds, UnfoldsAs, fold_events, unfolded_keys}
+use Rattle.scm_front.specs.Starting.{AreFolds, Fits, FoldsUnlessShown, IsFold, IsRefolded, Refolds, Starts, TriesAll, Unfolds, UnfoldsAs, cannot_fit, fold_events, folds_again, items_of, stays, unfolded_keys}
 use Rattle.scm_front.specs.declared.starting.Folds.{Folds}
-use Rattle.scm_front.proofs.OutcomeLemmas.{Waits, expand-all, expand-item, flip-all, flipped_view, folds-via, jump-refolds, memory-alone, one-turn, same-folds, selecting-refolds, toggle-item}
+use Rattle.scm_front.proofs.OutcomeLemmas.{IsRefoldedView, Waits, expand-item, flip-all, flipped-refolds, flipped_view, folds-via, jump-refolds, memory-alone, one-turn, same-folds, selecting-refolds, toggle-item, via-view}
 use Rattle.scm_front.proofs.RangeLemmas.{is-true-left, selected}
 use Rattle.scm_front.proofs.RememberLemmas.{calm-path}
 use Rattle.scm_front.proofs.TurnLemmas.{one-live}
@@ -115,42 +117,22 @@ all-middle : (xs ys : List Event) (y : Event) → All IsFlip (xs ++ (y ∷ ys)) 
 all-middle [] ys y h = All-head IsFlip y ys h
 all-middle (x ∷ xs) ys y h = all-middle xs ys y (All-tail IsFlip x (xs ++ (y ∷ ys)) h)
 
-path-refolds : (es : List Event) (l : Live) {t u : Turn} {calls : List Call} → Path t calls u → t ≡ Waiting l → calls ≡ calls_of es → All IsFlip es
-    → l.session.pending ≡ [] → Refolds l u
-path-refolds es l still same e all calm = subst (λ (x : Turn). Refolds l x) (sym same) (same-folds l)
-path-refolds [] l (press g p) same e all calm = absurd (cc e)
-path-refolds (x ∷ es) l (press {l = k} {event = event} {turn = turn} {last = last} {calls = more} g p) same e all calm =
-    let is : k ≡ l = cc same in
-    let flip : event ≡ events.ExpandAll = (let first : event ≡ x = cc e in first ∙ All-head IsFlip x es all) in
-    let rest : more ≡ calls_of es = cc e in
-    let c = expand-all l calm in
-    let led = subst (λ (v : Event). EventLeads l v turn) flip (subst (λ (y : Live). EventLeads y event turn) is g) in
-    let waits = one-turn l c.next events.ExpandAll turn c.leads led in
-    refolds-via l c.next last c.refolded (path-refolds es c.next p waits rest (All-tail IsFlip x es all) (c.leads [] [] 0).2)
-path-refolds [] l (press_all g p) same e all calm = absurd (cc e)
-path-refolds (x ∷ es) l (press_all g p) same e all calm = absurd (cc e)
-path-refolds [] l (say g p) same e all calm = absurd (cc e)
-path-refolds (x ∷ es) l (say g p) same e all calm = absurd (cc e)
-path-refolds [] l (resize p) same e all calm = absurd (cc e)
-path-refolds (x ∷ es) l (resize p) same e all calm = absurd (cc e)
-
-pub presses-refold : (l : Live) (list : List Event) (turn : Turn) → l.session.pending ≡ [] → All IsFlip list → PressesLead l list turn → Refolds l turn
-presses-refold l list turn calm all h =
-    path-refolds h.handled l h.path refl refl (all-first h.handled h.dropped (subst (All IsFlip) h.are all)) calm
-
 -- what is unfolded after events that fold all
 
 abbrev flips : List Event → ViewState → ViewState
 flips [] view = view
 flips (event ∷ list) view = flips list (flipped_view view)
 
--- the session waits, with this view state
-abbrev Shows : Turn → ViewState → Type 0
-Shows turn view = (next : Live) × ((turn ≡ Waiting next) × (next.session.shown ≡ view))
+-- the session waits on the same screen, with this view state
+record Shows (l : Live) (turn : Turn) (view : ViewState) : Type 0 where
+  pub next : Live
+  pub waits : turn ≡ Waiting next
+  pub kind : next.kind ≡ l.kind
+  pub shown : next.session.shown ≡ view
 
 path-flips : (es : List Event) (l : Live) {t u : Turn} {calls : List Call} → Path t calls u → t ≡ Waiting l → calls ≡ calls_of es → All IsFlip es
-    → l.session.pending ≡ [] → Shows u (flips es l.session.shown)
-path-flips [] l still same e all calm = (l, (same, refl))
+    → l.session.pending ≡ [] → Shows l u (flips es l.session.shown)
+path-flips [] l still same e all calm = record { next = l; waits = same; kind = refl; shown = refl }
 path-flips (x ∷ es) l still same e all calm = absurd (cc e)
 path-flips [] l (press g p) same e all calm = absurd (cc e)
 path-flips (x ∷ es) l (press {l = k} {event = event} {turn = turn} {last = last} {calls = more} g p) same e all calm =
@@ -161,13 +143,34 @@ path-flips (x ∷ es) l (press {l = k} {event = event} {turn = turn} {last = las
     let led = subst (λ (v : Event). EventLeads l v turn) flip (subst (λ (y : Live). EventLeads y event turn) is g) in
     let waits = one-turn l c.next events.ExpandAll turn c.leads led in
     let later = path-flips es c.next p waits rest (All-tail IsFlip x es all) (c.leads [] [] 0).2 in
-    subst (λ (view : ViewState). Shows last (flips es view)) c.shown later
+    record {
+      next = later.next;
+      waits = later.waits;
+      kind = later.kind ∙ c.kind;
+      shown = later.shown ∙ ap (λ (view : ViewState). flips es view) c.shown;
+    }
 path-flips [] l (press_all g p) same e all calm = absurd (cc e)
 path-flips (x ∷ es) l (press_all g p) same e all calm = absurd (cc e)
 path-flips [] l (say g p) same e all calm = absurd (cc e)
 path-flips (x ∷ es) l (say g p) same e all calm = absurd (cc e)
 path-flips [] l (resize p) same e all calm = absurd (cc e)
 path-flips (x ∷ es) l (resize p) same e all calm = absurd (cc e)
+
+presses-show : (l : Live) (list : List Event) (turn : Turn) → l.session.pending ≡ [] → All IsFlip list → (h : PressesLead l list turn)
+    → Shows l turn (flips h.handled l.session.shown)
+presses-show l list turn calm all h =
+    path-flips h.handled l h.path refl refl (all-first h.handled h.dropped (subst (All IsFlip) h.are all)) calm
+
+flips-refold : (es : List Event) (view : ViewState) → IsRefoldedView view (flips es view)
+flips-refold [] view = refl
+flips-refold (x ∷ es) view =
+    via-view view (flipped_view view) (flips es (flipped_view view)) (flipped-refolds view) (flips-refold es (flipped_view view))
+
+pub presses-refold : (l : Live) (list : List Event) (turn : Turn) → l.session.pending ≡ [] → All IsFlip list → PressesLead l list turn → Refolds l turn
+presses-refold l list turn calm all h =
+    let shows = presses-show l list turn calm all h in
+    let view = subst (IsRefoldedView l.session.shown) (sym shows.shown) (flips-refold h.handled l.session.shown) in
+    subst (λ (t : Turn). Refolds l t) (sym shows.waits) (record { kind = shows.kind; shown = view })
 
 -- an open quit dialog lets no fold change
 flips-under : (es : List Event) (view : ViewState) → is_some view.quit_dialog ≡ true → flips es view ≡ view
@@ -222,23 +225,69 @@ pub presses-unfold : (is_open : Bool) (l : Live) (view : ViewState) (list : List
 presses-unfold is_open l view list turn calm seen is h =
     let shown = l.session.shown in
     let flipped = are-flips is_open _ list is in
-    let shows = path-flips h.handled l h.path refl refl (all-first h.handled h.dropped (subst (All IsFlip) h.are flipped)) calm in
-    let waits : is_waiting turn ≡ true = ap is_waiting shows.1.0 in
+    let shows = presses-show l list turn calm flipped h in
+    let waits : is_waiting turn ≡ true = ap is_waiting shows.waits in
     let whole : list ≡ h.handled = h.are ∙ (ap (λ (rest : List Event). h.handled ++ rest) (h.all waits) ∙ append-nil h.handled) in
     let towards : list ≡ fold_events is_open (is_same_set shown.expanded (every shown)) =
     is ∙ ap (λ (v : ViewState). fold_events is_open (is_same_set v.expanded (every v))) seen in
     let all : flips h.handled shown ≡ flips (fold_events is_open (is_same_set shown.expanded (every shown))) shown =
     ap (λ (es : List Event). flips es shown) (sym whole ∙ towards) in
-    let expanded = ap (λ (v : ViewState). v.expanded) (shows.1.1 ∙ all) ∙ unfolds-in is_open _ shown _ refl refl in
-    subst (λ (t : Turn). Unfolds is_open l t) (sym shows.1.0) expanded
+    let expanded = ap (λ (v : ViewState). v.expanded) (shows.shown ∙ all) ∙ unfolds-in is_open _ shown _ refl refl in
+    subst (λ (t : Turn). Unfolds is_open l t) (sym shows.waits) expanded
 
 pub presses-memory : (l : Live) (list : List Event) (error : RecordError) → l.session.pending ≡ [] → All IsFlip list → PressesFail l list error → error ≡ OutOfMemory
 presses-memory l list error calm all h =
     let flip = all-middle h.handled h.dropped h.event (subst (All IsFlip) h.are all) in
-    let c = expand-all h.last (calm-path h.path calm) in
+    let c = flip-all h.last (calm-path h.path calm) in
     memory-alone h.last c.next events.ExpandAll c.leads error (subst (λ (v : Event). EventFails h.last v error) flip h.fails)
 
 -- ---- the start
+
+-- ---- what was folded is folded again
+
+one-folds : (is_shut : Bool) (key : SelectionKey) → AreFolds (if is_shut then Fold key ∷ [] else [])
+one-folds true key = All-cons IsFold (Fold key) [] (λ t e. cc e) (All-nil IsFold)
+one-folds false key = All-nil IsFold
+
+all-fold : (xs ys : List Deed) → AreFolds xs → AreFolds ys → AreFolds (xs ++ ys)
+all-fold [] ys h k = k
+all-fold (x ∷ xs) ys h k = All-cons IsFold x (xs ++ ys) (All-head IsFold x xs h) (all-fold xs ys (All-tail IsFold x xs h) k)
+
+sections-fold : (expanded ks : List SelectionKey) → AreFolds (section_folds expanded ks)
+sections-fold expanded [] = All-nil IsFold
+sections-fold expanded (k ∷ ks) =
+    let around = section_around k in
+    all-fold (fold_of expanded around) (section_folds expanded ks) (one-folds (is_folded expanded around) around) (sections-fold expanded ks)
+
+files-fold : (expanded ks : List SelectionKey) → AreFolds (file_folds expanded ks)
+files-fold expanded [] = All-nil IsFold
+files-fold expanded (k ∷ ks) =
+    let around = file_of k in
+    all-fold (fold_of expanded around) (file_folds expanded ks) (one-folds (is_folded expanded around) around) (files-fold expanded ks)
+
+pub again-folds : (expanded ks : List SelectionKey) → AreFolds (folds_again expanded ks)
+again-folds expanded ks = all-fold (section_folds expanded ks) (file_folds expanded ks) (sections-fold expanded ks) (files-fold expanded ks)
+
+-- all was unfolded in `mid`, and what follows leads to `last`
+pub tries-all : (l mid : Live) (turn last : Turn) (deeds : List Deed) (back : SelectionKey) → turn ≡ Waiting mid → Refolds l turn → Unfolds true l turn
+    → deeds ≡ folds_again l.session.shown.expanded (items_of l) → back ≡ l.session.shown.selection → FoldsUnlessShown mid deeds back last
+    → TriesAll l last
+tries-all l mid turn last deeds back e r u d b h = record {
+  whole = mid;
+  refolded = subst (λ (t : Turn). Refolds l t) e r;
+  unfolded = subst (λ (t : Turn). Unfolds true l t) e u;
+  last = subst (λ (list : List Deed). FoldsUnlessShown mid list l.session.shown.selection last) d (subst (λ (key : SelectionKey). FoldsUnlessShown mid deeds key last) b h);
+}
+
+pub fits-as-is : (l : Live) (keys : List SelectionKey) (cannot : Bool) → keys ≡ items_of l → cannot ≡ cannot_fit l keys → cannot ≡ true → Fits l (Waiting l)
+fits-as-is l keys cannot e c is = stays (sym (ap (λ (ks : List SelectionKey). cannot_fit l ks) e) ∙ (sym c ∙ is)) refl
+
+pub could-fit : (l : Live) (keys : List SelectionKey) (cannot : Bool) → keys ≡ items_of l → cannot ≡ cannot_fit l keys → cannot ≡ false
+    → cannot_fit l (items_of l) ≡ false
+could-fit l keys cannot e c is = sym (ap (λ (ks : List SelectionKey). cannot_fit l ks) e) ∙ (sym c ∙ is)
+
+pub unfolds-none : (is_open : Bool) (l : Live) (turn last : Turn) → turn ≡ last → Unfolds is_open l turn → Unfolds is_open l last
+unfolds-none is_open l turn last e h = subst (λ (t : Turn). Unfolds is_open l t) e h
 
 pub are-folds : (list deeds : List Deed) → list ≡ deeds → AreFolds deeds → AreFolds list
 are-folds list deeds e h = subst AreFolds (sym e) h

@@ -27,7 +27,7 @@ pub(crate) fn selection_of(session: &Begun<'_>) -> SelectionKey
 
 /// Adds deeds to `deeds` that fold again what jumps to `keys` unfold in `view`: first sections, then
 /// files.
-fn push_folds(
+pub(crate) fn push_folds(
     deeds: &mut Vec<Deed>,
     view: &ViewState<'_>,
     keys: &[SelectionKey],

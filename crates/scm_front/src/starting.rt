@@ -9,15 +9,16 @@ ghost use Rattle.scm_front.specs.declared.starting.Folds.{Folds as Unfolding};
 ghost use Rattle.scm_record.specs.Live.{Live};
 ghost use Rattle.scm_selection.specs.KeyLists.{all_keys};
 ghost use Rattle.scm_selection.specs.KeySet.{is_same_set, key_set};
-ghost use Rattle.scm_front.specs.Starting.{AreFolds, Refolds, Starts, Unfolds, UnfoldsAs, fold_events};
+ghost use Rattle.scm_front.specs.Starting.{AreFolds, Fits, FoldsUnlessShown, Refolds, Starts, Unfolds, UnfoldsAs, cannot_fit, fold_events, folds_again, items_of};
 
 use crate::begun::{Begun, BegunTurn};
 use crate::deeds::do_round;
+use crate::marking::{push_folds, selection_of};
 use crate::presses::press_each;
 use scm_front_items::Deed;
 use scm_record::key_lists::all_keys;
 use scm_record::keys::is_key;
-use scm_record::{ComponentId, Event, KeySet, RecordError, SelectionKey};
+use scm_record::{ComponentId, Event, RecordError, SelectionKey};
 use scm_view_state::ViewState;
 use std::alloc::Global;
 
@@ -99,22 +100,44 @@ fn set_folds<'state>(
     press_each(session, events)
 }
 
-/// Returns the deeds that fold those of `keys` again that are not `expanded`: what is inside first.
-fn folds_of(
+/// Returns whether the screen cannot show all of `keys`: there are none, or more than it has rows.
+fn cannot_fit(session: &Begun<'_>, keys: &[SelectionKey]) -> bool
+    ensures { result ≡ cannot_fit session.now keys.now }
+{
+    let rows = session.live().grid().height();
+    let is_none = keys.len() == 0;
+    let is_long = rows < keys.len();
+    is_none | is_long
+}
+
+/// Returns the last of `keys`, or `None` if there are none.
+fn last_of(keys: &[SelectionKey]) -> SelectionKey {
+    match keys.last() {
+        None => SelectionKey::None,
+        Some(key) => *key,
+    }
+}
+
+/// Returns the keys of all items of `session`, in the order of the screen.
+fn items_of(alloc: Global, session: &Begun<'_>) -> Result<Vec<SelectionKey>, RecordError>
+    ensures ok { IfOk result (λ keys. keys.items ≡ items_of session.now) }
+    ensures err { IfErr result (λ e. e ≡ OutOfMemory) }
+{
+    all_keys(alloc, session.live().state().files.as_slice())
+}
+
+/// Returns the deeds that fold those of `keys` again that are folded in `session`: what is inside first.
+fn folds_again(
     alloc: Global,
-    expanded: &KeySet,
+    session: &Begun<'_>,
     keys: &[SelectionKey],
 ) -> Result<Vec<Deed>, RecordError>
-    ensures folds { IfOk result (λ deeds. AreFolds deeds.items) }
+    ensures ok { IfOk result (λ deeds.
+        deeds.items ≡ folds_again session.now.session.shown.expanded keys.now) }
     ensures err { IfErr result (λ e. e ≡ OutOfMemory) }
 {
     let mut deeds = Vec::new(alloc);
-    for index in 0..keys.len() {
-        let key = keys[keys.len() - 1 - index];
-        if !matches!(key, SelectionKey::Line(_)) && !expanded.contains(key) {
-            deeds.push(Deed::Fold(key))?;
-        }
-    }
+    push_folds(&mut deeds, session.live().view_state(), keys)?;
     Ok(deeds)
 }
 
@@ -128,6 +151,8 @@ fn fold_unless_shown<'state>(
     ensures ok { IfOk result (λ turn. LeadsOn (Waiting session.entry) (turn_of turn)) }
     ensures folds { AreFolds folds.now
         → IfOk result (λ turn. Refolds session.entry (turn_of turn)) }
+    ensures shown { IfOk result (λ turn.
+        FoldsUnlessShown session.entry folds.now back (turn_of turn)) }
     ensures err { IfErr result (λ e. e ≡ OutOfMemory) }
 {
     if shows(&session, last) {
@@ -144,16 +169,16 @@ fn unfold_if_fitting<'state>(
 ) -> Result<BegunTurn<'state>, RecordError>
     ensures ok { IfOk result (λ turn. LeadsOn (Waiting session.entry) (turn_of turn)) }
     ensures folds { IfOk result (λ turn. Refolds session.entry (turn_of turn)) }
+    ensures fits { IfOk result (λ turn. Fits session.entry (turn_of turn)) }
     ensures err { IfErr result (λ e. e ≡ OutOfMemory) }
 {
-    let keys = all_keys(alloc, session.live().state().files.as_slice())?;
-    if keys.is_empty() || keys.len() > session.live().grid().height() {
+    let keys = items_of(alloc, &session)?;
+    if cannot_fit(&session, keys.as_slice()) {
         return Ok(BegunTurn::Waiting(session));
     }
-    let last = keys[keys.len() - 1];
-    let view = session.live().view_state();
-    let back = view.selection;
-    let folds = folds_of(alloc, &view.expanded, keys.as_slice())?;
+    let last = last_of(keys.as_slice());
+    let back = selection_of(&session);
+    let folds = folds_again(alloc, &session, keys.as_slice())?;
     let turn = set_folds(alloc, session, true)?;
     match turn {
         BegunTurn::Waiting(mid) => fold_unless_shown(mid, last, folds.as_slice(), back),

@@ -1,5 +1,7 @@
+use Rattle.std.proofs.Common.{refl}
 use Rattle.std.proofs.lemmas.Result.{IfOk-weaker}
 use Rattle.scm_record.specs.declared.live.Turn.TheVariants.{Waiting}
+use Rattle.scm_front.specs.Starting.{folds, shows}
 use Rattle.scm_front.proofs.BegunLemmas.{leads-still}
 use Rattle.scm_front.proofs.DeedLemmas.{round-path}
 use Rattle.scm_front.proofs.OutcomeLemmas.{same-folds}
@@ -17,3 +19,9 @@ returns-then-shows-clause-folds c = λ folds. same-folds c.args.session
 
 pub returns-else-shows-clause-folds : goal.returns-else-shows-clause-folds
 returns-else-shows-clause-folds c = λ folds. IfOk-weaker c.do_round.result _ _ (λ turn r. round-refolds r.1 folds) c.do_round.ensures.ok
+
+pub returns-then-shows-clause-shown : goal.returns-then-shows-clause-shown
+returns-then-shows-clause-shown c = shows refl
+
+pub returns-else-shows-clause-shown : goal.returns-else-shows-clause-shown
+returns-else-shows-clause-shown c = IfOk-weaker c.do_round.result _ _ (λ turn r. folds r.1) c.do_round.ensures.ok
