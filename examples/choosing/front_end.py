@@ -43,6 +43,12 @@ KEYS = """Keys:
   Esc                       while a range is begun: ends it
   u                         undoes the last change of marks
   ctrl-r                    does again what was undone last
+  g, G                      selects the first item, or the last one that is not
+                            folded away
+  ], [                      selects the next or the previous section, also in a
+                            file that is folded
+  }, {                      selects the next or the previous file
+  ctrl-n, ctrl-p            selects the next or the previous item
   >, <                      shows the columns further right or left
 """
 # end of keys

@@ -29,6 +29,12 @@
     "  Esc                       while a range is begun: ends it\n" \
     "  u                         undoes the last change of marks\n" \
     "  ctrl-r                    does again what was undone last\n" \
+    "  g, G                      selects the first item, or the last one that is not\n" \
+    "                            folded away\n" \
+    "  ], [                      selects the next or the previous section, also in a\n" \
+    "                            file that is folded\n" \
+    "  }, {                      selects the next or the previous file\n" \
+    "  ctrl-n, ctrl-p            selects the next or the previous item\n" \
     "  >, <                      shows the columns further right or left\n"
 /* end of keys */
 

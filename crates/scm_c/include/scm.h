@@ -389,9 +389,10 @@ uint32_t scm_start(scm_session *session, uint32_t folds, const scm_key *first);
 /* Sets the keys of the user's own, in place of those before: `length` bytes of `text`, with a part KEY=WORD for each key, separated
  * by spaces. KEY is the word of a key in scripts ("x", "shift-X", "ctrl-n", "pagedown"; "shift-h" and "shift-l" for H and L;
  * but not "="). WORD is the word of an event ("j", "space", "ctrl-d", "none"), or an action of the layer: "search", "next"
- * and "previous" (search again), "range" (begins or ends one), "mark" (marks the range), "undo", "redo" or "nothing". Such a
- * key comes before the keys of the layer and of the session, but for < and >, which show other columns. While a dialog is
- * open, only events count; while a text is asked for, none. The last of two equal keys counts. "" takes all keys away.
+ * and "previous" (search again), "first", "last", "next-section", "previous-section", "next-file" and "previous-file" (select an
+ * item), "range" (begins or ends one), "mark" (marks the range), "undo", "redo" or "nothing". Such a key comes before the keys of
+ * the layer and of the session. While a dialog is open, only events count; while a text is asked for, none. The last of two equal
+ * keys counts. "" takes all keys away.
  *
  * Returns SCM_DONE, or the first of SCM_NO_KEY, SCM_CLOSED, and SCM_NOT_NOW if the session has no layer or waits for no event; or
  * SCM_NO_MEMORY. */

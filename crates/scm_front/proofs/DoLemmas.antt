@@ -11,6 +11,7 @@ use Rattle.scm_record.specs.declared.live.Turn.{Turn}
 use Rattle.scm_record.specs.declared.live.Turn.TheVariants as turns
 use Rattle.scm_front_items.specs.declared.items.Way.{Way}
 use Rattle.scm_front_items.specs.declared.items.Way.TheVariants.{Up, Down}
+use Rattle.scm_front_items.specs.declared.places.Place.{Place}
 use Rattle.scm_front_items.specs.declared.runs.Run.{Run}
 use Rattle.scm_front_items.specs.declared.runs.Step.{Step}
 use Rattle.scm_front_items.specs.declared.history.History.{History}
@@ -21,7 +22,7 @@ use Rattle.scm_front.specs.declared.asking.Query.{Query}
 use Rattle.scm_front.specs.declared.asking.Typing.{Typing}
 use Rattle.scm_front.specs.declared.asking.Typing.TheVariants.{Finish}
 use Rattle.scm_front.specs.declared.actions.Action.{Action}
-use Rattle.scm_front.specs.declared.actions.Action.TheVariants.{Pass, Edit, Seek, Again, Range, Mark}
+use Rattle.scm_front.specs.declared.actions.Action.TheVariants.{Pass, Edit, Seek, Again, Go, Range, Mark}
 use Rattle.scm_front.specs.declared.kept.Kept.{Kept}
 use Rattle.scm_front.specs.declared.kept.Notice.{Notice}
 use Rattle.scm_front.specs.declared.kept.Notice.TheVariants as notices
@@ -37,7 +38,7 @@ use Rattle.scm_front.specs.declared.recording.Author.TheVariants.{User, Program}
 use Rattle.scm_front.specs.Handing.{HandsOn}
 use Rattle.scm_front.specs.Recording.{BeginsAnewAt, RecordsAt, RemembersAt, Returns, back_of}
 use Rattle.scm_front.specs.Restoring.{RestoresTo}
-use Rattle.scm_front.specs.Fronts.{Does, passes, types, misses, jumps, seeks, ranges, marks, lacks, restores, front, front_of, found, heard, is_elsewhere, HasMarks, IsGiven, RemembersIn, beneath_of, files_of, marks_of, search_word, selection_of, range_deeds, restoring}
+use Rattle.scm_front.specs.Fronts.{Does, passes, types, misses, jumps, seeks, goes, ranges, marks, lacks, restores, front, front_of, found, heard, is_elsewhere, HasMarks, IsGiven, RemembersIn, beneath_of, destination, files_of, marks_of, search_word, selection_of, range_deeds, restoring}
 use Rattle.scm_front.proofs.FrontLemmas.{beneath-is}
 
 -- what is kept with a word is kept as that
@@ -115,6 +116,16 @@ module _ (f : Front) where
   pub sought : (q : Query) (turn : FrontTurn) → q ≡ after_typing Finish f.query → ((calls : List Call) × Does (front f.beneath q f.kept) (Again Down) calls turn)
       → (calls : List Call) × Does f Seek calls turn
   sought q turn e does = (does.0, seeks (subst (λ (x : Query). Does (front f.beneath x f.kept) (Again Down) does.0 turn) e does.1))
+
+  pub gone : (place : Place) (key : SelectionKey) (next : Live) (q : Query) (kept : Kept) → key ≡ destination place f.beneath → q ≡ with_word f.query false
+      → kept ≡ saying f.kept notices.Nothing → ((calls : List Call) × JumpLeads f.beneath key calls next)
+      → (calls : List Call) × Does f (Go place) calls (Waiting (front next q kept))
+  gone place key next q kept is word says leads = (
+    leads.0,
+    subst (λ (k : Kept). Does f (Go place) leads.0 (Waiting (front next q k))) (sym says)
+        (subst (λ (x : Query). Does f (Go place) leads.0 (Waiting (front next x (saying f.kept notices.Nothing)))) (sym word)
+        (goes (subst (λ (to : SelectionKey). JumpLeads f.beneath to leads.0 next) is leads.1))),
+  )
 
   pub ranged : (q : Query) (kept : Kept) → q ≡ with_word f.query false → kept ≡ after_range f.kept (selection_of f.beneath)
       → Does f Range [] (Waiting (front f.beneath q kept))

@@ -4,6 +4,7 @@ use Rattle.scm_types.specs.declared.keys.SelectionKey.TheVariants as keys
 use Rattle.scm_selection.specs.KeyLists.{is_line}
 use Rattle.std.proofs.Common.{◌≡◌, ℕ, zero, suc, Bool, true, false, cond, List, [], ◌∷◌, ◌++◌, drop, refl, sym, ap, ◌∙◌, subst}
 use Rattle.std.proofs.lemmas.List.{same_from_push}
+use Rattle.scm_view.specs.ViewState.{ViewState}
 use Rattle.scm_record.specs.Live.{Live}
 use Rattle.scm_record.specs.LiveCalls.{Call}
 use Rattle.scm_record.specs.declared.live.Turn.{Turn}
@@ -12,23 +13,27 @@ use Rattle.scm_input.specs.declared.events.Event.{Event}
 use Rattle.scm_front_items.specs.declared.history.History.{History}
 use Rattle.scm_front_items.specs.declared.items.Way.{Way}
 use Rattle.scm_front_items.specs.declared.items.Way.TheVariants.{Down, Up}
+use Rattle.scm_front_items.specs.declared.places.Place.{Place}
 use Rattle.scm_front_items.specs.declared.runs.Step.{Step}
 use Rattle.scm_front_items.specs.Histories.{KeepsStep, drops, keeps}
 use Rattle.scm_front_items.specs.Runs.{marks_with}
 use Rattle.scm_front_items.proofs.BackLemmas.{back-restores}
 use Rattle.scm_front_items.proofs.HistoryLemmas.{bounded-newest}
 use Rattle.scm_front.specs.declared.actions.Action.{Action}
-use Rattle.scm_front.specs.declared.actions.Action.TheVariants.{Mark, Pass, Redo, Undo}
+use Rattle.scm_front.specs.declared.actions.Action.TheVariants.{Go, Mark, Pass, Redo, Undo}
 use Rattle.scm_front.specs.declared.asking.Query.{Query}
 use Rattle.scm_front.specs.declared.kept.Kept.{Kept}
 use Rattle.scm_front.specs.declared.kept.Notice.TheVariants as notices
 use Rattle.scm_front.specs.declared.layer.Front.{Front}
 use Rattle.scm_front.specs.declared.layer.FrontTurn.{FrontTurn}
 use Rattle.scm_front.specs.declared.layer.FrontTurn.TheVariants.{Waiting}
-use Rattle.scm_front.specs.Fronts.{Does, HasMarks, files_of, is_elsewhere, is_restoring, search_word, selection_of, front, front_of, ignores, jumps, lacks, marks, marks_of, misses, passes, ranges, restores, restoring, seeks, types}
+use Rattle.scm_front.specs.Fronts.{Does, HasMarks, files_of, is_elsewhere, is_restoring, search_word, selection_of, front, front_of, goes, ignores, jumps, lacks, marks, marks_of, misses, passes, ranges, restores, restoring, seeks, types}
 use Rattle.scm_front.specs.Asking.{after_typing, with_word}
+use Rattle.scm_front.specs.Begun.{JumpLeads}
+use Rattle.scm_front.specs.Begun as begun
 use Rattle.scm_front.specs.Keeping.{after_range, anchored, done_word, is_none, nothing_left, other_way, saying, steps_of}
 use Rattle.scm_front.specs.Recording.{Recalls, Remembers, RemembersAt, Returns, back_of, forgotten, remembered, unchanged}
+use Rattle.scm_front.proofs.OutcomeLemmas.{selecting-refolds}
 
 -- ---- the newest step
 
@@ -73,6 +78,7 @@ by-pass types event is g e = absurd (cc is)
 by-pass (misses x) event is g e = absurd (cc is)
 by-pass (jumps x y) event is g e = absurd (cc is)
 by-pass (seeks x) event is g e = absurd (cc is)
+by-pass (goes x) event is g e = absurd (cc is)
 by-pass ranges event is g e = absurd (cc is)
 by-pass (marks turn kept x y z) event is g e = absurd (cc is)
 by-pass (lacks Up kept x y) event is g e = absurd (cc is)
@@ -89,6 +95,7 @@ by-mark types is g e = absurd (cc is)
 by-mark (misses x) is g e = absurd (cc is)
 by-mark (jumps x y) is g e = absurd (cc is)
 by-mark (seeks x) is g e = absurd (cc is)
+by-mark (goes x) is g e = absurd (cc is)
 by-mark ranges is g e = absurd (cc is)
 by-mark (lacks Up kept x y) is g e = absurd (cc is)
 by-mark (lacks Down kept x y) is g e = absurd (cc is)
@@ -150,6 +157,8 @@ done-by (jumps x y) Up is h e said = absurd (cc is)
 done-by (jumps x y) Down is h e said = absurd (cc is)
 done-by (seeks x) Up is h e said = absurd (cc is)
 done-by (seeks x) Down is h e said = absurd (cc is)
+done-by (goes x) Up is h e said = absurd (cc is)
+done-by (goes x) Down is h e said = absurd (cc is)
 done-by ranges Up is h e said = absurd (cc is)
 done-by ranges Down is h e said = absurd (cc is)
 done-by (marks turn kept x y z) Up is h e said = absurd (cc is)
@@ -244,6 +253,8 @@ later-recalls before (misses {f = f} x) free g e m h = still-recalls before f g 
 later-recalls before (jumps {f = f} {way = way} {key = key} {next = next} x y) free g e m h =
     still-recalls before f g next (with_word f.query (is_elsewhere key next)) (saying f.kept (search_word way f.beneath.session.shown.selection key)) e refl m h
 later-recalls before (seeks does) free g e m h = later-recalls before does refl g e m h
+later-recalls before (goes {f = f} {next = next} x) free g e m h =
+    still-recalls before f g next (with_word f.query false) (saying f.kept notices.Nothing) e refl m h
 later-recalls before (ranges {f = f}) free g e m h =
     still-recalls before f g f.beneath (with_word f.query false) (after_range f.kept (selection_of f.beneath)) e (range-history f.kept (selection_of f.beneath)) m h
 later-recalls before (lacks Up kept x y) free g e m h = absurd (cc free)
@@ -260,3 +271,29 @@ pub undo-recalled : (before : List (List (List Bool))) (f g : Front) (calls : Li
 undo-recalled before f g calls h undo said =
     let d = done-by undo Up refl g refl said in
     d.now ∙ h d.rest d.step d.newest
+
+-- ---- moves to a place
+
+-- a jump changes no marks
+jump-files : {l next : Live} {key : SelectionKey} {calls : List Call} → JumpLeads l key calls next → files_of next ≡ files_of l
+jump-files (begun.jumps {l = l} {key = key} moves leads) = ap (λ (view : ViewState). view.state.files) (selecting-refolds l key).shown
+jump-files (begun.stays e) = refl
+
+-- a move to a place changes no marks
+pub go-keeps : {f : Front} {action : Action} {calls : List Call} {turn : FrontTurn} → Does f action calls turn → (place : Place) → action ≡ Go place → (g : Front) → turn ≡ Waiting g
+    → files_of g.beneath ≡ files_of f.beneath
+go-keeps (goes {f = f} {next = next} leads) place is g e =
+    let same : front next (with_word f.query false) (saying f.kept notices.Nothing) ≡ g = cc e in
+    sym (ap (λ (x : Front). files_of x.beneath) same) ∙ jump-files leads
+go-keeps (passes turn kept x y z) place is g e = absurd (cc is)
+go-keeps types place is g e = absurd (cc is)
+go-keeps (misses x) place is g e = absurd (cc is)
+go-keeps (jumps x y) place is g e = absurd (cc is)
+go-keeps (seeks x) place is g e = absurd (cc is)
+go-keeps ranges place is g e = absurd (cc is)
+go-keeps (marks turn kept x y z) place is g e = absurd (cc is)
+go-keeps (lacks Up kept x y) place is g e = absurd (cc is)
+go-keeps (lacks Down kept x y) place is g e = absurd (cc is)
+go-keeps (restores Up rest step turn kept a b c d h) place is g e = absurd (cc is)
+go-keeps (restores Down rest step turn kept a b c d h) place is g e = absurd (cc is)
+go-keeps ignores place is g e = absurd (cc is)

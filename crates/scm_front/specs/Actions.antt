@@ -11,10 +11,12 @@ use Rattle.scm_input.specs.declared.terminal.KeyEventKind.{KeyEventKind}
 use Rattle.scm_input.specs.declared.terminal.KeyEventKind.TheVariants.{Press, Repeat, Release}
 use Rattle.scm_input.specs.declared.terminal.TerminalEvent.{TerminalEvent}
 use Rattle.scm_input.specs.declared.terminal.TerminalEvent.TheVariants as terminal
+use Rattle.scm_input.specs.declared.events.Event.TheVariants.{FocusNext, FocusPrev}
 use Rattle.scm_front_items.specs.declared.items.Way.TheVariants.{Up, Down}
+use Rattle.scm_front_items.specs.declared.places.Place.TheVariants.{First, Last, Section, File}
 use Rattle.scm_front.specs.declared.asking.Typing.TheVariants.{Ask, Add, Erase, Leave}
 use Rattle.scm_front.specs.declared.actions.Action.{Action}
-use Rattle.scm_front.specs.declared.actions.Action.TheVariants.{Pass, Edit, Seek, Again, Range, Mark, Undo, Redo, Ignore}
+use Rattle.scm_front.specs.declared.actions.Action.TheVariants.{Pass, Edit, Seek, Again, Go, Range, Mark, Undo, Redo, Ignore}
 use Rattle.scm_front.specs.declared.actions.OwnKey.{OwnKey}
 use Rattle.scm_front.specs.declared.actions.Mode.{Mode}
 use Rattle.scm_front.specs.declared.actions.Mode.TheVariants as modes
@@ -38,6 +40,19 @@ own_keys =
     ∷ by none (char "v") Range
     ∷ by none (char "u") Undo
     ∷ by control (char "r") Redo
+    ∷ []
+
+-- the layer's keys that move the selection
+abbrev pub moving_keys : List ActionRow
+moving_keys =
+    by none (char "g") (Go First)
+    ∷ by shift (char "G") (Go Last)
+    ∷ by none (char "]") (Go (Section Down))
+    ∷ by none (char "[") (Go (Section Up))
+    ∷ by none (char "}") (Go (File Down))
+    ∷ by none (char "{") (Go (File Up))
+    ∷ by control (char "n") (Pass FocusNext)
+    ∷ by control (char "p") (Pass FocusPrev)
     ∷ []
 
 -- the keys that come before these while a range is begun
@@ -87,7 +102,7 @@ asking_key Release modifiers code = Ignore
 
 -- the action of pressing one of the layer's own keys, or `pass`
 abbrev pub own_action : KeyModifiers → KeyCode → Action → Action
-own_action modifiers code pass = first_action own_keys modifiers code pass
+own_action modifiers code pass = first_action own_keys modifiers code (first_action moving_keys modifiers code pass)
 
 -- the same while a range is begun
 abbrev pub ranging_action : KeyModifiers → KeyCode → Action → Action
@@ -136,6 +151,7 @@ session_action (Pass event) pass = Pass event
 session_action (Edit typing) pass = pass
 session_action Seek pass = pass
 session_action (Again way) pass = pass
+session_action (Go place) pass = pass
 session_action Range pass = pass
 session_action Mark pass = pass
 session_action Undo pass = pass

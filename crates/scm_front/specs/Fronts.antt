@@ -22,6 +22,9 @@ use Rattle.scm_front_items.specs.declared.history.History.{History}
 use Rattle.scm_front_items.specs.declared.runs.Step.{Step}
 use Rattle.scm_front_items.specs.declared.targets.Deed.{Deed}
 use Rattle.scm_front_items.specs.Search.{is_towards, item_around}
+use Rattle.scm_selection.specs.KeySet.{has_key}
+use Rattle.scm_front_items.specs.declared.places.Place.{Place}
+use Rattle.scm_front_items.specs.Places.{moved_to}
 use Rattle.scm_front_items.specs.Ranges.{lines_between, mark_for, marking}
 use Rattle.scm_front_items.specs.Plans.{section_folds, file_folds}
 use Rattle.scm_front_items.specs.Runs.{marks_of_files, marks_with}
@@ -29,7 +32,7 @@ use Rattle.scm_front.specs.declared.asking.Query.{Query}
 use Rattle.scm_front.specs.declared.asking.Typing.{Typing}
 use Rattle.scm_front.specs.declared.asking.Typing.TheVariants.{Finish}
 use Rattle.scm_front.specs.declared.actions.Action.{Action}
-use Rattle.scm_front.specs.declared.actions.Action.TheVariants.{Pass, Edit, Seek, Again, Range, Mark, Undo, Redo, Ignore}
+use Rattle.scm_front.specs.declared.actions.Action.TheVariants.{Pass, Edit, Seek, Again, Go, Range, Mark, Undo, Redo, Ignore}
 use Rattle.scm_front.specs.declared.actions.Mode.{Mode}
 use Rattle.scm_front.specs.declared.actions.Mode.TheVariants as modes
 use Rattle.scm_front.specs.declared.kept.Kept.{Kept}
@@ -169,6 +172,7 @@ is_restoring (Pass event) = false
 is_restoring (Edit typing) = false
 is_restoring Seek = false
 is_restoring (Again way) = false
+is_restoring (Go place) = false
 is_restoring Range = false
 is_restoring Mark = false
 is_restoring Undo = true
@@ -179,6 +183,10 @@ is_restoring Ignore = false
 abbrev pub restoring : Way → Action
 restoring Up = Undo
 restoring Down = Redo
+
+-- the item to which a move to a place leads
+abbrev pub destination : Place → Live → SelectionKey
+destination place l = moved_to place (has_key l.session.shown.expanded) l.session.shown.state.files l.session.shown.selection
 
 -- ---- what is heard
 
@@ -203,6 +211,9 @@ pub data Does : Front → Action → List Call → FrontTurn → Type 0 where
   -- the end of a question is a search downwards for its text
   seeks : {f : Front} {calls : List Call} {turn : FrontTurn}
       → Does (front f.beneath (after_typing Finish f.query) f.kept) (Again Down) calls turn → Does f Seek calls turn
+  -- a move to a place selects the item there by a jump; the selection stays if there is none
+  goes : {f : Front} {place : Place} {calls : List Call} {next : Live} → JumpLeads f.beneath (destination place f.beneath) calls next
+      → Does f (Go place) calls (Waiting (front next (with_word f.query false) (saying f.kept notices.Nothing)))
   -- a range begins or ends, and the session is as it was
   ranges : {f : Front}
       → Does f Range [] (Waiting (front f.beneath (with_word f.query false) (after_range f.kept (selection_of f.beneath))))

@@ -2,10 +2,10 @@
 ghost use Rattle.std.specs.Prelude.{◌≡◌};
 ghost use Rattle.std.specs.List.{list_any};
 ghost use Rattle.scm_input.specs.KeyTable.{same_key, same_modifiers};
-ghost use Rattle.scm_front.specs.Actions.{action_by, action_of, adding, asking_action, asking_key, dialog_key, free_key, has_key, is_pressed, last_action, own_action, ranging_action, session_action};
+ghost use Rattle.scm_front.specs.Actions.{action_by, action_of, adding, asking_action, asking_key, dialog_key, first_action, free_key, has_key, is_pressed, last_action, moving_keys, own_action, ranging_action, session_action};
 
 use crate::asking::Typing;
-use scm_front_items::Way;
+use scm_front_items::{Place, Way};
 use scm_record::{Event, KeyCode, KeyEvent, KeyEventKind, KeyModifiers, TerminalEvent};
 
 /// No modifier is held.
@@ -28,6 +28,8 @@ pub enum Action {
     Seek,
     /// Searches for the last text again.
     Again(Way),
+    /// Selects the item at a place.
+    Go(Place),
     /// Begins a range at the selected line, or ends the range.
     Range,
     /// Sets the marks of the lines of the range, and ends it.
@@ -164,6 +166,24 @@ fn last_action(keys: &[OwnKey], modifiers: KeyModifiers, code: KeyCode, otherwis
     action
 }
 
+/// Returns the action of pressing the key `code` with exactly `modifiers` if it moves the selection, and else
+/// `pass`.
+fn moving_action(modifiers: KeyModifiers, code: KeyCode, pass: Action) -> Action
+    ensures { result ≡ first_action moving_keys modifiers code pass }
+{
+    match (modifiers, code) {
+        (NONE, KeyCode::Char('g')) => Action::Go(Place::First),
+        (SHIFT, KeyCode::Char('G')) => Action::Go(Place::Last),
+        (NONE, KeyCode::Char(']')) => Action::Go(Place::Section(Way::Down)),
+        (NONE, KeyCode::Char('[')) => Action::Go(Place::Section(Way::Up)),
+        (NONE, KeyCode::Char('}')) => Action::Go(Place::File(Way::Down)),
+        (NONE, KeyCode::Char('{')) => Action::Go(Place::File(Way::Up)),
+        (CONTROL, KeyCode::Char('n')) => Action::Pass(Event::FocusNext),
+        (CONTROL, KeyCode::Char('p')) => Action::Pass(Event::FocusPrev),
+        _ => pass,
+    }
+}
+
 /// Returns the action of pressing the key `code` with exactly `modifiers`: `pass` if the layer has no
 /// such key.
 fn own_action(modifiers: KeyModifiers, code: KeyCode, pass: Action) -> Action
@@ -176,7 +196,7 @@ fn own_action(modifiers: KeyModifiers, code: KeyCode, pass: Action) -> Action
         (NONE, KeyCode::Char('v')) => Action::Range,
         (NONE, KeyCode::Char('u')) => Action::Undo,
         (CONTROL, KeyCode::Char('r')) => Action::Redo,
-        _ => pass,
+        _ => moving_action(modifiers, code, pass),
     }
 }
 
@@ -218,6 +238,7 @@ fn session_action(action: Action, pass: Action) -> Action
         Action::Edit(_)
         | Action::Seek
         | Action::Again(_)
+        | Action::Go(_)
         | Action::Range
         | Action::Mark
         | Action::Undo

@@ -20,6 +20,7 @@ ghost use Rattle.scm_record.specs.declared.live.Turn.{Turn};
 ghost use Rattle.scm_record.specs.declared.live.Turn.TheVariants.{Waiting, Accepted};
 ghost use Rattle.scm_front.specs.Presses.{PressesLead};
 ghost use Rattle.scm_types.specs.declared.keys.SelectionKey.{SelectionKey};
+ghost use Rattle.scm_front_items.specs.declared.places.Place.{Place};
 ghost use Rattle.scm_front_items.specs.Targets.{after_deeds};
 ghost use Rattle.scm_front.specs.Deeds.{RoundLeads};
 ghost use Rattle.scm_front.specs.Free.{IsFree};
@@ -28,7 +29,7 @@ ghost use Rattle.scm_front.specs.Recording.{Recalls};
 ghost use Rattle.scm_front.specs.Logging.{HasLog};
 ghost use Rattle.scm_front.specs.declared.logging.CallLog.{CallLog};
 ghost use Rattle.scm_front.specs.declared.actions.Action.{Action};
-ghost use Rattle.scm_front.specs.declared.actions.Action.TheVariants.{Mark, Pass, Redo, Undo};
+ghost use Rattle.scm_front.specs.declared.actions.Action.TheVariants.{Go, Mark, Pass, Redo, Undo};
 ghost use Rattle.scm_front.specs.declared.kept.Notice.TheVariants.{Redone, Undone};
 ghost use Rattle.scm_front.specs.declared.layer.Front.{Front};
 ghost use Rattle.scm_front.specs.declared.layer.FrontTurn.{FrontTurn};
@@ -132,6 +133,15 @@ pub fn undos_restore_marks()
         → Does f Redo calls (FrontTurn.Waiting g) → g.kept.word ≡ Redone
         → Does g Undo more (FrontTurn.Waiting h) → h.kept.word ≡ Undone
         → marks_of h ≡ marks_of f }
+{}
+
+/// Proves that a move to a place changes no mark.
+///
+/// This is a law: the function does nothing, and is there for its contract.
+pub fn moves_keep_marks()
+    ensures { (f g : Front) (place : Place) (calls : List Call)
+        → Does f (Go place) calls (FrontTurn.Waiting g)
+        → files_of g.beneath ≡ files_of f.beneath }
 {}
 
 /// Proves which session an event leads to.

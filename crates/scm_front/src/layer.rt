@@ -11,7 +11,7 @@ ghost use Rattle.scm_record.specs.declared.live.Turn.TheVariants.{Editing as Edi
 ghost use Rattle.scm_front_items.specs.declared.items.Way.{Way as Direction};
 ghost use Rattle.scm_front_items.specs.declared.runs.Step.{Step as Past};
 ghost use Rattle.scm_front.specs.declared.kept.Notice.TheVariants.{NotRestored};
-ghost use Rattle.scm_front.specs.declared.actions.Action.TheVariants.{Again, Edit, Mark, Pass, Range, Seek};
+ghost use Rattle.scm_front.specs.declared.actions.Action.TheVariants.{Again, Edit, Go, Mark, Pass, Range, Seek};
 ghost use Rattle.scm_front.specs.Actions.{has_key};
 ghost use Rattle.scm_front.specs.Asking.{new_query};
 ghost use Rattle.scm_front.specs.Driving.{turn_of};
@@ -34,12 +34,13 @@ use crate::deeds::do_round;
 use crate::kept::{Kept, Notice};
 use crate::logging::Logging;
 use crate::marking::{
-    Restoring, is_restored, range_deeds, restore, runs_of_range, selection_of, what_to_restore,
+    Restoring, destination, is_restored, range_deeds, restore, runs_of_range, selection_of,
+    what_to_restore,
 };
 use crate::presses::press_each;
 use crate::recording::{Author, history_after, runs_before, runs_before_all};
 use crate::starting::{Folds, fold_at_start, select_first};
-use scm_front_items::{History, Run, Step, Way, is_towards, item_around};
+use scm_front_items::{History, Place, Run, Step, Way, is_towards, item_around};
 use scm_record::keys::is_key;
 use scm_record::{
     Editing, Event, Items, LiveSession, RecordError, RecordState, SelectionKey, TerminalEvent,
@@ -675,6 +676,33 @@ impl<'state> Front<'state> {
         asked.search(Way::Down)
     }
 
+    /// Selects the item to which a move to `place` leads, and unfolds what it is in. If there is none, the
+    /// selection stays. No mark changes, and a range stays begun.
+    ///
+    /// # Errors
+    ///
+    /// An error ends the session.
+    ///
+    /// - `OutOfMemory`: an allocation failed.
+    pub fn go(self, place: Place) -> Result<FrontTurn<'state>, RecordError>
+        ensures ok { IfOk result (λ turn.
+            (calls : List Call) × Does self.entry (Go place) calls turn) }
+        ensures err { IfErr result (λ e. e ≡ OutOfMemory) }
+    {
+        let Front {
+            beneath,
+            query,
+            kept,
+        } = self;
+        let key = destination(kept.alloc, &beneath, place)?;
+        let beneath = beneath.select(key)?;
+        Ok(FrontTurn::Waiting(Front {
+            beneath,
+            query: with_word(query, false),
+            kept: saying(kept, Notice::Nothing),
+        }))
+    }
+
     /// Begins a range at the selected line, or ends the range if one is begun. The session beneath is
     /// unchanged.
     pub fn range(self) -> Front<'state>
@@ -799,6 +827,7 @@ impl<'state> Front<'state> {
             Action::Edit(typing) => self.edit(typing),
             Action::Seek => self.seek(),
             Action::Again(way) => self.search(way),
+            Action::Go(place) => self.go(place),
             Action::Range => Ok(FrontTurn::Waiting(self.range())),
             Action::Mark => self.mark(),
             Action::Undo => self.restore(Way::Up),

@@ -27,5 +27,5 @@ pub use asking::{Query, Typing};
 pub use kept::{Kept, Notice};
 pub use layer::{Front, FrontEditing, FrontTurn};
 pub use logging::{CallLog, LoggedCall, Logging};
-pub use scm_front_items::{Way, item_around, item_towards};
+pub use scm_front_items::{Place, Way, item_around, item_towards};
 pub use starting::Folds;

@@ -2,18 +2,21 @@
 ghost use Rattle.std.specs.Prelude.{◌≡◌, [], ◌++◌, IfErr, IfOk, IfSome, IsTrue, OnOk, map};
 ghost use Rattle.scm_front_items.specs.Targets.{key_of};
 ghost use Rattle.scm_errors.specs.declared.error.RecordError.TheVariants.{OutOfMemory};
+ghost use Rattle.scm_selection.specs.KeySet.{has_key};
+ghost use Rattle.scm_front_items.specs.Places.{moved_to};
 ghost use Rattle.scm_front_items.specs.Plans.{file_folds, section_folds, with_plan};
 ghost use Rattle.scm_front_items.specs.Runs.{marks_of_files, marks_with};
 ghost use Rattle.scm_front_items.specs.Steps.{runs_of_range};
 ghost use Rattle.scm_front.specs.Deeds.{SomeDeedsLead, SomeRoundLeads};
 ghost use Rattle.scm_front.specs.Driving.{turn_of};
-ghost use Rattle.scm_front.specs.Fronts.{HasMarks, files_of, range_deeds, selection_of};
+ghost use Rattle.scm_front.specs.Fronts.{HasMarks, destination, files_of, range_deeds, selection_of};
 ghost use Rattle.scm_front.specs.Recording.{back_of};
 
 use crate::begun::{Begun, BegunTurn};
 use crate::deeds::{do_deeds, do_round};
+use scm_front_items::places::moved_to;
 use scm_front_items::plans::{self, Part};
-use scm_front_items::{Deed, Marks, Run, Step, ranges, runs, steps};
+use scm_front_items::{Deed, Marks, Place, Run, Step, ranges, runs, steps};
 use scm_record::{Items, RecordError, SelectionKey};
 use scm_view_state::ViewState;
 use std::alloc::Global;
@@ -23,6 +26,33 @@ pub(crate) fn selection_of(session: &Begun<'_>) -> SelectionKey
     ensures { result ≡ selection_of session.now }
 {
     session.live().view_state().selection
+}
+
+/// Returns the item of `view` to which a move to `place` leads, or the selection if there is none.
+fn place_in(alloc: Global, view: &ViewState<'_>, place: Place) -> Result<SelectionKey, RecordError>
+    ensures ok { IfOk result (λ key. key ≡ moved_to place (has_key view.now.expanded)
+        view.now.state.files view.now.selection) }
+    ensures err { IfErr result (λ e. e ≡ OutOfMemory) }
+{
+    moved_to(
+        alloc,
+        place,
+        &view.expanded,
+        view.state.files.as_slice(),
+        view.selection,
+    )
+}
+
+/// Returns the item to which a move to `place` leads, or the selection if there is none.
+pub(crate) fn destination(
+    alloc: Global,
+    session: &Begun<'_>,
+    place: Place,
+) -> Result<SelectionKey, RecordError>
+    ensures ok { IfOk result (λ key. key ≡ destination place session.now) }
+    ensures err { IfErr result (λ e. e ≡ OutOfMemory) }
+{
+    place_in(alloc, session.live().view_state(), place)
 }
 
 /// Adds deeds to `deeds` that fold again what jumps to `keys` unfold in `view`: first sections, then

@@ -2,6 +2,8 @@
 pub mod Occurs
 -- the item that a search finds, and the order of keys on the screen
 pub mod Search
+-- moves of the selection to a place
+pub mod Places
 -- the lines of a range
 pub mod Ranges
 -- marks that are to be set, by toggles

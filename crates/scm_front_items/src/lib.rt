@@ -8,6 +8,7 @@ pub mod history;
 mod items;
 pub mod laws;
 mod occurs;
+pub mod places;
 pub mod plans;
 pub mod ranges;
 pub mod runs;
@@ -16,5 +17,6 @@ pub mod targets;
 
 pub use history::History;
 pub use items::{Way, is_towards, item_around, item_towards};
+pub use places::Place;
 pub use runs::{Marks, Run, Step};
 pub use targets::{Deed, Target};

@@ -7,8 +7,9 @@ use Rattle.scm_input.specs.declared.terminal.TerminalEvent.{TerminalEvent}
 use Rattle.scm_input.specs.declared.terminal.TerminalEvent.TheVariants as terminal
 use Rattle.scm_script.specs.Words.{Row, event_of_word, find_row, key_event_of, row}
 use Rattle.scm_front_items.specs.declared.items.Way.TheVariants.{Down, Up}
+use Rattle.scm_front_items.specs.declared.places.Place.TheVariants.{First, Last, Section, File}
 use Rattle.scm_front.specs.declared.actions.Action.{Action}
-use Rattle.scm_front.specs.declared.actions.Action.TheVariants.{Pass, Edit, Again, Range, Mark, Undo, Redo, Ignore}
+use Rattle.scm_front.specs.declared.actions.Action.TheVariants.{Pass, Edit, Again, Go, Range, Mark, Undo, Redo, Ignore}
 use Rattle.scm_front.specs.declared.actions.OwnKey.{OwnKey}
 use Rattle.scm_front.specs.declared.asking.Typing.TheVariants.{Ask}
 use Rattle.scm_front_paint.specs.Seen.{Seen}
@@ -29,6 +30,12 @@ layer_actions =
     row "search" (Edit Ask)
     ∷ row "next" (Again Down)
     ∷ row "previous" (Again Up)
+    ∷ row "first" (Go First)
+    ∷ row "last" (Go Last)
+    ∷ row "next-section" (Go (Section Down))
+    ∷ row "previous-section" (Go (Section Up))
+    ∷ row "next-file" (Go (File Down))
+    ∷ row "previous-file" (Go (File Up))
     ∷ row "range" Range
     ∷ row "mark" Mark
     ∷ row "undo" Undo

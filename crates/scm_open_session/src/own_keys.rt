@@ -9,7 +9,7 @@ ghost use Rattle.scm_script.specs.Words.{find_row};
 
 use scm_c_values::batches::split_piece;
 use scm_c_values::codes;
-use scm_front::{Action, OwnKey, Typing, Way};
+use scm_front::{Action, OwnKey, Place, Typing, Way};
 use scm_record::TerminalEvent;
 use scm_script::{read_event, read_key};
 use std::alloc::{AllocError, Global};
@@ -22,6 +22,12 @@ fn layer_action(word: &str) -> Option<Action>
         "search" => Some(Action::Edit(Typing::Ask)),
         "next" => Some(Action::Again(Way::Down)),
         "previous" => Some(Action::Again(Way::Up)),
+        "first" => Some(Action::Go(Place::First)),
+        "last" => Some(Action::Go(Place::Last)),
+        "next-section" => Some(Action::Go(Place::Section(Way::Down))),
+        "previous-section" => Some(Action::Go(Place::Section(Way::Up))),
+        "next-file" => Some(Action::Go(Place::File(Way::Down))),
+        "previous-file" => Some(Action::Go(Place::File(Way::Up))),
         "range" => Some(Action::Range),
         "mark" => Some(Action::Mark),
         "undo" => Some(Action::Undo),

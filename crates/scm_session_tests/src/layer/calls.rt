@@ -1,6 +1,6 @@
 //! Calls without a session.
 use crate::layer::states::state_of_files;
-use scm_front::{AcceptedState, Action, Logging, Mode, Typing, Way, action_of, item_around};
+use scm_front::{AcceptedState, Action, Logging, Mode, Place, Typing, Way, action_of, item_around};
 use scm_record::key_lists::{file_key, line_key};
 use scm_record::keys::is_key;
 use scm_record::{
@@ -22,6 +22,8 @@ fn pressed(character: char) -> TerminalEvent {
 fn keys_are_known_without_a_session(rt: HostRuntime) -> Result<(), Fail> {
     let again = action_of(Mode::Free, &[], pressed('n'));
     assert!(rt; matches!(again, Action::Again(Way::Down)));
+    let first = action_of(Mode::Ranging, &[], pressed('g'));
+    assert!(rt; matches!(first, Action::Go(Place::First)));
     let typed = action_of(Mode::Asking, &[], pressed('n'));
     assert!(rt; matches!(typed, Action::Edit(Typing::Add('n'))));
     Ok(())

@@ -25,6 +25,9 @@ returns-in-Seek-clause-err c = IfErr-weaker c.seek.result _ _ (λ error e. key_r
 pub returns-in-Again-clause-err : goal.returns-in-Again-clause-err
 returns-in-Again-clause-err c = IfErr-weaker c.search.result _ _ (λ error e. key_refused e) c.search.ensures.err
 
+pub returns-in-Go-clause-err : goal.returns-in-Go-clause-err
+returns-in-Go-clause-err c = IfErr-weaker c.go.result _ _ (λ error e. key_refused e) c.go.ensures.err
+
 pub returns-in-Mark-clause-err : goal.returns-in-Mark-clause-err
 returns-in-Mark-clause-err c = IfErr-weaker c.mark.result _ _ (λ error e. key_refused e) c.mark.ensures.err
 
