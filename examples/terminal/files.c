@@ -58,12 +58,14 @@ const char *reason(void) {
 }
 
 void hold_signals(sigset_t *before) {
+    /* those by which a check or the program itself fails are heard at once: nothing goes on behind them */
+    static const int heard[] = {SIGXFSZ, SIGILL, SIGSEGV, SIGBUS, SIGFPE, SIGABRT};
     sigset_t held;
     signal(SIGXFSZ, SIG_IGN);
     sigfillset(&held);
-    sigdelset(&held, SIGXFSZ);
-    /* it says that a check failed */
-    sigdelset(&held, SIGILL);
+    for (size_t i = 0; i < sizeof heard / sizeof *heard; i++) {
+        sigdelset(&held, heard[i]);
+    }
     sigprocmask(SIG_BLOCK, &held, before);
 }
 

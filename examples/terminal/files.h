@@ -53,7 +53,8 @@ bool replace_file(const char *path, piece bytes, mode_t permissions);
  * kind, or of another user, came there since. */
 bool replace_target(target *target, piece bytes, mode_t permissions);
 
-/* Holds back all signals but that of a file that is too large, which is an error of the write then. */
+/* Holds back all signals but those by which the program itself fails, and that of a file that is too large, which is an error of the write
+ * then. */
 void hold_signals(sigset_t *before);
 
 void release_signals(const sigset_t *before);

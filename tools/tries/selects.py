@@ -464,10 +464,24 @@ def marks_of_a_run_that_was_cut_off(place):
     return all(ends)
 
 
+def a_check_that_fails_while_it_writes(place):
+    """It ends the program with a sentence, before the next step: the file stays."""
+    if not shutil.which("strace"):
+        return "there is no strace"
+    old, new = two(place)
+    ends = []
+    for number, words in (signal.SIGILL, "a check that is compiled in failed"), (signal.SIGSEGV, "the program failed, and ends"):
+        traced = ["strace", "-o", os.devnull, "-e", "trace=fsync", "-e", "inject=fsync:signal=%d" % number]
+        status, said = place.type([*traced, "scm-select", "-o", new, old, new], ["c"])
+        ends.append(status == -number and words in said and data_of(new) == NEW)
+    return all(ends)
+
+
 ALL = (
     two_files_alone, contents_of_all_kinds, two_equal_files, what_is_wrong, a_path_like_an_option, as_json, folders_with_more,
     permissions_of_what_is_new, links_in_the_way, a_spare_folder_that_is_swapped, names_that_hide_nothing, names_of_git_and_jj,
     a_deep_tree, files_that_change_while_they_are_read, what_is_said_of_each_kind, a_text_in_the_place_of_a_link,
     what_accepting_does, links_as_json, marks_of_a_run_that_was_cut_off,
+    a_check_that_fails_while_it_writes,
 )
 EACH = folders_of_each_kind,
