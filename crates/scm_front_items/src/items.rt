@@ -49,7 +49,7 @@ struct Quest<'a> {
 }
 
 /// Returns the index of the file that `key` names or lies in.
-fn file_index(key: SelectionKey) -> Option<usize>
+pub(crate) fn file_index(key: SelectionKey) -> Option<usize>
     ensures { result ≡ file_index key }
 {
     match key {
@@ -94,7 +94,7 @@ fn is_less(index: Option<usize>, other: Option<usize>) -> bool
 }
 
 /// Returns whether `index` and `other` are equal.
-fn is_equal(index: Option<usize>, other: Option<usize>) -> bool
+pub(crate) fn is_equal(index: Option<usize>, other: Option<usize>) -> bool
     ensures { result ≡ is_equal index other }
 {
     match (index, other) {

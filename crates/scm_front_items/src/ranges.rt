@@ -1,10 +1,10 @@
 //! Ranges: all lines between two keys, in the order of the screen.
-ghost use Rattle.std.specs.Prelude.{◌≡◌, ◌++◌, [], ◌∷◌, filter, IfErr, IfOk, OnOk, if◌then◌else◌};
+ghost use Rattle.std.specs.Prelude.{◌≡◌, ◌≤◌, ◌++◌, [], ◌∷◌, None, filter, IfErr, IfOk, OnOk, if◌then◌else◌};
 ghost use Rattle.scm_errors.specs.declared.error.RecordError.TheVariants.{OutOfMemory};
 ghost use Rattle.scm_selection.specs.KeyLists.{line_keys, section_keys, sections_keys};
-ghost use Rattle.scm_front_items.specs.Ranges.{is_between, is_in_range, is_within, lines_between, mark_for, marking};
+ghost use Rattle.scm_front_items.specs.Ranges.{files_among, is_between, is_in_range, is_within, lines_between, mark_for, marking, other_file};
 
-use crate::items::is_above;
+use crate::items::{file_index, is_above, is_equal};
 use crate::targets::{Deed, Target, is_marked};
 use scm_selection::key_lists::line_key;
 use scm_types::{File, RecordError, Section, SectionChangedLine, SelectionKey};
@@ -19,8 +19,8 @@ fn is_within(first: SelectionKey, last: SelectionKey, key: SelectionKey) -> bool
     !is_before & !is_after
 }
 
-/// Returns whether `key` stands between `a` and `b`, or is one of them.
-fn is_between(a: SelectionKey, b: SelectionKey, key: SelectionKey) -> bool
+/// Returns whether `key` stands between `a` and `b`, or is one of them, whichever of them stands above.
+pub fn is_between(a: SelectionKey, b: SelectionKey, key: SelectionKey) -> bool
     ensures { result ≡ is_between a b key }
 {
     let downwards = is_within(a, b, key);
@@ -118,6 +118,28 @@ pub fn lines_between(
         push_sections(&mut keys, a, b, index, file.sections.as_slice())?;
     }
     Ok(keys)
+}
+
+/// Returns 1 if `file` is not `last`, and 0 if it is.
+fn other_file(file: Option<usize>, last: Option<usize>) -> usize
+    ensures value { result ≡ other_file file last }
+    ensures most { result ≤ 1 }
+{
+    if is_equal(file, last) { 0 } else { 1 }
+}
+
+/// Returns how many files the lines `keys` of a range are in.
+pub fn files_among(keys: &[SelectionKey]) -> usize
+    ensures { result ≡ files_among None keys.now }
+{
+    let mut last = None;
+    let mut count: usize = 0;
+    for index in 0..keys.len() {
+        let file = file_index(keys[index]);
+        count += other_file(file, last);
+        last = file;
+    }
+    count
 }
 
 /// Returns the mark that lines get which are marked together: the other one than that of the first.

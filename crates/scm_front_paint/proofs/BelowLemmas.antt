@@ -377,7 +377,7 @@ both-written p =
 pub view-whole : (theme : Theme) (words : List (List Columns)) (labels : List Label) (v : Seen) (accept : List ℕ)
     → AreWhole (width_of v) (rows_shown v.front.beneath) (view_pictures theme words labels v accept)
 view-whole theme words labels v accept = record {
-  session = sideways-size (offset v.pane v.front.beneath) (shown_style theme words v.front.beneath) (labelled labels v.front.beneath);
+  session = sideways-size (offset v.pane v.front.beneath) (shown_style theme v.front.kept.anchor words v.front.beneath) (labelled labels v.front.beneath);
   status = status-size (width_of v) (rows_shown v.front.beneath) (left_of v.front) (right_of v.front (width_of v) (left_of v.front) (offset v.pane v.front.beneath) accept);
   blank = status-above (width_of v) (rows_shown v.front.beneath) (left_of v.front) (right_of v.front (width_of v) (left_of v.front) (offset v.pane v.front.beneath) accept);
 }

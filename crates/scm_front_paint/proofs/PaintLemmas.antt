@@ -17,6 +17,7 @@ use Rattle.scm_widgets.specs.Layers.{Layer}
 use Rattle.scm_view.specs.Frame.{frame_of_picture, is_plain}
 use Rattle.scm_view.specs.Window.{rows_from, window}
 use Rattle.scm_record.specs.Session.{Session}
+use Rattle.scm_types.specs.declared.keys.SelectionKey.{SelectionKey}
 use Rattle.scm_record.specs.Live.{Live}
 use Rattle.scm_record.specs.Painted.{screen_of}
 use Rattle.scm_record.specs.Frames.{columns_of, rows_of, scene_of, frame_of}
@@ -153,32 +154,33 @@ last-from width wide old known next picture bytes e k f p =
 abbrev pictures : List (List StyledCell) → List (List StyledCell) → Pictures
 pictures s t = record { session = s; status = t }
 
-module _ (old kept new : FrontPainter) (v : Seen) (accept bytes first second : List ℕ) (l : Live) (w h x : ℕ) (theme : Theme)
+module _ (old kept new : FrontPainter) (v : Seen) (accept bytes first second : List ℕ) (l : Live) (w h x : ℕ) (theme : Theme) (anchor : SelectionKey)
     (slice items : List (Option LineValue)) (labels rows : List (Option Screen)) (left : LeftText) (right : List ℕ) where
   abbrev painted_rows : List (List StyledCell)
-  painted_rows = sideways_picture x (shown_style theme (map columns_in slice) l) (symbols_over labels (screen_of l))
+  painted_rows = sideways_picture x (shown_style theme anchor (map columns_in slice) l) (symbols_over labels (screen_of l))
 
   -- the labels are those that the rows show
-  labels-are : labels ≡ rows → AreRows old.labels l rows → painted_rows ≡ sideways_picture x (shown_style theme (map columns_in slice) l) (labelled old.labels l)
+  labels-are : labels ≡ rows → AreRows old.labels l rows → painted_rows ≡ sideways_picture x (shown_style theme anchor (map columns_in slice) l) (labelled old.labels l)
   labels-are e are =
-      ap (λ (list : List (Option Screen)). sideways_picture x (shown_style theme (map columns_in slice) l) (symbols_over list (screen_of l))) e
-      ∙ same-symbols x (shown_style theme (map columns_in slice) l) (symbols_over rows (screen_of l)) (labelled old.labels l) refl refl
+      ap (λ (list : List (Option Screen)). sideways_picture x (shown_style theme anchor (map columns_in slice) l) (symbols_over list (screen_of l))) e
+      ∙ same-symbols x (shown_style theme anchor (map columns_in slice) l) (symbols_over rows (screen_of l)) (labelled old.labels l) refl refl
       (λ row c h k. ap (λ (o : Option Screen). symbol_under (columns_of l.kind) o c (symbol_at (screen_of l).rows row c)) (are row h))
 
   -- what the code painted is the picture of the view
   pub paints-view : l ≡ v.front.beneath → w ≡ width_of v → h ≡ rows_shown v.front.beneath → x ≡ offset v.pane v.front.beneath
-      → theme ≡ old.theme → slice ≡ items → AreWords l (map columns_in items) → labels ≡ rows → AreRows old.labels l rows → left ≡ left_of v.front → right ≡ right_of v.front w left x accept
+      → theme ≡ old.theme → anchor ≡ v.front.kept.anchor → slice ≡ items → AreWords l (map columns_in items) → labels ≡ rows → AreRows old.labels l rows → left ≡ left_of v.front → right ≡ right_of v.front w left x accept
       → pictures_of kept ≡ known_to old w h → PaintsLast w kept.status (status_picture w h left right) first
       → Paints (columns_of l.kind - x) kept.session.painter painted_rows second → bytes ≡ first ++ second
       → new.status ≡ status_picture w h left right → new.session.painter ≡ painted_rows → new.size ≡ Some (w, h) → new.theme ≡ theme → new.labels ≡ old.labels
       → PaintsView old new v accept bytes
-  paints-view le we he xe te se are labels_are label_rows left_is right_is known_is first_paints second_paints written status_new session_new sized themed kept_labels =
+  paints-view le we he xe te ae se are labels_are label_rows left_is right_is known_is first_paints second_paints written status_new session_new sized themed kept_labels =
       let rows_are : painted_rows ≡ session_picture old.theme (map columns_in items) old.labels v =
       labels-are labels_are label_rows
-      ∙ ap (λ (n : ℕ). sideways_picture n (shown_style theme (map columns_in slice) l) (labelled old.labels l)) xe
-      ∙ ap (λ (t : Theme). sideways_picture (offset v.pane v.front.beneath) (shown_style t (map columns_in slice) l) (labelled old.labels l)) te
-      ∙ ap (λ (s : List (Option LineValue)). sideways_picture (offset v.pane v.front.beneath) (shown_style old.theme (map columns_in s) l) (labelled old.labels l)) se
-      ∙ ap (λ (m : Live). sideways_picture (offset v.pane v.front.beneath) (shown_style old.theme (map columns_in items) m) (labelled old.labels m)) le in
+      ∙ ap (λ (n : ℕ). sideways_picture n (shown_style theme anchor (map columns_in slice) l) (labelled old.labels l)) xe
+      ∙ ap (λ (t : Theme). sideways_picture (offset v.pane v.front.beneath) (shown_style t anchor (map columns_in slice) l) (labelled old.labels l)) te
+      ∙ ap (λ (s : List (Option LineValue)). sideways_picture (offset v.pane v.front.beneath) (shown_style old.theme anchor (map columns_in s) l) (labelled old.labels l)) se
+      ∙ ap (λ (m : Live). sideways_picture (offset v.pane v.front.beneath) (shown_style old.theme anchor (map columns_in items) m) (labelled old.labels m)) le
+      ∙ ap (λ (key : SelectionKey). sideways_picture (offset v.pane v.front.beneath) (shown_style old.theme key (map columns_in items) v.front.beneath) (labelled old.labels v.front.beneath)) ae in
       let row :
       status_picture w h left right
       ≡ status_picture (width_of v) (rows_shown v.front.beneath) (left_of v.front)

@@ -3,6 +3,7 @@ use Rattle.std.specs.Prelude.{◌≡◌, ℕ, ◌+◌, ◌-◌, ◌<◌, nat_eq,
 use Rattle.std.specs.List.{All}
 use Rattle.scm_terminal.specs.Promise.{Paints, MovesTo, known_spots}
 use Rattle.scm_terminal.specs.Sent.{sent_row}
+use Rattle.scm_types.specs.declared.keys.SelectionKey.{SelectionKey}
 use Rattle.scm_cells.specs.declared.style.Style.{Style}
 use Rattle.scm_terminal.specs.StyledCell.{StyledCell, HasSize}
 use Rattle.scm_terminal.specs.Terminal.{Terminal, IsOfSize, Command, after_all}
@@ -16,6 +17,7 @@ use Rattle.scm_front_paint.specs.declared.columns.Columns.{Columns}
 use Rattle.scm_front_paint.specs.Blank.{PaintsLast, blank_cells}
 use Rattle.scm_front_paint.specs.Headers.{labelled}
 use Rattle.scm_front_paint.specs.Pane.{offset}
+use Rattle.scm_front_paint.specs.Range.{has_row, underlined_if}
 use Rattle.scm_front_paint.specs.Seen.{Seen}
 use Rattle.scm_front_paint.specs.Sideways.{sideways_picture}
 use Rattle.scm_front_paint.specs.Status.{left_of, right_of, status_picture}
@@ -43,15 +45,15 @@ rows_shown l = length (scene_of l.kind l.session).frame.rows
 abbrev pub width_of : Seen → ℕ
 width_of v = columns_of v.front.beneath.kind - offset v.pane v.front.beneath
 
--- the style of a place of the window, where `words` are the columns that are set off on each row
-abbrev pub shown_style : Theme → List (List Columns) → Live → ℕ → ℕ → Style
-shown_style theme words l row column =
-    themed theme (with_words (slice_index_or words row []) column (style_at l row column))
+-- the style of a place of the window, where `words` are the columns that are set off on each row, and a range is begun at `anchor`
+abbrev pub shown_style : Theme → SelectionKey → List (List Columns) → Live → ℕ → ℕ → Style
+shown_style theme anchor words l row column =
+    themed theme (underlined_if (has_row l anchor row) (with_words (slice_index_or words row []) column (style_at l row column)))
 
 -- what the terminal shows of the session: the columns of its screen from the offset on, with labels in its headers
 abbrev pub session_picture : Theme → List (List Columns) → List Label → Seen → List (List StyledCell)
 session_picture theme words labels v =
-    sideways_picture (offset v.pane v.front.beneath) (shown_style theme words v.front.beneath) (labelled labels v.front.beneath)
+    sideways_picture (offset v.pane v.front.beneath) (shown_style theme v.front.kept.anchor words v.front.beneath) (labelled labels v.front.beneath)
 
 -- the pictures of a view, whose status row says what accepting does by the text `accept`
 abbrev pub view_pictures : Theme → List (List Columns) → List Label → Seen → List ℕ → Pictures

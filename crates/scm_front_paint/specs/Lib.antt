@@ -28,6 +28,8 @@ pub mod Pane
 pub mod Seen
 -- what views do with what they hear
 pub mod Views
+-- a range on the screen
+pub mod Range
 -- the status row: what it says, and what it shows
 pub mod Status
 -- pictures of blanks with a row below, and the commands that make this row blank

@@ -2,14 +2,16 @@
 use Rattle.std.specs.Prelude.{◌≡◌, ℕ, ◌&&◌, nat_le, nat_lt, true, if◌then◌else◌}
 use Rattle.scm_cells.specs.declared.style.Style.{Style}
 use Rattle.scm_front_paint.specs.declared.restyling.Effect.{Effect}
-use Rattle.scm_front_paint.specs.declared.restyling.Effect.TheVariants.{SetOff, InTheme}
+use Rattle.scm_front_paint.specs.declared.restyling.Effect.TheVariants.{SetOff, Underlined, InTheme}
 use Rattle.scm_front_paint.specs.declared.restyling.Restyled.{Restyled}
+use Rattle.scm_front_paint.specs.Range.{underlined_if}
 use Rattle.scm_front_paint.specs.Themes.{themed}
 use Rattle.scm_front_paint.specs.Words.{set_off}
 
 -- what a style becomes by an effect
 abbrev pub restyled_by : Effect → Style → Style
 restyled_by SetOff style = set_off true style
+restyled_by Underlined style = underlined_if true style
 restyled_by (InTheme theme) style = themed theme style
 
 -- a style becomes what the effect makes of it

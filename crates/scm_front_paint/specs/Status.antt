@@ -23,6 +23,7 @@ use Rattle.scm_front_paint.specs.declared.status.LeftKind.{LeftKind}
 use Rattle.scm_front_paint.specs.declared.status.LeftKind.TheVariants.{Typed, Said, Item}
 use Rattle.scm_front_paint.specs.declared.status.LeftText.{LeftText}
 use Rattle.scm_front_paint.specs.Capped.{capped}
+use Rattle.scm_front_paint.specs.Range.{range_text}
 
 -- ---- what it says
 
@@ -64,20 +65,39 @@ text_of_key files (keys.File key) = path_text files key.file_idx
 text_of_key files (keys.Section key) = []
 text_of_key files (keys.Line key) = line_text files key.file_idx key.section_idx key.line_idx
 
--- what the layer says of the last key; nothing, if a text is asked for or was not found, which has a text of its own
+-- what the layer says of the last key; nothing, if a text is asked for or was not found, or a range is begun, which have texts of their own
 abbrev pub text_of_notice : Notice → List ℕ
 text_of_notice Nothing = []
 text_of_notice Asking = []
 text_of_notice NotFound = []
 text_of_notice FromTop = codes "search goes on at the top"
 text_of_notice FromEnd = codes "search goes on at the end"
-text_of_notice Range = codes "range: space marks it, esc ends it"
+text_of_notice Range = []
 text_of_notice NoLine = codes "a range begins at a line"
 text_of_notice Undone = codes "undone"
 text_of_notice Redone = codes "done again"
 text_of_notice NothingToUndo = codes "nothing to undo"
 text_of_notice NothingToRedo = codes "nothing to do again"
 text_of_notice NotRestored = codes "not restored; nothing is left to undo"
+
+-- whether it says that a range is begun
+abbrev pub is_range : Notice → Bool
+is_range Nothing = false
+is_range Asking = false
+is_range NotFound = false
+is_range FromTop = false
+is_range FromEnd = false
+is_range Range = true
+is_range NoLine = false
+is_range Undone = false
+is_range Redone = false
+is_range NothingToUndo = false
+is_range NothingToRedo = false
+is_range NotRestored = false
+
+-- what the layer says of the last key, or of a range
+abbrev pub said_text : Front → List ℕ
+said_text f = if is_range (notice_of f) then range_text f else text_of_notice (notice_of f)
 
 -- the selected item, with replacements for what a screen cannot show
 abbrev pub item_text : Front → List ℕ
@@ -100,7 +120,7 @@ left_of f =
     else if f.query.is_missing then on_left Said (codes "not found: " ++ f.query.sought)
     else if f.beneath.session.shown.is_help_open then
     on_left Said (codes "/ n N: search  v: range  u ctrl-r: undo, redo  < >: sideways")
-    else said_or (text_of_notice (notice_of f)) (item_text f)
+    else said_or (said_text f) (item_text f)
 
 -- whether it is the selected item
 abbrev pub is_item : LeftKind → Bool

@@ -1,4 +1,5 @@
-//! How a layer looks: its session and a status row on a terminal, sideways, with words set off, in a theme.
+//! How a layer looks: its session and a status row on a terminal, sideways, with words set off and a range
+//! underlined, in a theme.
 //!
 //! A [`View`] is a [`Front`](scm_front::Front) on a terminal. A [`FrontPainter`] makes the bytes that show
 //! it.
@@ -15,6 +16,7 @@ mod painter;
 mod pair_words;
 mod pairs;
 pub mod pane;
+mod range;
 mod restyling;
 mod shown;
 mod source;

@@ -280,6 +280,7 @@ impl FrontPainter {
         let shown = Shown {
             session,
             words: words.as_slice(),
+            anchor: view.front().anchor(),
             theme: self.theme,
         };
         let rows = paint_session(self.alloc, &mut self.session, &shown, labels.as_slice(), x)?;

@@ -1,6 +1,8 @@
-//! What becomes of the styles of a row: words are set off, and a theme has its colours.
+//! What becomes of the styles of a row: words are set off, a range is underlined, and a theme has its
+//! colours.
 ghost use Rattle.std.specs.Prelude.{◌≡◌, ◌<◌, ℕ, length, slice_index_or};
 ghost use Rattle.scm_terminal.specs.Style.{plain_style};
+ghost use Rattle.scm_front_paint.specs.Range.{underlined_if};
 ghost use Rattle.scm_front_paint.specs.Restyling.{IsRestyled, restyled_by, style_after};
 ghost use Rattle.scm_front_paint.specs.Themes.{themed};
 ghost use Rattle.scm_front_paint.specs.Words.{with_words};
@@ -14,6 +16,8 @@ use scm_record::{NumberedStyle, Style};
 enum Effect {
     /// It is set off.
     SetOff,
+    /// It is underlined.
+    Underlined,
     /// It is put in a theme.
     InTheme(Theme),
 }
@@ -27,12 +31,23 @@ struct Restyled {
     to: NumberedStyle,
 }
 
+/// Returns `style`, underlined if `is_in`.
+pub(crate) fn underlined(is_in: bool, style: Style) -> Style
+    ensures { result ≡ underlined_if is_in style }
+{
+    Style {
+        underlined: style.underlined | is_in,
+        ..style
+    }
+}
+
 /// Returns what `style` becomes by `effect`.
 fn restyled_by(effect: Effect, style: Style) -> Style
     ensures { result ≡ restyled_by effect style }
 {
     match effect {
         Effect::SetOff => set_off(true, style),
+        Effect::Underlined => underlined(true, style),
         Effect::InTheme(theme) => themed(theme, style),
     }
 }
@@ -88,6 +103,18 @@ pub(crate) fn set_off_words(columns: &[Columns], styles: &mut [NumberedStyle])
     }
 }
 
+/// Underlines each of `styles`, if `is_in` says so.
+pub(crate) fn underline_if(is_in: bool, styles: &mut [NumberedStyle])
+    ensures length { length styles.new ≡ length styles.old }
+    ensures each { (c : ℕ) → c < length styles.old → slice_index_or styles.new c plain_style
+        ≡ underlined_if is_in (slice_index_or styles.old c plain_style) }
+{
+    let end = styles.len();
+    if is_in {
+        restyle_run(Effect::Underlined, styles, 0, end);
+    }
+}
+
 /// Makes each of `styles` what it becomes in `theme`.
 pub(crate) fn put_in_theme(theme: Theme, styles: &mut [NumberedStyle])
     ensures length { length styles.new ≡ length styles.old }
@@ -95,10 +122,5 @@ pub(crate) fn put_in_theme(theme: Theme, styles: &mut [NumberedStyle])
         ≡ themed theme (slice_index_or styles.old c plain_style) }
 {
     let end = styles.len();
-    match theme {
-        Theme::Dark => {}
-        Theme::Light | Theme::Sixteen | Theme::NoColours => {
-            restyle_run(Effect::InTheme(theme), styles, 0, end);
-        }
-    }
+    restyle_run(Effect::InTheme(theme), styles, 0, end);
 }

@@ -1,14 +1,15 @@
-//! The styles of a screen: those of the session, with words set off, in a theme.
+//! The styles of a screen: those of the session, with words set off and a range underlined, in a theme.
 ghost use Rattle.std.specs.Prelude.{◌≡◌, length};
 ghost use Rattle.scm_terminal.specs.StyledCell.{row_of_styles};
 ghost use Rattle.scm_front_paint.specs.ShownView.{moved_style, style_in};
 
 use crate::columns::with_words;
 use crate::line_words::LineWords;
-use crate::restyling::{put_in_theme, set_off_words};
+use crate::range::has_row;
+use crate::restyling::{put_in_theme, set_off_words, underline_if, underlined};
 use crate::themes::{Theme, themed};
 use crate::words::columns_on;
-use scm_record::{LiveSession, NumberedStyle, Style, Styles};
+use scm_record::{LiveSession, NumberedStyle, SelectionKey, Style, Styles};
 
 /// The styles of a session's screen.
 #[derive(Clone, Copy)]
@@ -17,6 +18,8 @@ pub(crate) struct Shown<'a, 'state> {
     pub(crate) session: &'a LiveSession<'state>,
     /// What is set off on each row.
     pub(crate) words: &'a [Option<LineWords>],
+    /// The line at which a range is begun, or `None`.
+    pub(crate) anchor: SelectionKey,
     /// The theme.
     pub(crate) theme: Theme,
 }
@@ -28,10 +31,9 @@ impl<'a, 'state> Styles for Shown<'a, 'state> {
         ensures { result ≡ style_in self.now row column }
     {
         let style = self.session.style(row, column);
-        themed(
-            self.theme,
-            with_words(columns_on(self.words, row), column, style),
-        )
+        let style = with_words(columns_on(self.words, row), column, style);
+        let is_in = has_row(self.session, self.anchor, row);
+        themed(self.theme, underlined(is_in, style))
     }
 
     /// Sets `styles` to the styles of the places of row `row`, counted from 0. The session finds its styles
@@ -41,6 +43,7 @@ impl<'a, 'state> Styles for Shown<'a, 'state> {
     {
         self.session.row_styles(row, styles);
         set_off_words(columns_on(self.words, row), styles);
+        underline_if(has_row(self.session, self.anchor, row), styles);
         put_in_theme(self.theme, styles);
     }
 }

@@ -9,6 +9,7 @@ ghost use Rattle.scm_front_paint.specs.Status.{
   counts_text,
   fit_or,
   is_item,
+  is_range,
   item_text,
   left_column,
   left_of,
@@ -19,6 +20,7 @@ ghost use Rattle.scm_front_paint.specs.Status.{
   right_of,
   right_text,
   said_or,
+  said_text,
   short_text,
   sideways_text,
   status_screen,
@@ -28,6 +30,7 @@ ghost use Rattle.scm_front_paint.specs.Status.{
 };
 
 use crate::blanks::blank_grid;
+use crate::range::range_text;
 use scm_front::{Front, Notice};
 use scm_record::{
     File, Grid, RecordError, Section, SelectionKey, push_spans_from_line, text_width,
@@ -111,16 +114,15 @@ pub(crate) fn with_replacements(alloc: Global, text: &str) -> Result<String, Rec
     Ok(shown)
 }
 
-/// Returns what the layer says of the last key, or an empty text. A text that is asked for, or was not
-/// found, has a text of its own.
+/// Returns what the layer says of the last key, or an empty text. A text that is asked for, one that was not
+/// found, and a range have texts of their own.
 fn text_of_notice(notice: Notice) -> &'static str
     ensures { result.now ≡ text_of_notice notice }
 {
     match notice {
-        Notice::Nothing | Notice::Asking | Notice::NotFound => "",
+        Notice::Nothing | Notice::Asking | Notice::NotFound | Notice::Range => "",
         Notice::FromTop => "search goes on at the top",
         Notice::FromEnd => "search goes on at the end",
-        Notice::Range => "range: space marks it, esc ends it",
         Notice::NoLine => "a range begins at a line",
         Notice::Undone => "undone",
         Notice::Redone => "done again",
@@ -140,9 +142,43 @@ fn item_text(alloc: Global, front: &Front<'_>) -> Result<String, RecordError>
     with_replacements(alloc, text)
 }
 
+/// Returns whether `notice` says that a range is begun.
+fn is_range(notice: Notice) -> bool
+    ensures { result ≡ is_range notice }
+{
+    match notice {
+        Notice::Range => true,
+        Notice::Nothing
+        | Notice::Asking
+        | Notice::NotFound
+        | Notice::FromTop
+        | Notice::FromEnd
+        | Notice::NoLine
+        | Notice::Undone
+        | Notice::Redone
+        | Notice::NothingToUndo
+        | Notice::NothingToRedo
+        | Notice::NotRestored => false,
+    }
+}
+
+/// Returns what the layer says of the last key or of a range, or an empty text.
+fn said_text(alloc: Global, front: &Front<'_>) -> Result<String, RecordError>
+    ensures ok { IfOk result (λ text. string_bytes text ≡ said_text front.now) }
+    ensures err { IfErr result (λ e. e ≡ OutOfMemory) }
+{
+    let notice = front.notice();
+    if is_range(notice) {
+        range_text(alloc, front)
+    } else {
+        let text = String::from_str(alloc, text_of_notice(notice))?;
+        Ok(text)
+    }
+}
+
 /// Returns what stands on the left of the status row if no text is asked for or was not found: `said`, or
 /// the selected item if nothing is said.
-fn said_or(alloc: Global, said: &'static str, front: &Front<'_>) -> Result<LeftText, RecordError>
+fn said_or(alloc: Global, said: &str, front: &Front<'_>) -> Result<LeftText, RecordError>
     ensures ok { IfOk result (λ l. l ≡ said_or said.now (item_text front.now)) }
     ensures err { IfErr result (λ e. e ≡ OutOfMemory) }
 {
@@ -186,7 +222,8 @@ pub(crate) fn left_of(alloc: Global, front: &Front<'_>) -> Result<LeftText, Reco
         let text = String::from_str(alloc, keys)?;
         Ok(on_left(LeftKind::Said, text))
     } else {
-        said_or(alloc, text_of_notice(front.notice()), front)
+        let said = said_text(alloc, front)?;
+        said_or(alloc, said.as_str(), front)
     }
 }
 

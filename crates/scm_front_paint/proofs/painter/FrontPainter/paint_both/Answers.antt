@@ -15,10 +15,10 @@ paint-requires c =
 pub returns-clause-ok : goal.returns-clause-ok
 returns-clause-ok c =
     paints-view c.args.self.now c.keep_size.new.self _ c.args.view.now c.args.accept.now _ (string_bytes c.in_ok-text.text) (string_bytes c.in_ok-rows.rows)
-    c.beneath-session.result.now c.width_of-width.result c.rows_of-height.result c.offset-x.result c.keep_size.new.self.theme
+    c.beneath-session.result.now c.width_of-width.result c.rows_of-height.result c.offset-x.result c.keep_size.new.self.theme c.anchor.result
     c.as_slice-2.result.now c.in_ok-words.words.items c.as_slice-3.result.now c.in_ok-labels.labels.items c.in_ok-left.left c.as_str.result.now
     (c.beneath-session.ensures ∙ ap (λ (f : Front). f.beneath) c.front.ensures) c.width_of-width.ensures c.rows_of-height.ensures
-    c.offset-x.ensures c.keep_size.ensures.theme c.as_slice-2.ensures.value c.in_ok-words.ensures.ok
+    c.offset-x.ensures c.keep_size.ensures.theme (c.anchor.ensures ∙ ap (λ (f : Front). f.kept.anchor) c.front-4.ensures) c.as_slice-2.ensures.value c.in_ok-words.ensures.ok
     c.as_slice-3.ensures.value (subst (λ (list : List Label). AreRows list c.beneath-session.result.now c.in_ok-labels.labels.items) c.as_slice.ensures c.in_ok-labels.ensures.ok)
     (c.in_ok-left.ensures.ok ∙ ap left_of c.front-2.ensures)
     (c.as_str.ensures.value ∙ c.in_ok-right.ensures.ok
