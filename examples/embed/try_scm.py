@@ -278,17 +278,26 @@ def check_values():
 
 
 def check_paths():
-    """A path may be one of pathlib. One that is not UTF-8 is handed in byte for byte, and refused."""
+    """A path may be one of pathlib. One that is not UTF-8 is shown with U+FFFD, and comes back byte for byte."""
     with scm.Session() as session:
         session.add_file(pathlib.Path("new", "caf\u00e9"), 0o100644, pathlib.PurePosixPath("old"))
         session.add_texts(pathlib.Path("g"), "a\n", "b\n", old_path=b"h")
         session.add_file(os.fsencode("i"), 0o100644)
-        assert refused(session.add_file, pathlib.Path(os.fsdecode(b"caf\xe9")), 0o100644) == "not_text"
+        assert refused(session.add_file, "x" * 1000001, 0o100644) == "too_long"
+        session.add_file(pathlib.Path(os.fsdecode(b"caf\xe9")), 0o100644)
+        session.add_texts(b"\xff/n", "", "a\n", old_path=b"o\xfe")
+        session.add_texts(b"k", "", "a\n", old_path=b"\x80")
         session.begin(80, 24)
         session.press("c")
         files = json.loads(session.text().split("\n")[1])["files"]
         paths = [(file["old_path"], file["path"]) for file in files]
-        assert paths == [("old", "new/caf\u00e9"), ("h", "g"), (None, "i")], paths
+        shown = [(None, "caf\ufffd"), ("o\ufffd", "\ufffd/n"), ("\ufffd", "k")]
+        assert paths == [("old", "new/caf\u00e9"), ("h", "g"), (None, "i"), *shown], paths
+        assert [(session.old_path(file), session.path(file)) for file in range(6)] == paths
+        given = [(session.old_path_bytes(file), session.path_bytes(file)) for file in range(6)]
+        bytes_given = [(b"old", "new/caf\u00e9".encode()), (b"h", b"g"), (None, b"i"), (None, b"caf\xe9"), (b"o\xfe", b"\xff/n"), (b"\x80", b"k")]
+        assert given == bytes_given, given
+        assert refused(session.path_bytes, 6) == refused(session.old_path_bytes, 6) == "no_item"
 
 
 def sides_of(session):
@@ -603,7 +612,7 @@ def main():
     with scm.Session() as session:
         assert session.stage == scm.BUILDING and len(session) == 0
         assert refused(session.add_context, "a") == "no_item"
-        assert refused(session.add_file, b"\xff", 0) == "not_text"
+        assert refused(session.add_context, b"\xff") == "not_text"
         assert refused(session.press, "j") == "not_now"
         fill(session)
         assert refused(session.add_commit) == "not_accepted"
@@ -651,7 +660,7 @@ def main():
         assert (lines.side_bytes(1), lines.side_bytes(1, False)) == (b"a\nb", b"a\nc\n")
         lines.add_texts("h", b"\xff\0\n", "\U000e00ff\xe4".encode())
         assert (lines.side_bytes(2), lines.side_bytes(2, False)) == (b"\xff\0\n", "\U000e00ff\xe4".encode())
-        assert refused(lines.add_texts, b"\xff", "a", "b") == "not_text"
+        assert refused(lines.label, 0, 0, b"\xff") == "not_text"
         assert (lines.line(0, 0, 0), lines.line(0, 1, 0), lines.marks(0)) == (b"", b"a\nb", [True])
     assert session.stage == scm.NONE and refused(session.paint) == "closed"
     try:

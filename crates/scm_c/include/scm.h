@@ -285,7 +285,8 @@ uint32_t scm_state_binary(scm_session *session, bool is_checked, const char *old
  * and with all checked the new one. A last line without a line end differs from the same line with one. A byte that is not UTF-8
  * is shown as U+FFFD, and comes back as it was; in `scm_line`, and for the limit of a line, it is a character of four bytes.
  *
- * Only the paths have to be UTF-8: else the call returns SCM_NOT_TEXT. A file with a NUL is taken as text, too. A caller who
+ * Only the paths have to be UTF-8: else the call returns SCM_NOT_TEXT. A caller who has other paths hands in what is shown of them, with
+ * U+FFFD for such bytes, and keeps the paths by the indices of their files. A file with a NUL is taken as text, too. A caller who
  * shows such files as binary, as git does, looks for a NUL (memchr), and adds them by `scm_state_file` and `scm_state_binary`. */
 uint32_t scm_state_texts(scm_session *session, const char *path, size_t length, const char *old_path, size_t old_length,
                          const char *old, size_t old_size, size_t old_mode, const char *new_bytes, size_t new_size,

@@ -5,11 +5,14 @@ import errno
 import os
 import signal
 import threading
-from typing import Iterable, Iterator, List, Optional, Tuple, Union
+from typing import Dict, Iterable, Iterator, List, Optional, Tuple, Union
 
 from ._library import NO_INDEX, Error, Handle, KeyOfC, SideInfo, call, check
 from ._merge import merge_texts
-from ._values import ENDS, OWNERS, Contents, Folds, Item, Key, Mark, Path, Side, Stage, Text, Theme, bytes_of, bytes_of_path, member_of
+from ._values import (
+    ENDS, OWNERS, Contents, Folds, Item, Key, Mark, Path, Side, Stage, Text, Theme, bytes_of, bytes_of_path, member_of,
+    shown_path,
+)
 
 # held from before a run until its signal has acted: the library hears the signals of the process meanwhile
 RUNNING = threading.Lock()
@@ -54,6 +57,8 @@ class Session:
         """Opens a session over a state without commits and files. If it is read-only, the user cannot change marks."""
         self._handle = Handle()
         self._call("state_new", is_read_only)
+        # the paths of a file, and its path before a rename, where one of both is not UTF-8
+        self._paths: Dict[int, Tuple[bytes, bytes]] = {}
 
     @classmethod
     def of_json(cls, json: Text, width: int, height: int, has_layer: bool = False) -> "Session":
@@ -108,9 +113,18 @@ class Session:
         else:
             self._call("state_message", *sized(message))
 
+    def _add_file(self, name: str, path: Path, old_path: Path, *arguments: object) -> None:
+        """Adds a file by the call `name`, with its paths as they are shown."""
+        file, paths = len(self), (bytes_of_path(path), bytes_of_path(old_path))
+        shown = shown_path(paths[0]), shown_path(paths[1])
+        self._call(name, *sized(shown[0]), *sized(shown[1]), *arguments)
+        if shown != paths:
+            self._paths[file] = paths
+
     def add_file(self, path: Path, mode: int, old_path: Path = "") -> None:
-        """Adds a file: its path, its mode before the changes, and its path before a rename or a copy, if there was one."""
-        self._call("state_file", *sized(bytes_of_path(path)), *sized(bytes_of_path(old_path)), mode)
+        """Adds a file: its path, its mode before the changes, and its path before a rename or a copy, if there was one. Bytes of a path
+        that are not UTF-8 are shown as U+FFFD, and `path_bytes` returns them."""
+        self._add_file("state_file", path, old_path, mode)
 
     def add_context(self, text: Text) -> None:
         """Adds lines that do not change."""
@@ -127,9 +141,9 @@ class Session:
     def add_texts(
         self, path: Path, old: Text, new: Text, old_mode: int = 0o100644, new_mode: int = 0o100644, old_path: Path = ""
     ) -> None:
-        """Adds a file by its two versions, of which one may be ABSENT by its mode. The library finds the lines that differ."""
-        versions = (*sized(old), old_mode, *sized(new), new_mode)
-        self._call("state_texts", *sized(bytes_of_path(path)), *sized(bytes_of_path(old_path)), *versions)
+        """Adds a file by its two versions, of which one may be ABSENT by its mode. The library finds the lines that differ. Its paths may
+        be those of `add_file`."""
+        self._add_file("state_texts", path, old_path, *sized(old), old_mode, *sized(new), new_mode)
 
     def add_merge(self, path: Path, base: Text, ours: Text, theirs: Text) -> None:
         """Adds a file that shows the merge of two files that both came from `base`, with nothing chosen. Each conflict is three
@@ -355,8 +369,20 @@ class Session:
         return Item(OWNERS[kind.value], parts.value)
 
     def path(self, file: int) -> str:
-        """Returns the path of a file."""
+        """Returns the path of a file, as it is shown."""
         return self._read("path", file, False).decode()
+
+    def path_bytes(self, file: int) -> bytes:
+        """Returns the path of a file as it was handed in, byte for byte."""
+        shown = self._read("path", file, False)
+        return self._paths[file][0] if file in self._paths else shown
+
+    def old_path_bytes(self, file: int) -> Optional[bytes]:
+        """Returns the path of a file before a rename or a copy as it was handed in, byte for byte, or None if there was none."""
+        shown = self.old_path(file)
+        if shown is None:
+            return None
+        return self._paths[file][1] if file in self._paths else shown.encode()
 
     def old_path(self, file: int) -> Optional[str]:
         """Returns the path of a file before a rename or a copy, or None if there was none."""

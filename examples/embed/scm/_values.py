@@ -115,6 +115,11 @@ def bytes_of(text: Text) -> bytes:
 
 
 def bytes_of_path(path: Path) -> bytes:
-    """Returns the bytes of a path in UTF-8. Bytes that are no text to the file system come back as they were, as by os.fsencode."""
+    """Returns the bytes of a path. Bytes that are no text to the file system come back as they were, as by os.fsencode."""
     text = os.fspath(path)
     return text if isinstance(text, bytes) else text.encode(errors="surrogateescape")
+
+
+def shown_path(path: bytes) -> bytes:
+    """Returns a path as it is shown: in UTF-8, with U+FFFD for bytes that are none."""
+    return path.decode(errors="replace").encode()
