@@ -1,5 +1,8 @@
 -- Where a run is after the event that accepts.
 use Rattle.std.proofs.Common.{◌≡◌, ◌⊎◌, inl, inr, ℕ, Bool, true, false, cond, List, [], ◌∷◌, length, Option, Some, None, is_some, refl, sym, ap, ◌∙◌, arith}
+use Rattle.scm_errors.specs.Fault.{Fault}
+use Rattle.scm_errors.specs.declared.error.RecordError.{RecordError}
+use Rattle.scm_errors.specs.declared.error.RecordError.TheVariants as errors
 use Rattle.scm_types.specs.declared.state.RecordState.{RecordState}
 use Rattle.scm_overlay.specs.declared.quit_dialog.QuitDialog.{QuitDialog}
 use Rattle.scm_input.specs.declared.events.Event.TheVariants as events
@@ -8,12 +11,12 @@ use Rattle.scm_record.specs.Change.{accepts, stays}
 use Rattle.scm_record.specs.Dialogs.{help_closed_or}
 use Rattle.scm_record.specs.Frames.{scene_of}
 use Rattle.scm_record.specs.Live.{Live}
-use Rattle.scm_record.specs.LiveCalls.{Leads, editing_point, live_setting}
+use Rattle.scm_record.specs.LiveCalls.{Fails, Leads, editing_point, live_setting}
 use Rattle.scm_record.specs.Run.{Accepted, Before, Drawn, Failed, Point, Reaches, Within, World, after, after_change, batch, here, on, resume, with_reads, with_session, world_at, world_in}
 use Rattle.scm_record.specs.Session.{with_help}
 use Rattle.scm_record.specs.declared.live.Turn.{Turn}
 use Rattle.scm_record.specs.declared.live.Turn.TheVariants as turns
-use Rattle.scm_preview.specs.Preview.{AcceptsWhatIsShown, CanAccept}
+use Rattle.scm_preview.specs.Preview.{AcceptsWhatIsShown, CanAccept, FailsByMemory}
 
 -- the kind of a point
 abbrev place_of : Point → ℕ
@@ -86,6 +89,24 @@ module _ (l : Live) (c : CanAccept l) where
   by_turn (turns.Waiting m) leads = absurd (not_waiting (Drawn (world_in (live_setting m.kind [] []) m.session leads.0)) refl refl leads.3)
   by_turn (turns.Editing a) leads = absurd (not_failed (editing_point leads.0 a [] [] leads.1) refl leads.4)
   by_turn (turns.Accepted state) leads = ap turns.Accepted (sym leads.2 ∙ state_at (Accepted (world_in (live_setting l.kind [] []) leads.0 leads.1)) refl leads.3)
+
+  no_fault : (fault : Fault) (w : World) → Reaches begun (Failed fault w) → ⊥
+  no_fault fault w a = not_failed (Failed fault w) refl a
+
+  by_memory : (error : RecordError) → Fails begun error → error ≡ errors.OutOfMemory
+  by_memory errors.OutOfMemory fails = refl
+  by_memory errors.Cancelled fails = absurd (no_fault _ fails.0 fails.1)
+  by_memory (errors.SetUpTerminal text) fails = absurd (no_fault _ fails.0 fails.1)
+  by_memory (errors.CleanUpTerminal text) fails = absurd (no_fault _ fails.0 fails.1)
+  by_memory (errors.RenderFrame text) fails = absurd (no_fault _ fails.0 fails.1)
+  by_memory (errors.ReadInput text) fails = absurd (no_fault _ fails.0 fails.1)
+  by_memory (errors.SerializeJson text) fails = absurd (no_fault _ fails.0 fails.1)
+  by_memory (errors.WriteFile text) fails = absurd (no_fault _ fails.0 fails.1)
+  by_memory (errors.Other text) fails = absurd (no_fault _ fails.0 fails.1)
+  by_memory (errors.Bug text) fails = absurd (no_fault _ fails.0 fails.1)
+
+pub fails_by_memory : (l : Live) → CanAccept l → FailsByMemory l
+fails_by_memory l c error fails = by_memory l c error (fails [] [] 0)
 
 pub shown_is_accepted : (l : Live) → CanAccept l → AcceptsWhatIsShown l
 shown_is_accepted l c turn leads = by_turn l c turn (leads [] [] 0)

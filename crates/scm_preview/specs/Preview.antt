@@ -1,8 +1,10 @@
 -- What accepting gives of a live session.
 use Rattle.std.specs.Prelude.{◌≡◌, [], false, None}
+use Rattle.scm_errors.specs.declared.error.RecordError.{RecordError}
+use Rattle.scm_errors.specs.declared.error.RecordError.TheVariants.{OutOfMemory}
 use Rattle.scm_input.specs.declared.events.Event.TheVariants.{QuitAccept}
 use Rattle.scm_record.specs.Live.{Live}
-use Rattle.scm_record.specs.LiveCalls.{EventLeads}
+use Rattle.scm_record.specs.LiveCalls.{EventFails, EventLeads}
 use Rattle.scm_record.specs.declared.live.Turn.{Turn}
 use Rattle.scm_record.specs.declared.live.Turn.TheVariants.{Accepted}
 
@@ -15,3 +17,7 @@ pub record CanAccept (l : Live) : Type 0 where
 -- The event that accepts leads to the state that is shown, and to nothing else.
 abbrev pub AcceptsWhatIsShown : Live → Type 0
 AcceptsWhatIsShown l = (turn : Turn) → EventLeads l QuitAccept turn → turn ≡ Accepted l.session.shown.state
+
+-- It fails only if an allocation does.
+abbrev pub FailsByMemory : Live → Type 0
+FailsByMemory l = (error : RecordError) → EventFails l QuitAccept error → error ≡ OutOfMemory
