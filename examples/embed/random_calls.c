@@ -1,9 +1,10 @@
 /* random_calls COUNT SEED: makes COUNT random calls of the library for C, and holds each answer to what scm.h says of it.
  *
- * The calls are of every kind, at every stage: half-made states, words and bytes of terminals, clicks, sizes from 0 on, answers,
+ * The calls are of every kind, at every stage: half-made states, words and bytes of terminals, clicks, sizes from 0 on, answers, layers,
  * buffers that are too short, and some are made while memory is refused. A call that is refused must leave the state as it was:
- * the answers about it are compared. First each request for memory of one call of `scm_state_texts` is refused in turn. It prints
- * how many calls had each code, and stops at the first answer that is otherwise. */
+ * the answers about it are compared. Each other call is made of a twin, too, which has all its memory: then both have the same answers.
+ * First each request for memory of one call of `scm_state_texts` is refused in turn. It prints how many calls had each code, and stops at
+ * the first answer that is otherwise. */
 #undef NDEBUG
 #include "scm.h"
 
@@ -13,7 +14,7 @@
 #include <stdlib.h>
 #include <string.h>
 
-enum { CODES = 11, ROOM = 4096, LONGEST = 1000000, GUARD = 0x5a };
+enum { CODES = 12, ROOM = 4096, LONGEST = 1000000, GUARD = 0x5a };
 
 static volatile uint32_t refused_after; /* 0: no request for memory is refused, 1: the next one, and so on */
 
@@ -29,7 +30,7 @@ void *__wrap_realloc(void *block, size_t size) { return is_refused() ? NULL : __
 enum { CAN_REFUSE = false };
 #endif
 
-static scm_session session;
+static scm_session session, twin;
 static uint64_t seed;
 static unsigned long counts[CODES];
 static bool may_lack_memory;
@@ -297,7 +298,48 @@ static uint32_t add_other(void) {
 
 static uint32_t begin(void) {
     uint32_t wanted = code_at(SCM_BUILDING);
-    return one_of(scm_begin(&session, (uint16_t)random_below(90), (uint16_t)random_below(30)), wanted, wanted, wanted);
+    uint16_t width = (uint16_t)random_below(90), height = (uint16_t)random_below(30);
+    uint32_t code = random_below(2) ? scm_begin(&session, width, height) : scm_begin_layer(&session, width, height);
+    return one_of(code, wanted, wanted, wanted);
+}
+
+/* Reads the log of a layer, which may not be there, into a buffer that may be too short. */
+static uint32_t read_log(uint32_t wanted) {
+    static char out[ROOM];
+    size_t room = random_below(2) ? random_below(200) : ROOM, length = 77;
+    memset(out, GUARD, sizeof out);
+    uint32_t code = one_of(scm_logged(&session, out, room, &length), wanted, SCM_NOT_NOW, SCM_NO_MEMORY);
+    check_buffer(out, room, length, code == SCM_DONE);
+    assert(code == SCM_DONE || length == 77);
+    return code;
+}
+
+/* A call of a layer, also where there is none. */
+static uint32_t layer(void) {
+    static const char *const keys[] = {"x=undo", "ctrl-n=j x=space", "", "x", "v=range u=nothing >=search"};
+    char text[ROOM];
+    size_t length = random_text(text);
+    uint32_t wanted = scm_stage(&session) == SCM_NONE ? SCM_CLOSED : SCM_DONE, which = random_below(5);
+    scm_key first = {0, random_below(3), random_below(4), random_below(4)};
+    switch (random_below(7)) {
+    case 0:
+        wanted = which > SCM_NO_COLOURS ? SCM_NO_NUMBER : wanted;
+        return one_of(scm_theme(&session, which), wanted, wanted == SCM_DONE ? SCM_NOT_NOW : wanted, wanted);
+    case 1:
+        wanted = is_utf8(text, length) ? wanted : SCM_NOT_TEXT;
+        return one_of(scm_accept_text(&session, text, length), wanted, wanted == SCM_DONE ? SCM_NOT_NOW : wanted, wanted);
+    case 2:
+        wanted = is_utf8(text, length) ? wanted : SCM_NOT_TEXT;
+        return one_of(scm_label(&session, random_below(3), random_below(4), text, length), wanted, wanted == SCM_DONE ? SCM_NOT_NOW : wanted, wanted);
+    case 3:
+        wanted = which > SCM_OPEN_IF_IT_FITS ? SCM_NO_NUMBER : wanted;
+        return one_of(scm_start(&session, which, &first), wanted, wanted == SCM_DONE ? SCM_NOT_NOW : wanted, wanted);
+    case 4:
+        wanted = which == 3 ? SCM_NO_KEY : wanted;
+        return one_of(scm_keys(&session, keys[which], strlen(keys[which])), wanted, wanted == SCM_DONE ? SCM_NOT_NOW : wanted, wanted);
+    case 5: return one_of(scm_log(&session), wanted, wanted == SCM_DONE ? SCM_NOT_NOW : wanted, wanted);
+    default: return read_log(wanted);
+    }
 }
 
 /* Presses up to three words as one batch. */
@@ -345,13 +387,22 @@ static uint32_t select_item(void) {
     return code;
 }
 
+/* Types bytes up to a key that means nothing to a session. */
+static uint32_t type_to_key(const char *bytes, size_t length, uint32_t wanted) {
+    size_t taken = 77;
+    uint32_t key = 77, code = one_of(scm_type_to_key(&session, bytes, length, &taken, &key), wanted, wanted, wanted);
+    assert(code == SCM_DONE ? taken <= length && (key != 0 || taken == length || scm_stage(&session) == SCM_WAITING) : taken == 77 && key == 77);
+    return code;
+}
+
 static uint32_t input(void) {
     static const char *const words[] = {"j", "k", "l", "h", "space", "enter", "a", "shift-A", "f", "shift-F", "e", "c", "q", "?", "esc",
                                         "none", "view", "ensure", "pagedown", "ctrl-d", "click:3:4", "click:0:2", "no word", "\xff"};
     char text[ROOM];
     size_t length = random_text(text);
     uint32_t wanted = code_at(SCM_WAITING), which = random_below(sizeof words / sizeof *words);
-    switch (random_below(9)) {
+    switch (random_below(10)) {
+    case 9: return type_to_key(text, length, wanted);
     case 8: return select_item();
     case 4: return press_batch(words, sizeof words / sizeof *words, wanted);
     case 5: return decode(text, length, wanted);
@@ -529,49 +580,86 @@ static uint32_t merge(void) {
     check_buffer(out, room, length, code == SCM_DONE);
     assert(code == SCM_DONE ? length <= sizes[0] + sizes[1] + sizes[2] + 3 : length == 77);
     if (code == wanted) {
+        static char marked[ROOM];
+        size_t written = 77;
+        memset(marked, GUARD, sizeof marked);
+        code = one_of(scm_marked_bytes(files[0], sizes[0], files[1], sizes[1], files[2], sizes[2], marks, count, "b", 1, "o", 1, "t", 1, marked, ROOM,
+                                       &written), wanted, wanted, wanted);
+        check_buffer(marked, ROOM, written, code == SCM_DONE);
+        assert(code == SCM_DONE || written == 77);
+    }
+    if (code == wanted) {
         code = one_of(scm_open_conflicts(files[0], sizes[0], files[1], sizes[1], files[2], sizes[2], marks, count, &open), wanted, wanted, wanted);
         assert(code == SCM_DONE ? open <= conflicts : open == 77);
     }
     return code;
 }
 
-/* A call that opens or closes a session. Returns whether what was asked before still counts. */
-static void open_or_close(void) {
+/* A call that opens or closes a session. */
+static uint32_t open_or_close(void) {
     static const char json[] = "{\"is_read_only\":false,\"commits\":[{\"message\":\"m\"}],\"files\":[{\"old_path\":null,\"path\":\"p\","
                                "\"file_mode\":\"Absent\",\"sections\":[{\"Changed\":{\"lines\":[{\"is_checked\":true,\"change_type\":\"Added\","
                                "\"line\":\"x\\n\"}]}}]}]}";
-    uint32_t which = random_below(4), code = SCM_DONE;
+    uint32_t which = random_below(5), code = SCM_DONE;
     if (which == 0) {
         scm_free(&session);
         assert(scm_stage(&session) == SCM_NONE);
-    } else if (which == 1) {
-        code = one_of(scm_new(&session, json, sizeof json - 1 - random_below(2), 40, 10), SCM_DONE, SCM_BAD_STATE, SCM_DONE);
+    } else if (which == 1 || which == 4) {
+        size_t length = sizeof json - 1 - random_below(2);
+        code = which == 1 ? scm_new(&session, json, length, 40, 10) : scm_new_layer(&session, json, length, 40, 10);
+        one_of(code, SCM_DONE, SCM_BAD_STATE, SCM_DONE);
         assert(scm_stage(&session) == (code == SCM_DONE ? SCM_WAITING : SCM_NONE));
     } else {
         code = one_of(scm_state_new(&session, random_below(4) == 0), SCM_DONE, SCM_DONE, SCM_DONE);
         assert(scm_stage(&session) == (code == SCM_DONE ? SCM_BUILDING : SCM_NONE));
     }
     counts[SCM_DONE] += which == 0;
+    return code;
+}
+
+/* Makes a call of a kind, while the request for memory `refused` is refused, if it is not 0. Returns its code. */
+static uint32_t make_call(uint32_t kind, uint32_t refused) {
+    uint64_t before = asked();
+    uint32_t stage = scm_stage(&session);
+    bool is_building = stage == SCM_BUILDING, is_opening = kind < (stage == SCM_NONE ? 30 : 2);
+    bool is_begin = !is_opening && kind < (is_building ? 8 : 4);
+    refused_after = refused;
+    uint32_t code = is_opening ? open_or_close() : is_begin ? begin() : kind < (is_building ? 55 : 10) ? add_lines() : kind < (is_building ? 88 : 14) ? add_other()
+        : kind < (is_building ? 90 : 62) ? input() : kind < (is_building ? 91 : 72) ? layer() : kind < 93 ? read_out() : kind < 95 ? decide() : kind < 97 ? merge() : answer();
+    refused_after = 0;
+    if (code != SCM_DONE && !is_opening) {
+        assert(is_begin && code == SCM_NO_MEMORY ? scm_stage(&session) == SCM_ENDED : asked() == before);
+    }
+    return code;
+}
+
+static void exchange(void) {
+    scm_session other = session;
+    session = twin;
+    twin = other;
+}
+
+/* Makes the same call of the twin, which has all its memory, and looks that it has the same code and leaves the same answers. */
+static void call_twin(uint32_t kind, uint64_t begun, uint32_t wanted) {
+    uint64_t ended = seed, answers = asked();
+    seed = begun;
+    may_lack_memory = false;
+    exchange();
+    assert(make_call(kind, 0) == wanted && seed == ended && asked() == answers);
+    exchange();
 }
 
 static void random_call(void) {
     uint32_t kind = random_below(100);
-    uint64_t before = asked();
     may_lack_memory = CAN_REFUSE && random_below(8) == 0;
-    refused_after = may_lack_memory ? 1 + random_below(12) : 0;
-    if (kind < 2) {
-        open_or_close();
-        refused_after = 0;
-        return;
-    }
-    uint32_t stage_before = scm_stage(&session);
-    bool is_building = stage_before == SCM_BUILDING;
-    bool is_begin = kind < (is_building ? 8 : 4);
-    uint32_t code = is_begin ? begin() : kind < (is_building ? 55 : 10) ? add_lines() : kind < (is_building ? 90 : 14) ? add_other()
-        : kind < (is_building ? 92 : 70) ? input() : kind < 93 ? read_out() : kind < 95 ? decide() : kind < 97 ? merge() : answer();
-    refused_after = 0;
-    if (code != SCM_DONE) {
-        assert(is_begin && code == SCM_NO_MEMORY ? scm_stage(&session) == SCM_ENDED : asked() == before);
+    uint32_t refused = may_lack_memory ? 1 + random_below(12) : 0;
+    uint64_t begun = seed;
+    uint32_t code = make_call(kind, refused);
+    bool is_lost = scm_end(&session) == SCM_END_NO_MEMORY || (code == SCM_NO_MEMORY && scm_stage(&session) == SCM_NONE);
+    if (is_lost) {
+        assert(scm_state_new(&session, false) == SCM_DONE && scm_state_new(&twin, false) == SCM_DONE);
+    } else if (code != SCM_NO_MEMORY) {
+        call_twin(kind, begun, code);
     }
 }
 
@@ -589,6 +677,7 @@ static void refuse_texts(void) {
         assert(code == (is_met ? SCM_NO_MEMORY : SCM_DONE) && (asked() == before) == is_met);
         if (!is_met) {
             assert(number > 10);
+            scm_free(&session);
             return;
         }
     }
@@ -605,6 +694,7 @@ int main(int argc, char **argv) {
         random_call();
     }
     scm_free(&session);
+    scm_free(&twin);
     for (int code = 0; code < CODES; code++) {
         printf("%d: %lu\n", code, counts[code]);
     }
