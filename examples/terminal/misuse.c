@@ -130,6 +130,8 @@ static void refuse_calls(uint32_t code) {
     refused(scm_idle(&session), code);
     refused(scm_click(&session, 1, 1), code);
     refused(answer("bye"), code);
+    scm_key first = {0, 0, SCM_NO_INDEX, SCM_NO_INDEX};
+    refused(scm_select(&session, &first), code);
     refused(scm_resize(&session, WIDTH, HEIGHT), code);
     refused(press("no word"), SCM_NO_WORD);
     refused(press_all("j k"), code);
