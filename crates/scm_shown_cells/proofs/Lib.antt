@@ -1,0 +1,2 @@
+-- lists of cells that grow
+pub mod CellLemmas

@@ -1,0 +1,2 @@
+-- cells as records, and lists of them
+pub mod Cells
