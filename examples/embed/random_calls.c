@@ -14,7 +14,7 @@
 #include <stdlib.h>
 #include <string.h>
 
-enum { CODES = 12, ROOM = 4096, LONGEST = 1000000, GUARD = 0x5a };
+enum { CODES = 12, ROOM = 4096, CELLS = 3000, LONGEST = 1000000, GUARD = 0x5a };
 
 static volatile uint32_t refused_after; /* 0: no request for memory is refused, 1: the next one, and so on */
 
@@ -34,6 +34,7 @@ static scm_session session, twin;
 static uint64_t seed;
 static unsigned long counts[CODES];
 static bool may_lack_memory;
+static bool has_labels; /* headers may show labels, which `scm_symbol` does not tell */
 static char long_text[LONGEST + 2];
 
 static uint32_t random_below(uint32_t limit) {
@@ -330,6 +331,7 @@ static uint32_t layer(void) {
         return one_of(scm_accept_text(&session, text, length), wanted, wanted == SCM_DONE ? SCM_NOT_NOW : wanted, wanted);
     case 2:
         wanted = is_utf8(text, length) ? wanted : SCM_NOT_TEXT;
+        has_labels = true;
         return one_of(scm_label(&session, random_below(3), random_below(4), text, length), wanted, wanted == SCM_DONE ? SCM_NOT_NOW : wanted, wanted);
     case 3:
         wanted = which > SCM_OPEN_IF_IT_FITS ? SCM_NO_NUMBER : wanted;
@@ -424,6 +426,48 @@ static uint32_t answer(void) {
     return one_of(is_long ? scm_answer(&session, long_text, LONGEST + 1) : scm_answer(&session, text, length), wanted, wanted, wanted);
 }
 
+/* Looks that a cell has the symbol of its place, or that it is on the last row, which may be a status row. */
+static void check_cell(const scm_cell *cell, const char *text, size_t place, const scm_screen_info *info) {
+    static char symbol[ROOM];
+    size_t row = place / info->columns, column = place % info->columns;
+    size_t length = scm_symbol(&session, (uint16_t)row, (uint16_t)column, symbol, sizeof symbol);
+    bool is_it = length == cell->length && memcmp(symbol, text + cell->start, length) == 0;
+    assert(is_it || has_labels || (row + 1 == info->rows && length == 0));
+    assert(cell->foreground <= SCM_WHITE && cell->background == SCM_COLOUR_NONE && cell->flags < 16);
+    assert(cell->length > 0 ? cell->columns > 0 && column + cell->columns <= info->columns : cell->columns == 0 && cell->flags == 0);
+}
+
+/* Reads the screen as cells, into buffers that may be too short. */
+static uint32_t read_cells(void) {
+    static scm_cell cells[CELLS];
+    static char text[4 * ROOM];
+    size_t count = random_below(2) ? random_below(CELLS) : CELLS, room = random_below(2) ? random_below(200) : sizeof text;
+    scm_screen_info info = {77, 77, 77};
+    memset(cells, GUARD, sizeof cells);
+    memset(text, GUARD, sizeof text);
+    uint32_t wanted = code_at(SCM_WAITING), code = one_of(scm_cells(&session, cells, count, text, room, &info), wanted, wanted, wanted);
+    refused_after = 0;
+    bool is_done = code == SCM_DONE;
+    assert(is_done || (info.columns == 77 && info.rows == 77 && info.length == 77));
+    size_t places = is_done ? info.columns * info.rows : 0, length = is_done ? info.length : 0, begins = 0;
+    for (size_t place = 0; place < CELLS; place++) {
+        if (place >= places || place >= count) {
+            assert(cells[place].start == SIZE_MAX / 255 * GUARD);
+            continue;
+        }
+        assert(cells[place].start == begins);
+        begins += cells[place].length;
+        if (length <= room) {
+            check_cell(&cells[place], text, place, &info);
+        }
+    }
+    assert(places > count || begins == length);
+    for (size_t i = length < room ? length : room; i < sizeof text; i++) {
+        assert(text[i] == GUARD);
+    }
+    return code;
+}
+
 /* Reads into a buffer that may be too short. */
 static uint32_t read_out(void) {
     static char out[ROOM];
@@ -431,7 +475,10 @@ static uint32_t read_out(void) {
     uint32_t stage = scm_stage(&session), wanted = stage == SCM_NONE ? SCM_CLOSED : SCM_DONE;
     scm_key key;
     memset(out, GUARD, sizeof out);
-    uint32_t which = random_below(4), code;
+    uint32_t which = random_below(5), code;
+    if (which == 4) {
+        return read_cells();
+    }
     if (which == 0) {
         code = one_of(scm_text(&session, out, room, &length), wanted, wanted, wanted);
     } else if (which == 1) {
@@ -597,6 +644,7 @@ static uint32_t merge(void) {
 
 /* A call that opens or closes a session. */
 static uint32_t open_or_close(void) {
+    has_labels = false;
     static const char json[] = "{\"is_read_only\":false,\"commits\":[{\"message\":\"m\"}],\"files\":[{\"old_path\":null,\"path\":\"p\","
                                "\"file_mode\":\"Absent\",\"sections\":[{\"Changed\":{\"lines\":[{\"is_checked\":true,\"change_type\":\"Added\","
                                "\"line\":\"x\\n\"}]}}]}]}";

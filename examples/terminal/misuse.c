@@ -114,6 +114,11 @@ static void refuse_paint(uint32_t code_of_repaint) {
     size_t written = 77;
     refused(scm_paint(&session, out, sizeof out, &written), code_of_repaint == SCM_CLOSED ? SCM_CLOSED : SCM_NOT_NOW);
     assert(written == 77 && strcmp(out, "............") == 0);
+    scm_cell cell = {77, 77, 77, 77, 77, 77}, given = cell;
+    scm_screen_info info = {77, 77, 77};
+    refused(scm_cells(&session, &cell, 1, out, sizeof out, &info), code_of_repaint == SCM_CLOSED ? SCM_CLOSED : SCM_NOT_NOW);
+    bool is_unwritten = cell.start == given.start && cell.length == 77 && cell.columns == 77 && cell.foreground == 77 && cell.background == 77 && cell.flags == 77;
+    assert(is_unwritten && info.columns == 77 && info.rows == 77 && info.length == 77 && strcmp(out, "............") == 0);
     refused(scm_repaint(&session), code_of_repaint);
 }
 

@@ -74,6 +74,33 @@ pub struct Key {
     pub line: usize,
 }
 
+/// One place of a screen, whose symbol is a part of the text of the screen.
+#[repr(C)]
+#[derive(Clone, Copy, Debug, Default)]
+pub struct Cell {
+    pub start: usize,
+    pub length: usize,
+    pub columns: usize,
+    pub foreground: u32,
+    pub background: u32,
+    pub flags: u32,
+}
+
+/// What there is to tell of a screen.
+#[repr(C)]
+#[derive(Debug, Default)]
+pub struct ScreenInfo {
+    pub columns: usize,
+    pub rows: usize,
+    pub length: usize,
+}
+
+/// The attributes of a place.
+pub const BOLD: u32 = 1;
+pub const DIM: u32 = 2;
+pub const UNDERLINED: u32 = 4;
+pub const REVERSED: u32 = 8;
+
 type Session = *mut Handle;
 type Asked = *const Handle;
 type Bytes = *const c_char;
@@ -116,6 +143,7 @@ extern "C" {
     pub fn scm_answer(session: Session, text: Bytes, length: usize) -> u32;
     pub fn scm_resize(session: Session, width: u16, height: u16) -> u32;
     pub fn scm_paint(session: Session, out: Room, length: usize, written: *mut usize) -> u32;
+    pub fn scm_cells(session: Asked, cells: *mut Cell, count: usize, out: Room, room: usize, info: *mut ScreenInfo) -> u32;
     pub fn scm_repaint(session: Session) -> u32;
     pub fn scm_owner(session: Asked, row: u16, column: u16, key: *mut Key) -> u32;
     pub fn scm_selected(session: Asked, key: *mut Key) -> u32;

@@ -28,8 +28,10 @@ use std::fmt;
 use std::os::raw::c_char;
 
 mod at_terminal;
+mod screen;
 
 pub use crate::ffi::{MAX_COLUMNS, MAX_ROWS};
+pub use screen::{Cell, CellStyle, Colour};
 
 /// A call that was not done. The session is as it was.
 #[derive(Clone, Copy, Debug, Eq, Hash, PartialEq)]

@@ -9,7 +9,8 @@ TYPES = {
     "void": "", "bool": "bool", "uint16_t": "u16", "uint32_t": "u32", "size_t": "usize", "scm_session *": "Session",
     "const scm_session *": "Asked", "int": "c_int",
     "const char *": "Bytes", "char *": "Room", "size_t *": "*mut usize", "uint32_t *": "*mut u32", "scm_key *": "*mut Key",
-    "const scm_key *": "*const Key", "scm_side_info *": "*mut SideInfo",
+    "const scm_key *": "*const Key", "scm_side_info *": "*mut SideInfo", "scm_cell *": "*mut Cell",
+    "scm_screen_info *": "*mut ScreenInfo",
 }
 
 # the calls that the crate leaves out: this one takes functions of a program, and the crate has `scm_run`

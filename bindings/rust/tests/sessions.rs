@@ -1,7 +1,7 @@
 //! Sessions that a program drives itself.
 use scm_record::session::{
-    version, End, Error, Folds, Key, LineKind, Owner, SectionKind, Session, Side, SideContents,
-    Stage, Theme, Version,
+    version, Colour, End, Error, Folds, Key, LineKind, Owner, SectionKind, Session, Side,
+    SideContents, Stage, Theme, Version,
 };
 use scm_record::{ChangeType, Event, FileMode, Tristate};
 
@@ -111,10 +111,7 @@ fn a_layer_hears_the_terminal_first() {
     assert_eq!(session.type_to_key(b"\t"), Ok((1, Some('\t'))));
     session.press("c").unwrap();
     assert_eq!(session.marks(0), Ok(vec![false, false, true]));
-    assert_eq!(
-        session.start(Folds::AsTheyAre, first),
-        Err(Error::NotNow)
-    );
+    assert_eq!(session.start(Folds::AsTheyAre, first), Err(Error::NotNow));
 }
 
 #[test]
@@ -501,4 +498,78 @@ fn a_silence_is_awaited_behind_an_escape() {
     session.type_bytes(b"\x1b").unwrap();
     session.idle().unwrap();
     assert_eq!(session.is_escape_pending(), Ok(false));
+}
+
+/// Returns a session over a file with wide symbols, which has not begun.
+fn with_wide_symbols() -> Session {
+    let mut session = Session::new(false).unwrap();
+    session.add_file("f", None, MODE).unwrap();
+    session
+        .add_lines(ADDED, "wide \u{4e2d}\u{6587}\ne\u{301}\n")
+        .unwrap();
+    session
+}
+
+#[test]
+fn cells_are_those_of_the_screen() {
+    let mut session = with_wide_symbols();
+    assert_eq!(session.cells(), Err(Error::NotNow));
+    for (width, height) in [(30, 6), (9, 3), (1, 1), (0, 4), (100, 90)] {
+        if session.stage() == Stage::Building {
+            session.begin(width, height).unwrap();
+            session.press("f").unwrap();
+        } else {
+            session.resize(width, height).unwrap();
+        }
+        let rows = session.cells().unwrap();
+        assert_eq!(rows.len(), if width == 0 { 0 } else { height.into() });
+        for (row, cells) in (0..).zip(&rows) {
+            assert_eq!(cells.len(), usize::from(width));
+            assert_eq!(
+                cells.iter().map(|cell| cell.columns).sum::<usize>(),
+                cells.len()
+            );
+            for (column, cell) in (0..).zip(cells) {
+                assert_eq!(cell.symbol, session.symbol(row, column));
+                assert_eq!(cell.symbol.is_empty(), cell.columns == 0);
+                assert_eq!(cell.style.background, None);
+            }
+        }
+    }
+    session.press("c").unwrap();
+    assert_eq!(session.cells(), Err(Error::NotNow));
+}
+
+#[test]
+fn cells_have_the_styles_and_the_status_row() {
+    let mut session = with_wide_symbols();
+    session.begin_layer(40, 6).unwrap();
+    session.set_accept_text("c commits").unwrap();
+    session.start(Folds::Open, key(Some(0), Some(0))).unwrap();
+    let rows = session.cells().unwrap();
+    assert_eq!(rows.len(), 6);
+    let text = |row: usize| -> String { rows[row].iter().map(|cell| &*cell.symbol).collect() };
+    assert!(text(5).ends_with("c commits"), "{}", text(5));
+    assert!(rows[5]
+        .iter()
+        .all(|cell| cell.columns == 0 || cell.style.is_reversed));
+    // the menu bar is reversed, and an added line green
+    assert!(rows[0].iter().all(|cell| cell.style.is_reversed));
+    let line = (1..5).find(|row| text(*row).contains("wide \u{4e2d}\u{6587}"));
+    let cells = &rows[line.unwrap()];
+    let place = cells.iter().position(|cell| cell.symbol == "w").unwrap();
+    assert_eq!(cells[place].style.foreground, Some(Colour::Green));
+    let wide = cells
+        .iter()
+        .position(|cell| cell.symbol == "\u{4e2d}")
+        .unwrap();
+    let columns: Vec<_> = cells[wide..wide + 4]
+        .iter()
+        .map(|cell| cell.columns)
+        .collect();
+    assert_eq!(columns, [2, 0, 2, 0]);
+    session.set_theme(Theme::NoColours).unwrap();
+    let rows = session.cells().unwrap();
+    let coloured = |cell: &scm_record::session::Cell| cell.style.foreground.is_some();
+    assert!(!rows.iter().flatten().any(coloured));
 }

@@ -188,6 +188,27 @@ enum {
     SCM_CHECKED = 2,   /* all items are checked */
 };
 
+/* The colour of a place: the terminal's own, or one of the eight basic ones. */
+enum {
+    SCM_COLOUR_NONE = 0,
+    SCM_BLACK = 1,
+    SCM_RED = 2,
+    SCM_GREEN = 3,
+    SCM_YELLOW = 4,
+    SCM_BLUE = 5,
+    SCM_MAGENTA = 6,
+    SCM_CYAN = 7,
+    SCM_WHITE = 8,
+};
+
+/* The attributes of a place. */
+enum {
+    SCM_BOLD = 1,
+    SCM_DIM = 2,
+    SCM_UNDERLINED = 4,
+    SCM_REVERSED = 8, /* the colours of the symbol and of its background are exchanged */
+};
+
 /* Stands for no section and no line in a key, and for what a place does not belong to. */
 #define SCM_NO_INDEX SIZE_MAX
 
@@ -209,6 +230,23 @@ typedef struct scm_side_info {
     size_t mode;       /* the mode of the file on this side, or SCM_ABSENT */
     size_t length;     /* the number of bytes of its text, and 0 if the contents are no text */
 } scm_side_info;
+
+/* One place of a screen. Its symbol is `length` bytes of the text of the screen, from `start` on. */
+typedef struct scm_cell {
+    size_t start;
+    size_t length;       /* the number of bytes of the symbol that begins here, and 0 at a later column of a symbol */
+    size_t columns;      /* the number of columns of the symbol that begins here, and 0 at a later column of a symbol */
+    uint32_t foreground; /* SCM_COLOUR_NONE to SCM_WHITE */
+    uint32_t background; /* SCM_COLOUR_NONE to SCM_WHITE */
+    uint32_t flags;      /* the sum of SCM_BOLD, SCM_DIM, SCM_UNDERLINED and SCM_REVERSED, of those that it has */
+} scm_cell;
+
+/* The size of a screen that is told as cells. */
+typedef struct scm_screen_info {
+    size_t columns;
+    size_t rows;   /* with the status row of a layer */
+    size_t length; /* the number of bytes of the text of its symbols */
+} scm_screen_info;
 
 /* ---- A state by calls ----
  *
@@ -540,6 +578,17 @@ SCM_USE_CODE uint32_t scm_paint(scm_session *session, char *out, size_t length, 
  *
  * Returns SCM_DONE or SCM_CLOSED. */
 uint32_t scm_repaint(scm_session *session);
+
+/* Writes the screen as cells, for a host that draws it by its own means, as within a part of its own screen: one for each place, row by
+ * row, with the status row of a layer, in the theme and with the labels of `scm_paint`. They are what `scm_paint` brings a terminal to.
+ * The cells go to `cells`, clipped to `count` of them, the text of their symbols to `out`, clipped to `room` bytes, and the size of the
+ * screen to `info`. There are `info->columns` times `info->rows` cells. If that is more than `count`, or `info->length` more than `room`,
+ * call again with larger buffers. Nothing counts as painted. The background is the terminal's own at each place. A host gives the selector
+ * a part of its screen by that part's size (`scm_begin`, `scm_resize`), and `scm_click` the places within it.
+ *
+ * Returns SCM_DONE, SCM_CLOSED, SCM_NOT_NOW if the session waits for no event, or SCM_NO_MEMORY. */
+SCM_USE_CODE uint32_t scm_cells(const scm_session *session, scm_cell *cells, size_t count, char *out, size_t room,
+                                scm_screen_info *info);
 
 /* Writes the key of the owner at `row`, `column` of the screen to `key`. An index that the owner has not is SCM_NO_INDEX.
  *

@@ -24,3 +24,5 @@ pub mod ShownLemmas
 pub mod LabelLemmas
 -- headers, and the labels that they show
 pub mod HeaderLemmas
+-- the cells of a view
+pub mod ViewCellLemmas

@@ -40,3 +40,5 @@ pub mod Below
 pub mod Restyling
 -- the styles of the code's screens
 pub mod ShownView
+-- a view as cells
+pub mod ViewCells

@@ -24,6 +24,7 @@ mod status;
 mod status_painter;
 pub mod themes;
 pub mod view;
+mod view_cells;
 mod words;
 
 pub use labels::Label;

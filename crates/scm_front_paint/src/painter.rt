@@ -117,7 +117,7 @@ fn paint_session(
 }
 
 /// Returns the number of columns that the terminal shows of the session of `view`.
-fn width_of(view: &View<'_>) -> u16
+pub(crate) fn width_of(view: &View<'_>) -> u16
     ensures { result ≡ width_of view.now }
 {
     let grid = view.front().beneath().grid();
@@ -126,7 +126,7 @@ fn width_of(view: &View<'_>) -> u16
 }
 
 /// Returns the number of rows of the session of `view`.
-fn rows_of(view: &View<'_>) -> u16
+pub(crate) fn rows_of(view: &View<'_>) -> u16
     ensures { result ≡ rows_shown view.now.front.beneath }
 {
     let grid = view.front().beneath().grid();
@@ -149,11 +149,11 @@ fn is_of(size: Option<(usize, usize)>, width: usize, height: usize) -> bool
 #[derive(Drop)]
 pub struct FrontPainter {
     /// The allocator of the texts.
-    alloc: Global,
+    pub(crate) alloc: Global,
     /// The colours of the terminal.
-    theme: Theme,
+    pub(crate) theme: Theme,
     /// The labels of sections.
-    labels: Items<Label>,
+    pub(crate) labels: Items<Label>,
     /// The painter of the session's rows.
     session: SessionPainter,
     /// The painter of the status row.

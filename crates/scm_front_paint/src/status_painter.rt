@@ -17,8 +17,8 @@ use std::marker::Model;
 
 /// The styles of a status row on row `row`: it is reversed, and all else is plain.
 #[derive(Clone, Copy)]
-struct StatusStyles {
-    row: usize,
+pub(crate) struct StatusStyles {
+    pub(crate) row: usize,
 }
 
 impl Styles for StatusStyles {

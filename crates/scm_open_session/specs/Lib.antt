@@ -20,6 +20,8 @@ pub mod Questions
 pub mod FrontKeys
 -- what `scm_paint` writes
 pub mod Paint
+-- the screen as cells
+pub mod Cells
 -- words that are handed in as one batch
 pub mod Batches
 -- the words of what a terminal sends

@@ -1,6 +1,7 @@
 //! What a layer takes, each in a box: so a session has the size of one without a layer.
 ghost use Rattle.std.specs.Prelude.{◌≡◌, [], IfSome, IsTrue, false, string_bytes};
 ghost use Rattle.scm_front_paint.specs.Below.{PaintsView, no_pictures, pictures_of};
+ghost use Rattle.scm_front_paint.specs.ViewCells.{HasCells};
 ghost use Rattle.scm_open_session.specs.Layered.{ViewResizes};
 ghost use Rattle.scm_open_session.specs.Painters.{IsLabelled};
 ghost use Rattle.scm_c_values.specs.Screens.{screen_of};
@@ -8,6 +9,7 @@ ghost use Rattle.scm_c_values.specs.Screens.{screen_of};
 use scm_front::OwnKey;
 use scm_front_paint::{FrontPainter, Label, Theme, View, ViewEditing};
 use scm_record::Items;
+use scm_shown_cells::ShownScreen;
 use std::alloc::Global;
 use std::marker::Model;
 
@@ -195,6 +197,14 @@ impl BoxedPainter {
         ensures labels { self.new.labels ≡ self.old.labels }
     {
         self.inner.paint(view, accept).ok()
+    }
+
+    /// Returns the cells of what a paint shows of `view`, as `FrontPainter::cells` does. Returns `None` if an
+    /// allocation failed.
+    pub fn cells(&self, view: &View<'static>, accept: &str) -> Option<ShownScreen>
+        ensures { IfSome result (λ screen. HasCells self.now view.now accept.now screen) }
+    {
+        self.inner.cells(view, accept).ok()
     }
 }
 

@@ -4,6 +4,7 @@
 
 pub mod boxed;
 pub mod calls;
+pub mod cell_calls;
 pub mod laws;
 pub mod layer;
 pub mod layer_calls;

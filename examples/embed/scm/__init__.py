@@ -23,7 +23,9 @@ from ._library import (
 )
 from ._merge import MergeLine, marked_bytes, merge_texts, merged_bytes, open_conflicts
 from ._session import Session
-from ._values import ENDS, FOLDS, OWNERS, THEMES, Contents, Folds, Item, Key, Mark, Path, Side, Stage, Text, Theme
+from ._values import (
+    ENDS, FOLDS, OWNERS, THEMES, Cell, Colour, Contents, Folds, Item, Key, Mark, Path, Side, Stage, Text, Theme,
+)
 
 __version__ = version()
 
@@ -33,9 +35,8 @@ UNCHANGED, TEXT, BINARY = Contents.UNCHANGED, Contents.TEXT, Contents.BINARY
 UNCHECKED, PARTLY, CHECKED = Mark.UNCHECKED, Mark.PARTLY, Mark.CHECKED
 
 __all__ = [
-    "ABSENT", "ACCEPTED", "BINARY", "BUILDING", "BY_ITEMS", "BY_LINES", "BY_ONE_ITEM", "CHECKED", "CODES", "Contents", "EDITING",
-    "ENDED", "ENDS", "Error", "FOLDS", "Folds", "InTree", "Item", "Key", "Mark", "MergeLine", "NONE", "NO_INDEX", "OF_NEW", "OF_OLD",
-    "OF_SIDE", "OWNERS", "PARTLY", "PATH_FAULTS", "Path", "Session", "Shown", "Side", "Stage", "TEXT", "THEMES", "Text", "Theme",
-    "UNCHANGED", "UNCHECKED", "WAITING", "__version__", "decide", "library", "marked_bytes", "merge_texts", "merged_bytes",
-    "open_conflicts", "open_library", "path_fault", "tree_shown", "tree_side", "words",
+    "ABSENT", "ACCEPTED", "BINARY", "BUILDING", "CHECKED", "CODES", "Cell", "Colour", "Contents", "EDITING", "ENDED", "ENDS", "Error", "FOLDS", "Folds",
+    "Item", "Key", "Mark", "MergeLine", "NONE", "NO_INDEX", "OWNERS", "PARTLY", "PATH_FAULTS", "Path", "Session", "Side", "Stage", "TEXT",
+    "THEMES", "Text", "Theme", "UNCHANGED", "UNCHECKED", "WAITING", "__version__", "decide", "library", "marked_bytes", "merge_texts",
+    "merged_bytes", "open_conflicts", "open_library", "path_fault", "renamed_mode", "tree_mode", "words",
 ]

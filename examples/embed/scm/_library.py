@@ -33,23 +33,19 @@ class SideInfo(ctypes.Structure):
     _fields_ = [("contents", ctypes.c_uint32), ("mode", ctypes.c_size_t), ("length", ctypes.c_size_t)]
 
 
-class Changed(ctypes.Structure):
-    """A changed file: the modes of its two versions, `ABSENT` of one that does not exist; how its contents are shown, one of `SHOWN_BY`;
-    and whether the old version has another path."""
+class CellOfC(ctypes.Structure):
+    """A place of the screen, as C has it."""
 
-    _fields_ = [("old_mode", ctypes.c_size_t), ("new_mode", ctypes.c_size_t), ("shown", ctypes.c_uint32), ("is_renamed", ctypes.c_bool)]
-
-
-class Shown(ctypes.Structure):
-    """What a state is to be given of a changed file: scm.h says more."""
-
-    _fields_ = [("old_mode", ctypes.c_size_t), ("new_mode", ctypes.c_size_t), ("has_mode", ctypes.c_bool), ("has_contents", ctypes.c_bool)]
+    _fields_ = [
+        *((name, ctypes.c_size_t) for name in ("start", "length", "columns")),
+        *((name, ctypes.c_uint32) for name in ("foreground", "background", "flags")),
+    ]
 
 
-class InTree(ctypes.Structure):
-    """What a tree has of a changed file: its modes at its paths, or `ABSENT`, and whose contents it has, one of `ORIGINS`."""
+class ScreenInfo(ctypes.Structure):
+    """What C says of a screen."""
 
-    _fields_ = [("mode", ctypes.c_size_t), ("old_path_mode", ctypes.c_size_t), ("contents", ctypes.c_uint32)]
+    _fields_ = [(name, ctypes.c_size_t) for name in ("columns", "rows", "length")]
 
 
 # the arguments of each call behind its session: B is a bool, T a text or room for one, N a size or an index, H a number of 16
@@ -57,7 +53,7 @@ class InTree(ctypes.Structure):
 CALLS = dict(call.split(":") for call in """
     state_new:B state_message:TN state_commit: state_file:TNTNN state_context:TN state_changes:BBTN state_line:BBBTN state_section:B
     state_mode:BN state_binary:BTNTN state_marks:NTN state_texts:TNTNTNNTNN begin:HH new:TNHH stage: end: type:TN type_to_key:TNPP idle: press:TN press_all:TN
-    decode:TNTNP decode_idle:TNP click:HH answer:TN resize:HH paint:TNP repaint: owner:HHP selected:P symbol:HHTN text:TNP files:P
+    decode:TNTNP decode_idle:TNP click:HH answer:TN resize:HH paint:TNP cells:PNTNP repaint: owner:HHP selected:P symbol:HHTN text:TNP files:P
     side:NBTNP side_bytes:NBTNP mark:PP marks:NTNP item:PPP path:NBTNP select:P line:PTNP message:NTNP run:IT free: begin_layer:HH new_layer:TNHH theme:U
     accept_text:TN label:NNTN start:UP keys:TN log: logged:TNP""".split())
 TYPES = {"B": ctypes.c_bool, "T": ctypes.c_char_p, "N": ctypes.c_size_t, "H": ctypes.c_uint16, "U": ctypes.c_uint32, "I": ctypes.c_int, "P": ctypes.c_void_p}

@@ -7,10 +7,10 @@ import signal
 import threading
 from typing import Dict, Iterable, Iterator, List, Optional, Tuple, Union
 
-from ._library import NO_INDEX, Error, Handle, KeyOfC, SideInfo, call, check
+from ._library import NO_INDEX, CellOfC, Error, Handle, KeyOfC, ScreenInfo, SideInfo, call, check
 from ._merge import merge_texts
 from ._values import (
-    ENDS, OWNERS, Contents, Folds, Item, Key, Mark, Path, Side, Stage, Text, Theme, bytes_of, bytes_of_path, member_of,
+    ENDS, OWNERS, Cell, Colour, Contents, Folds, Item, Key, Mark, Path, Side, Stage, Text, Theme, bytes_of, bytes_of_path, member_of,
     shown_path,
 )
 
@@ -34,6 +34,13 @@ def pointer_to(key: Key) -> object:
 def key_of(key: KeyOfC) -> Key:
     """Returns the key that C has written."""
     return Key(key.commit, key.file, key.section, key.line)
+
+
+def cell_of(cell: CellOfC, text: bytes) -> Cell:
+    """Returns the place that C has written, whose symbol is a part of `text`."""
+    symbol = text[cell.start : cell.start + cell.length].decode()
+    flags = (bool(cell.flags & flag) for flag in (1, 2, 4, 8))
+    return Cell(symbol, cell.columns, Colour(cell.foreground), Colour(cell.background), *flags)
 
 
 @contextlib.contextmanager
@@ -289,6 +296,19 @@ class Session:
     def paint(self) -> bytes:
         """Returns the bytes that make a terminal show the session: all rows at first, and then those that changed."""
         return self._read("paint")
+
+    def cells(self) -> List[List[Cell]]:
+        """Returns the rows of the screen, with the status row of a layer, each place with its symbol and its style: what a paint brings a
+        terminal to. So a host draws the selector within a screen of its own. Nothing counts as painted."""
+        info, count, room = ScreenInfo(), 1 << 12, 1 << 14
+        while True:
+            cells, out = (CellOfC * count)(), ctypes.create_string_buffer(room)
+            self._call("cells", cells, count, out, room, ctypes.byref(info))
+            if info.columns * info.rows <= count and info.length <= room:
+                break
+            count, room = info.columns * info.rows, info.length
+        places = [cell_of(cell, out.raw) for cell in cells[: info.columns * info.rows]]
+        return [places[row * info.columns : (row + 1) * info.columns] for row in range(info.rows)]
 
     def repaint(self) -> None:
         """Makes the next paint return every row."""

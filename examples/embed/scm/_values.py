@@ -43,6 +43,20 @@ class Mark(enum.IntEnum):
     CHECKED = 2
 
 
+class Colour(enum.IntEnum):
+    """The colour of a place: the terminal's own, or one of the eight basic ones."""
+
+    NONE = 0
+    BLACK = 1
+    RED = 2
+    GREEN = 3
+    YELLOW = 4
+    BLUE = 5
+    MAGENTA = 6
+    CYAN = 7
+    WHITE = 8
+
+
 class Theme(enum.IntEnum):
     """The colours of a layer. The name of a theme stands for it, in small letters."""
 
@@ -91,6 +105,20 @@ class Key(NamedTuple):
         """Returns the key as Python writes it, with NO_INDEX by its name."""
         indexes = ("NO_INDEX" if index == NO_INDEX else str(index) for index in self)
         return "Key(%s)" % ", ".join(map("%s=%s".__mod__, zip(self._fields, indexes)))
+
+
+class Cell(NamedTuple):
+    """One place of the screen: the symbol that begins there, and its number of columns, or nothing and 0 at a later column of a symbol; its
+    colour, and that of the background; and whether it is bold, dim, underlined, and shown with both colours exchanged."""
+
+    symbol: str
+    columns: int
+    foreground: Colour
+    background: Colour
+    is_bold: bool
+    is_dim: bool
+    is_underlined: bool
+    is_reversed: bool
 
 
 class Item(NamedTuple):
