@@ -113,6 +113,7 @@ impl FrontPainter {
             session,
             words: words.as_slice(),
             theme: self.theme,
+            anchor: view.front().anchor(),
         };
         let mut list = CellList::new(alloc);
         push_session(alloc, &mut list, &shown, labels.as_slice(), x)?;
