@@ -108,7 +108,7 @@ pub enum Stage {
 /// The colours in which a layer is painted.
 #[derive(Clone, Copy, Debug, Eq, Hash, PartialEq)]
 pub enum Theme {
-    /// For a dark background, as without a layer.
+    /// For a dark background: light colours.
     Dark,
     /// For a light background.
     Light,

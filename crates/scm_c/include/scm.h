@@ -380,7 +380,7 @@ uint32_t scm_new_layer(scm_session *session, const char *json, size_t length, ui
 
 /* The colours of the terminal. */
 enum {
-    SCM_DARK = 0,       /* a dark background, as without a layer */
+    SCM_DARK = 0,       /* a dark background: light colours */
     SCM_LIGHT = 1,      /* a light background */
     SCM_SIXTEEN = 2,    /* sixteen colours: each colour is the bright one */
     SCM_NO_COLOURS = 3, /* none: bold, underlined and reversed alone */
