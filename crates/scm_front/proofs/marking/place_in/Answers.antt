@@ -1,3 +1,5 @@
+use Rattle.std.proofs.Common.{◌≡◌, ◌∙◌}
+use Rattle.scm_types.specs.declared.keys.SelectionKey.{SelectionKey}
 use Rattle.scm_front.proofs.LineFoldLemmas.{moved-with}
 use Rattle.scm_front.proofs.marking.place_in.Goals as goal
 
