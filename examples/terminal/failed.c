@@ -1,7 +1,7 @@
 /* What is said where the program itself fails. No proof covers this file. */
 #define _GNU_SOURCE
 #include "failed.h"
-#include "files.h"
+#include "shown.h"
 
 #include <limits.h>
 #include <signal.h>
@@ -9,16 +9,19 @@
 #include <string.h>
 
 /* Where marks are kept, in words, or nothing. */
-static char kept[PATH_MAX + 80];
+static char kept[2 * PATH_MAX];
 static volatile size_t kept_length;
 
 /* The signal of a fault, or 0. */
 static volatile sig_atomic_t fault;
 
 void tell_on_failure(const char *path) {
+    text shown = {0};
     kept_length = 0;
-    int length = path ? snprintf(kept, sizeof kept, NAME ": your marks are kept; to take them up: --marks %s\n", path) : 0;
+    bool is_shown = path && add_shown(&shown, path);
+    int length = is_shown ? snprintf(kept, sizeof kept, NAME ": your marks are kept; to take them up: --marks %s\n", shown.bytes) : 0;
     kept_length = length > 0 && length < (int)sizeof kept ? (size_t)length : 0;
+    free(shown.bytes);
 }
 
 static void write_all(const char *bytes, size_t length) {

@@ -2,6 +2,8 @@
 import os
 import re
 import shutil
+import signal
+import time
 
 import changed
 import trying
@@ -101,6 +103,24 @@ def of_records(place):
     yield typed(place, ["scm-select", "--changes", handed, accepted], ["q"])
 
 
+def of_marks(place):
+    """What is said of marks that are kept in a folder: where a check fails, and behind a run that was killed."""
+    old, new = (os.path.join(place.top, name) for name in ("old", "new"))
+    changed.write_file(old, OLD)
+    changed.write_file(new, NEW)
+    on = {"SELECT_LAYER": "on", "TMPDIR": place.folder("own" + HOSTILE)}
+    for number in signal.SIGILL, signal.SIGKILL:
+        for name in os.listdir(on["TMPDIR"]):
+            os.unlink(os.path.join(on["TMPDIR"], name))
+        run = Typed(["scm-select", old, new], 60, 24, {**place.environment, **on}, place.top)
+        run.press("space")
+        # the marks are kept where the user rests
+        time.sleep(1)
+        os.kill(run.process, number)
+        run.end()
+        yield run.said() if number == signal.SIGILL else typed(place, ["scm-select", old, new], ["q"], **on)
+
+
 def is_of_form(said, form):
     """Whether a line has the form of a message."""
     parts = re.split(r"%(?:\.\*)?s", form)
@@ -111,7 +131,7 @@ def every_message(place):
     """Each message that the sources have is said of hostile paths, values and lines: what is said is printable, and one function
     prints all. The list of messages is made from the sources."""
     sources = program_sources()
-    said = [text for attempt in (of_files, of_folders, of_records) for text in attempt(place)]
+    said = [text for attempt in (of_files, of_folders, of_records, of_marks) for text in attempt(place)]
     whole = "\n".join(said)
     missing = [form for form in forms_in(sources) if not is_of_form(whole, form)]
     if not shutil.which("strace"):
