@@ -703,7 +703,7 @@ def files_that_have_too_much_together(place):
     changed.write(right, {"a": b"2\n", "b": b"2" * 60, "same": b"1" * 500})
     status, said = edit_patched(place, FEW % 300, "--output", output, left, right)
     words = "%s: same cannot be written: OUTPUT would be given more than 300 bytes: nothing was written\n"
-    return is_named and is_written and (status, said) == (1, words % EDITOR) and changed.read(output) == {}
+    return is_named and is_written and status == 1 and said.startswith(words % EDITOR) and changed.read(output) == {}
 
 
 def a_lock_that_was_copied(place):
@@ -755,7 +755,7 @@ def a_file_that_changes_unseen(place):
     os.mkfifo(os.path.join(left, "pipe"))
     output, words = place.folder("output"), "%s: b changed meanwhile: nothing was written\n" % EDITOR
     status, said = editor(place, "--output", output, left, right, MEANWHILE="echo 3 > '%s/b'" % right)
-    is_said = status == 1 and said.endswith(words) and changed.read(output) == {}
+    is_said = status == 1 and words in said and changed.read(output) == {}
     changed.write_file(os.path.join(right, "b"), b"1\n")
     status, said = editor(place, "--output", output, left, right)
     is_out = (status, said) == (0, "%s: pipe is left out: it is neither a file nor a link\n" % EDITOR)
