@@ -1,0 +1,8 @@
+-- Texts side by side on a row.
+pub mod TextLemmas
+-- A screen with a changed row.
+pub mod RowLemmas
+-- Owners.
+pub mod OwnerLemmas
+-- On all columns of a screen rows are their strips.
+pub mod InlineLemmas
