@@ -22,3 +22,5 @@ pub mod LoggingLemmas
 pub mod MarkingLemmas
 -- the calls of a program, one after another
 pub mod StepLemmas
+-- the screen of a session as cells
+pub mod CellCallLemmas
