@@ -58,7 +58,7 @@ fn side_told(selected: bool, told: &Side) -> scm_tree_sides::Side
 /// Writes to `shown` what a state is to be given of a changed file, whose contents differ if `is_other`.
 #[unsafe(no_mangle)]
 pub extern "C" fn scm_tree_shown(changed: &ChangedBits, is_other: bool, shown: &mut ShownBits)
-    ensures { shown.exit ≡ shown_bits (shown_as (changed_of changed.now) is_other) }
+    ensures { shown.exit.now ≡ shown_bits (shown_as (changed_of changed.now) is_other) }
 {
     *shown = shown_bits(changed, is_other);
 }
