@@ -10,7 +10,8 @@ TYPES = {
     "const scm_session *": "Asked", "int": "c_int",
     "const char *": "Bytes", "char *": "Room", "size_t *": "*mut usize", "uint32_t *": "*mut u32", "scm_key *": "*mut Key",
     "const scm_key *": "*const Key", "scm_side_info *": "*mut SideInfo", "scm_cell *": "*mut Cell",
-    "scm_screen_info *": "*mut ScreenInfo",
+    "scm_screen_info *": "*mut ScreenInfo", "const scm_side_info *": "*const SideInfo", "const scm_changed *": "*const Changed",
+    "scm_shown *": "*mut Shown", "scm_in_tree *": "*mut InTree",
 }
 
 # the calls that the crate leaves out: this one takes functions of a program, and the crate has `scm_run`
