@@ -35,8 +35,9 @@ UNCHANGED, TEXT, BINARY = Contents.UNCHANGED, Contents.TEXT, Contents.BINARY
 UNCHECKED, PARTLY, CHECKED = Mark.UNCHECKED, Mark.PARTLY, Mark.CHECKED
 
 __all__ = [
-    "ABSENT", "ACCEPTED", "BINARY", "BUILDING", "CHECKED", "CODES", "Cell", "Colour", "Contents", "EDITING", "ENDED", "ENDS", "Error", "FOLDS", "Folds",
-    "Item", "Key", "Mark", "MergeLine", "NONE", "NO_INDEX", "OWNERS", "PARTLY", "PATH_FAULTS", "Path", "Session", "Side", "Stage", "TEXT",
-    "THEMES", "Text", "Theme", "UNCHANGED", "UNCHECKED", "WAITING", "__version__", "decide", "library", "marked_bytes", "merge_texts",
-    "merged_bytes", "open_conflicts", "open_library", "path_fault", "renamed_mode", "tree_mode", "words",
+    "ABSENT", "ACCEPTED", "BINARY", "BUILDING", "BY_ITEMS", "BY_LINES", "BY_ONE_ITEM", "CHECKED", "CODES", "Cell", "Colour",
+    "Contents", "EDITING", "ENDED", "ENDS", "Error", "FOLDS", "Folds", "InTree", "Item", "Key", "Mark", "MergeLine", "NONE",
+    "NO_INDEX", "OF_NEW", "OF_OLD", "OF_SIDE", "OWNERS", "PARTLY", "PATH_FAULTS", "Path", "Session", "Shown", "Side", "Stage",
+    "TEXT", "THEMES", "Text", "Theme", "UNCHANGED", "UNCHECKED", "WAITING", "__version__", "decide", "library", "marked_bytes",
+    "merge_texts", "merged_bytes", "open_conflicts", "open_library", "path_fault", "tree_shown", "tree_side", "words",
 ]

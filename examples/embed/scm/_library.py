@@ -33,6 +33,25 @@ class SideInfo(ctypes.Structure):
     _fields_ = [("contents", ctypes.c_uint32), ("mode", ctypes.c_size_t), ("length", ctypes.c_size_t)]
 
 
+class Changed(ctypes.Structure):
+    """A changed file: the modes of its two versions, `ABSENT` of one that does not exist; how its contents are shown, one of `SHOWN_BY`;
+    and whether the old version has another path."""
+
+    _fields_ = [("old_mode", ctypes.c_size_t), ("new_mode", ctypes.c_size_t), ("shown", ctypes.c_uint32), ("is_renamed", ctypes.c_bool)]
+
+
+class Shown(ctypes.Structure):
+    """What a state is to be given of a changed file: scm.h says more."""
+
+    _fields_ = [("old_mode", ctypes.c_size_t), ("new_mode", ctypes.c_size_t), ("has_mode", ctypes.c_bool), ("has_contents", ctypes.c_bool)]
+
+
+class InTree(ctypes.Structure):
+    """What a tree has of a changed file: its modes at its paths, or `ABSENT`, and whose contents it has, one of `ORIGINS`."""
+
+    _fields_ = [("mode", ctypes.c_size_t), ("old_path_mode", ctypes.c_size_t), ("contents", ctypes.c_uint32)]
+
+
 class CellOfC(ctypes.Structure):
     """A place of the screen, as C has it."""
 
