@@ -51,7 +51,7 @@ pub fn sides_change_places(
 {}
 
 /// Proves that a merge with ours and theirs exchanged is one of the exchanged sides: its regions are what a
-/// merge of these is made of, by the same differences of each side, and as many conflicts are open.
+/// merge of these is made of, by the same differences of each side, and it has as many conflicts.
 pub fn exchanged_merges_are_merges(
     base: &[Text<'_>],
     ours: &[Text<'_>],
@@ -60,7 +60,8 @@ pub fn exchanged_merges_are_merges(
 )
     requires { AreMerged base.now ours.now theirs.now regions.now }
     ensures merged { AreMerged base.now theirs.now ours.now (map exchanged_region regions.now) }
-    ensures open { conflict_count (outcomes_from base.now theirs.now ours.now 0 (map exchanged_region regions.now))
+    ensures open { conflict_count
+        (outcomes_from base.now theirs.now ours.now 0 (map exchanged_region regions.now))
         ≡ conflict_count (outcomes_from base.now ours.now theirs.now 0 regions.now) }
 {}
 

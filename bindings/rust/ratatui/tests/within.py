@@ -33,7 +33,7 @@ class Host:
         self.read(60)
 
     def read(self, seconds):
-        """Reads until nothing comes for a while. The first byte may take so many seconds."""
+        """Reads until nothing comes for a while. Waits `seconds` for the first byte."""
         while select.select([self.terminal], [], [], seconds)[0]:
             try:
                 came = os.read(self.terminal, 1 << 16).decode()
