@@ -6,3 +6,5 @@ pub mod RowLemmas
 pub mod OwnerLemmas
 -- On all columns of a screen rows are their strips.
 pub mod InlineLemmas
+-- Columns that are held at the greatest number that the machine counts.
+pub mod CountedLemmas

@@ -24,8 +24,8 @@ pub header-has : (v width : ℕ) (from to x : ℤ) (r : Bool) → r ≡ is_betwe
 header-has v width from to x r p q e = p ∙ ap₂ (λ a b. is_between a b x) q e
 
 -- the end of a header
-pub header-end : (v end before : ℕ) (e : ℕ) → before ≡ max e v → end ≡ max before 3 → end ≡ max 3 (max v e)
-header-end v end before e p q = omega (arith, p, q)
+pub header-end : (v least e : ℕ) → least ≡ max v 3 → max least e ≡ max 3 (max v e)
+header-end v least e p = omega (arith, p)
 
 abbrev header_if : FileKey → Bool → Option ComponentId
 header_if k b = if b then Some (ids.FileViewHeader k) else None

@@ -1,6 +1,6 @@
 -- Who owns the columns of a row: the first of its parts that has the column. A part is an id and its columns, counted from the area's
 -- first one. Parts are not cut at the area: they may begin left of it, and end behind it.
-use Rattle.std.specs.Prelude.{ℕ, ◌+◌, ◌==◌, max, ℤ, pos, ◌+ℤ◌, ◌-ℤ◌, ◌<ℤ◌, ◌^◌, int_le, int_lt, Bool, ◌&&◌, List, [], ◌∷◌, Option, Some, None, if◌then◌else◌}
+use Rattle.std.specs.Prelude.{ℕ, ◌+◌, ◌-◌, ◌==◌, min, max, ℤ, pos, ◌+ℤ◌, ◌-ℤ◌, ◌<ℤ◌, ◌^◌, int_le, int_lt, Bool, ◌&&◌, List, [], ◌∷◌, Option, Some, None, if◌then◌else◌}
 use Rattle.std.specs.Int.{int_min, int_max}
 use Rattle.scm_cells.specs.Clusters.{text_width}
 use Rattle.scm_render.specs.Drawing.{texts_width}
@@ -44,6 +44,10 @@ abbrev pub three : ℤ → ComponentId → Part
 three c i = record { id = i; from = c; to = c +ℤ pos 3 }
 
 -- ---- how far rows go
+
+-- n columns as the machine counts them: held at the greatest number that it has. No column reaches that
+abbrev pub counted : ℕ → ℕ
+counted n = min n (2 ^ 64 - 1)
 
 -- the end of texts of `width` columns from column c on; texts without a column end nowhere
 abbrev pub end_of_texts : ℕ → ℕ → ℕ
@@ -128,16 +132,3 @@ row_parts v (FileRow d) = file_row_parts v d
 row_parts v (MessageRow commit message) = message_parts commit
 row_parts v MarginRow = []
 row_parts v WordsRow = []
-
--- the columns of a row's texts, of which a part of the row has the end: of a title, a line, or none
-abbrev pub measured : AreaRow → ℕ
-measured (FileRow (HeaderRow key h)) = text_width h.title
-measured (FileRow (SectionRow selected h)) = 0
-measured (FileRow (LineRow key b ts)) = texts_width ts
-measured (FileRow (MarkRow selected b t)) = 0
-measured (FileRow (ContextRow key ts)) = texts_width ts
-measured (FileRow (DotsRow t)) = 0
-measured (FileRow BlankRow) = 0
-measured (MessageRow commit message) = 0
-measured MarginRow = 0
-measured WordsRow = 0

@@ -1,13 +1,13 @@
 //! The owners of the columns of a row. A column is counted from the area's first one; left of the area it is
 //! negative.
-ghost use Rattle.std.specs.Prelude.{◌≡◌, ℕ, ◌<◌, ◌≤◌, ◌^◌, ◌∷◌, [], if◌then◌else◌, Some, None};
+ghost use Rattle.std.specs.Prelude.{◌≡◌, ℕ, ◌<◌, ◌≤◌, ◌^◌, ◌∷◌, [], max, pos, int_lt, if◌then◌else◌, Some, None};
 ghost use Rattle.scm_render.specs.Hits.{first_of_two};
 ghost use Rattle.scm_widgets.specs.declared.ids.ComponentId.TheVariants as ids;
 ghost use Rattle.scm_cells.specs.Clusters.{text_width};
 ghost use Rattle.scm_render.specs.Drawing.{texts_width};
 ghost use Rattle.scm_document.specs.Rows.{lent_text, line_id as id_of_line, line_texts};
 ghost use Rattle.scm_document.specs.Texts.{number_text, path_text, sign_text};
-ghost use Rattle.scm_strips.specs.Parts.{IsNear, changed_parts, context_part, end_of_texts, header_parts, heading_from, heading_parts, is_between, is_in_header, measured, message_parts, owner_in, row_parts, three};
+ghost use Rattle.scm_strips.specs.Parts.{IsNear, changed_parts, context_part, counted, end_of_texts, header_parts, heading_from, heading_parts, is_between, is_in_header, message_parts, owner_in, row_parts, three};
 ghost use Rattle.scm_strips.specs.ShownRows.{row_of};
 
 use crate::shown::Shown;
@@ -22,14 +22,33 @@ fn is_between(from: isize, to: isize, column: isize) -> bool
     from <= column && column < to
 }
 
-/// Returns the end of texts of `width` columns from column `first` on, or 0 if they have no column.
-fn end_of_texts(first: usize, width: usize) -> usize
-    requires first { first ≤ 8 }
-    requires width { width < 2 ^ 62 }
-    ensures value { result ≡ end_of_texts first width }
-    ensures fits { result < 2 ^ 63 }
+/// Returns whether `column` is before `end`. An `end` that is too great to count is held at the greatest
+/// `usize`, which no column reaches.
+fn is_before(column: isize, end: usize) -> bool
+    ensures { (whole : ℕ) → end ≡ counted whole → result ≡ int_lt column (pos whole) }
 {
-    if width == 0 { 0 } else { first + width }
+    column < 0 || column.unsigned_abs() < end
+}
+
+/// Returns whether `column` is in `from..end`, where `end` is held as in `is_before`.
+fn is_up_to(from: isize, end: usize, column: isize) -> bool
+    ensures { (whole : ℕ) → end ≡ counted whole → result ≡ is_between from (pos whole) column }
+{
+    from <= column && is_before(column, end)
+}
+
+/// Returns the end of texts of `width` columns from column `first` on, or 0 if they have no column, but at
+/// least `least`. It is held at the greatest `usize`.
+fn end_of_texts(first: usize, width: usize, least: usize) -> usize
+    requires { least < 2 ^ 16 }
+    ensures { (whole : ℕ) → width ≡ counted whole
+        → result ≡ counted (max least (end_of_texts first whole)) }
+{
+    if width == 0 {
+        least
+    } else {
+        first.saturating_add(width).max(least)
+    }
 }
 
 /// Returns `id` if it owns `column` as one of three columns from column `first` on.
@@ -85,17 +104,15 @@ fn header_from(width: usize) -> isize
 
 /// Returns whether the header of a file has `column`, in an area of `width` columns.
 fn is_of_header(width: usize, old_path: Option<&str>, path: &str, column: isize) -> bool
-    requires width { width < 2 ^ 16 }
-    requires title { text_width (path_text (lent_text old_path) path.now) < 2 ^ 62 }
+    requires { width < 2 ^ 16 }
     ensures { result ≡ is_in_header width
         (text_width (path_text (lent_text old_path.entry) path.now)) column }
 {
     if is_between(0, width as isize, column) {
         return true;
     }
-    let title = path_width(old_path, path);
-    let end = end_of_texts(4, title).max(width).max(3);
-    is_between(header_from(width), end as isize, column)
+    let end = end_of_texts(4, path_width(old_path, path), width.max(3));
+    is_up_to(header_from(width), end, column)
 }
 
 /// Returns `first`, or `second` if `first` is `None`.
@@ -128,8 +145,7 @@ fn header_owner(
     path: &str,
     column: isize,
 ) -> Option<ComponentId>
-    requires width { width < 2 ^ 16 }
-    requires title { text_width (path_text (lent_text old_path) path.now) < 2 ^ 62 }
+    requires { width < 2 ^ 16 }
     ensures { result ≡ owner_in (header_parts width key boxes.0 boxes.1
         (text_width (path_text (lent_text old_path.entry) path.now))) column }
 {
@@ -155,8 +171,7 @@ fn changed_owner(
     line: &str,
     column: isize,
 ) -> Option<ComponentId>
-    requires width { width < 2 ^ 16 }
-    requires line { texts_width (line_texts (sign_text change_type) line.now) < 2 ^ 62 }
+    requires { width < 2 ^ 16 }
     ensures { result ≡ owner_in (changed_parts width key toggle
         (texts_width (line_texts (sign_text change_type) line.now))) column }
 {
@@ -166,10 +181,8 @@ fn changed_owner(
     if is_between(0, width as isize, column) {
         return Some(line_id(key));
     }
-    let end = end_of_texts(8, changed_width(change_type, line))
-        .max(width)
-        .max(7);
-    if is_between(0, end as isize, column) {
+    let end = end_of_texts(8, changed_width(change_type, line), width.max(7));
+    if is_up_to(0, end, column) {
         Some(line_id(key))
     } else {
         None
@@ -185,16 +198,15 @@ fn context_owner(
     line: &str,
     column: isize,
 ) -> Option<ComponentId>
-    requires width { width < 2 ^ 16 }
-    requires line { texts_width (line_texts (number_text number) line.now) < 2 ^ 62 }
+    requires { width < 2 ^ 16 }
     ensures { result ≡ owner_in (context_part width key
         (texts_width (line_texts (number_text number) line.now)) ∷ []) column }
 {
     if is_between(0, width as isize, column) {
         return Some(line_id(key));
     }
-    let end = end_of_texts(4, context_width(number, line)).max(width);
-    if is_between(0, end as isize, column) {
+    let end = end_of_texts(4, context_width(number, line), width);
+    if is_up_to(0, end, column) {
         Some(line_id(key))
     } else {
         None
@@ -217,8 +229,7 @@ fn message_owner(commit: usize, column: isize) -> Option<ComponentId>
 /// area. A part has the columns of its text, which is measured only for a column outside of the area.
 #[tactic(auto, unfolding(crate::specs::Parts::owner_in))]
 pub fn row_owner(width: usize, what: &Shown<'_>, column: isize) -> Option<ComponentId>
-    requires width { width < 2 ^ 16 }
-    requires measured { measured (row_of what.now) < 2 ^ 62 }
+    requires { width < 2 ^ 16 }
     ensures { result ≡ owner_in (row_parts width (row_of what.now)) column }
 {
     match what {

@@ -1,27 +1,28 @@
-//! The widths of texts, measured without making the texts.
-ghost use Rattle.std.specs.Prelude.{◌≡◌, ◌<◌, ◌+◌, ◌^◌, length, decimal, Some};
+//! The widths of texts, measured without making the texts. A width is held at the greatest `usize`.
+ghost use Rattle.std.specs.Prelude.{◌≡◌, ℕ, ◌<◌, ◌+◌, ◌^◌, length, decimal, Some};
 ghost use Rattle.scm_cells.specs.Clusters.{text_width};
 ghost use Rattle.scm_cells.specs.Replaced.{line_pieces};
 ghost use Rattle.scm_render.specs.Drawing.{texts_width};
 ghost use Rattle.scm_document.specs.Rows.{lent_text, line_texts};
 ghost use Rattle.scm_document.specs.Texts.{number_text, path_text, sign_text};
+ghost use Rattle.scm_strips.specs.Parts.{counted};
 
 use scm_cells::{replace_control_character, text_width};
 use scm_types::ChangeType;
 
 /// Returns the width of `old_path`, an arrow and `path`, in columns.
 fn renamed_width(old_path: &str, path: &str) -> usize
-    requires { text_width (path_text (Some old_path.now) path.now) < 2 ^ 64 }
-    ensures { result ≡ text_width (path_text (Some old_path.now) path.now) }
+    ensures { result ≡ counted (text_width (path_text (Some old_path.now) path.now)) }
 {
     // The spaces around the arrow join no character of the paths.
-    text_width(old_path) + 4 + text_width(path)
+    text_width(old_path)
+        .saturating_add(4)
+        .saturating_add(text_width(path))
 }
 
 /// Returns the width of `path`, after `old_path` and an arrow if the file was renamed, in columns.
 pub(crate) fn path_width(old_path: Option<&str>, path: &str) -> usize
-    requires { text_width (path_text (lent_text old_path) path.now) < 2 ^ 64 }
-    ensures { result ≡ text_width (path_text (lent_text old_path.entry) path.now) }
+    ensures { result ≡ counted (text_width (path_text (lent_text old_path.entry) path.now)) }
 {
     match old_path {
         None => text_width(path),
@@ -43,10 +44,19 @@ fn decimal_width(number: usize) -> usize
     count
 }
 
+/// Returns `width` with the widths of `first` and `second`, in columns.
+fn with_widths(width: usize, first: &str, second: &str) -> usize
+    ensures { (whole : ℕ) → width ≡ counted whole
+        → result ≡ counted (whole + (text_width first.now + text_width second.now)) }
+{
+    width
+        .saturating_add(text_width(first))
+        .saturating_add(text_width(second))
+}
+
 /// Returns the width of `line` as a screen can show it, in columns.
 fn pieces_width(line: &str) -> usize
-    requires { texts_width (line_pieces line.now) < 2 ^ 64 }
-    ensures { result ≡ texts_width (line_pieces line.now) }
+    ensures { result ≡ counted (texts_width (line_pieces line.now)) }
 {
     let mut rest = line.chars();
     let mut start = 0;
@@ -55,26 +65,25 @@ fn pieces_width(line: &str) -> usize
     'characters: while let Some(character) = rest.next() {
         let end = read + character.len_utf8();
         if let Some(replacement) = replace_control_character(character) {
-            width += text_width(&line[start..read]) + text_width(replacement);
+            width = with_widths(width, &line[start..read], replacement);
             start = end;
         }
         read = end;
     }
-    width + text_width(&line[start..])
+    width.saturating_add(text_width(&line[start..]))
 }
 
 /// Returns the width of a changed line with its sign, in columns.
 pub(crate) fn changed_width(change_type: ChangeType, line: &str) -> usize
-    requires { texts_width (line_texts (sign_text change_type) line.now) < 2 ^ 64 }
-    ensures { result ≡ texts_width (line_texts (sign_text change_type) line.now) }
+    ensures { result ≡ counted (texts_width (line_texts (sign_text change_type) line.now)) }
 {
-    2 + pieces_width(line)
+    pieces_width(line).saturating_add(2)
 }
 
 /// Returns the width of a line of context with its number, in columns.
 pub(crate) fn context_width(number: usize, line: &str) -> usize
-    requires { texts_width (line_texts (number_text number) line.now) < 2 ^ 64 }
-    ensures { result ≡ texts_width (line_texts (number_text number) line.now) }
+    ensures { result ≡ counted (texts_width (line_texts (number_text number) line.now)) }
 {
-    decimal_width(number).max(5) + 1 + pieces_width(line)
+    let front = decimal_width(number).max(5) + 1;
+    pieces_width(line).saturating_add(front)
 }

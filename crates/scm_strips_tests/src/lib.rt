@@ -1,5 +1,11 @@
-//! Tests of rows of a document in an area of the screen.
+//! Tests of rows of a document in an area of the screen, and of what they show.
 #![tactic(auto)]
 
 #[cfg(test)]
+mod owners;
+#[cfg(test)]
 mod rows;
+#[cfg(test)]
+mod samples;
+#[cfg(test)]
+mod sections;
