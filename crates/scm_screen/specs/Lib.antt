@@ -1,4 +1,8 @@
 -- The window of one commit, and of two beside each other.
 pub mod Beside
+-- Sections by the counts of their files.
+pub mod Sections
+-- Headers of files by their counts.
+pub mod Headers
 -- Laws of windows.
 pub mod Laws

@@ -1,4 +1,11 @@
-//! The window of one commit, and of two beside each other: definitions, and their laws.
+//! The window of one commit, and of two beside each other: definitions, their laws, and what the rows of files
+//! show.
 #![tactic(auto)]
 
+pub use file_header::shown_header;
+pub use section_rows::{CountedSection, counted_section, has_row, shown_row};
+
+mod boxes;
+mod file_header;
 pub mod laws;
+mod section_rows;
