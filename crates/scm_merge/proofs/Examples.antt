@@ -61,13 +61,17 @@ label_is_left_out : marker short (61 ∷ []) (97 ∷ 10 ∷ []) ≡ 61 ∷ 61 �
 label_is_left_out = refl
 
 -- a line of seven signs, one of six, and one of eight other bytes
-seven_signs : marker_len ((61 ∷ 61 ∷ 61 ∷ 61 ∷ 61 ∷ 61 ∷ 61 ∷ 10 ∷ []) ∷ []) ≡ 8
+seven_signs : marker_len 7 ((61 ∷ 61 ∷ 61 ∷ 61 ∷ 61 ∷ 61 ∷ 61 ∷ 10 ∷ []) ∷ []) ≡ 8
 seven_signs = refl
 
-six_signs : marker_len ((61 ∷ 61 ∷ 61 ∷ 61 ∷ 61 ∷ 61 ∷ 62 ∷ 10 ∷ []) ∷ []) ≡ 7
+six_signs : marker_len 7 ((61 ∷ 61 ∷ 61 ∷ 61 ∷ 61 ∷ 61 ∷ 62 ∷ 10 ∷ []) ∷ []) ≡ 7
 six_signs = refl
 
-no_signs : marker_len ((45 ∷ 45 ∷ 45 ∷ 45 ∷ 45 ∷ 45 ∷ 45 ∷ 45 ∷ []) ∷ []) ≡ 7
+-- the same line, where twelve signs are asked for
+asked_signs : marker_len 12 ((61 ∷ 61 ∷ 61 ∷ 61 ∷ 61 ∷ 61 ∷ 61 ∷ 10 ∷ []) ∷ []) ≡ 12
+asked_signs = refl
+
+no_signs : marker_len 7 ((45 ∷ 45 ∷ 45 ∷ 45 ∷ 45 ∷ 45 ∷ 45 ∷ 45 ∷ []) ∷ []) ≡ 7
 no_signs = refl
 
 -- the first line end decides

@@ -101,33 +101,33 @@ settled-sections : (style : Style) (labels : Labels) (ss : List Section) → mar
 settled-sections style labels [] = refl
 settled-sections style labels (s ∷ ss) = ap (λ xs. section_with_texts s ∷ xs) (settled-sections style labels ss)
 
-pub settled-bytes : (file : File) (labels : Labels) → open_from 0 false file.sections ≡ 0 → bytes_with_markers labels file ≡ merged_bytes file
-settled-bytes file labels h =
+pub settled-bytes : (file : File) (labels : Labels) (least : ℕ) → open_from 0 false file.sections ≡ 0 → bytes_with_markers least labels file ≡ merged_bytes file
+settled-bytes file labels least h =
     ap (λ ss. side_bytes true (file_with_sections file ss))
-    (ap (λ rs. marked_sections (style_of file.sections) labels rs file.sections) (all-settled 0 false file.sections h ∙ ap (λ n. replicate n Settled) (zero-more (length file.sections))) ∙ settled-sections (style_of file.sections) labels file.sections)
+    (ap (λ rs. marked_sections (style_of least file.sections) labels rs file.sections) (all-settled 0 false file.sections h ∙ ap (λ n. replicate n Settled) (zero-more (length file.sections))) ∙ settled-sections (style_of least file.sections) labels file.sections)
 
 -- ---- the length of markers
 
-pub least-len : (ls : List (List ℕ)) → 7 ≤ marker_len ls
-least-len [] = omega arith
-least-len (l ∷ ls) = let h = least-len ls in let g = le-max_right (marker_run l + 1) (marker_len ls) in omega arith
+pub least-len : (least : ℕ) (ls : List (List ℕ)) → least ≤ marker_len least ls
+least-len least [] = omega arith
+least-len least (l ∷ ls) = let h = least-len least ls in let g = le-max_right (marker_run l + 1) (marker_len least ls) in omega arith
 
-pub first-len : (ls : List (List ℕ)) → max 7 (marker_len ls) ≡ marker_len ls
-first-len ls =
-    let h = least-len ls in
+pub first-len : (least : ℕ) (ls : List (List ℕ)) → max least (marker_len least ls) ≡ marker_len least ls
+first-len least ls =
+    let h = least-len least ls in
     omega (arith, h)
 
-shorter : (n : ℕ) (ls : List (List ℕ)) → marker_len ls ≤ n → AllByRecursion (IsShorter n) ls
-shorter n [] h = tt
-shorter n (l ∷ ls) h =
-    let g = le-max_left (marker_run l + 1) (marker_len ls) in
-    let k = le-max_right (marker_run l + 1) (marker_len ls) in
-    (omega arith, shorter n ls (omega arith))
+shorter : (least n : ℕ) (ls : List (List ℕ)) → marker_len least ls ≤ n → AllByRecursion (IsShorter n) ls
+shorter least n [] h = tt
+shorter least n (l ∷ ls) h =
+    let g = le-max_left (marker_run l + 1) (marker_len least ls) in
+    let k = le-max_right (marker_run l + 1) (marker_len least ls) in
+    (omega arith, shorter least n ls (omega arith))
 
-pub told-apart : (ss : List Section) → AreToldApart ss
-told-apart ss = record {
-  least = least-len (all_texts ss);
-  shorter = shorter (marker_len (all_texts ss)) (all_texts ss) (omega arith);
+pub told-apart : (least : ℕ) (ss : List Section) → AreToldApart least ss
+told-apart least ss = record {
+  long = least-len least (all_texts ss);
+  shorter = shorter least (marker_len least (all_texts ss)) (all_texts ss) (omega arith);
 }
 
 -- ---- the sections of a merge of which nothing is chosen, as they are written
@@ -219,9 +219,9 @@ lines-shown style labels os =
     ap (flat_map (section_lines true)) (tail-all (marked_sections style labels (roles_of ss) ss) (none-marked style labels (roles_of ss) ss none))
     ∙ all-written style labels [] os
 
-pub conflicts-shown : (path : List ℕ) (mode : Mode) (base ours theirs : List ℕ) (file : File) (labels : Labels) → IsMerge path mode base ours theirs file → ShowsConflicts labels base ours theirs file
-conflicts-shown path mode base ours theirs file labels m =
-    let style = style_of file.sections in
+pub conflicts-shown : (path : List ℕ) (mode : Mode) (base ours theirs : List ℕ) (file : File) (labels : Labels) (least : ℕ) → IsMerge path mode base ours theirs file → ShowsConflicts least labels base ours theirs file
+conflicts-shown path mode base ours theirs file labels least m =
+    let style = style_of least file.sections in
     let rs = m.are_sections.regions in
     let os = outcomes_from (lines_of base) (lines_of ours) (lines_of theirs) 0 rs in
     record {

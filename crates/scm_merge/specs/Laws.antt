@@ -120,18 +120,18 @@ lines_with_markers style labels (Agreed ls ∷ os) = ls ++ lines_with_markers st
 lines_with_markers style labels (Conflict b o t ∷ os) = conflict_lines style labels b o t ++ lines_with_markers style labels os
 
 -- The bytes of a merge of which nothing is chosen show each conflict between markers.
-pub record ShowsConflicts (labels : Labels) (base ours theirs : List ℕ) (file : File) : Type 0 where
+pub record ShowsConflicts (least : ℕ) (labels : Labels) (base ours theirs : List ℕ) (file : File) : Type 0 where
   pub regions : List Region
   pub are_merged : AreMerged (lines_of base) (lines_of ours) (lines_of theirs) regions
-  pub bytes : bytes_with_markers labels file
-      ≡ bytes_of_text (text_of (lines_with_markers (style_of file.sections) labels
+  pub bytes : bytes_with_markers least labels file
+      ≡ bytes_of_text (text_of (lines_with_markers (style_of least file.sections) labels
       (outcomes_from (lines_of base) (lines_of ours) (lines_of theirs) 0 regions)))
 
 -- the line begins with fewer equal signs than a marker of `len` signs
 abbrev pub IsShorter : ℕ → List ℕ → Type 0
 IsShorter len line = marker_run line < len
 
--- No line of the file can be taken for a marker.
-pub record AreToldApart (sections : List Section) : Type 0 where
-  pub least : 7 ≤ (style_of sections).len
-  pub shorter : AllByRecursion (IsShorter (style_of sections).len) (all_texts sections)
+-- A marker has at least `least` signs, and no line of the file can be taken for one.
+pub record AreToldApart (least : ℕ) (sections : List Section) : Type 0 where
+  pub long : least ≤ (style_of least sections).len
+  pub shorter : AllByRecursion (IsShorter (style_of least sections).len) (all_texts sections)

@@ -65,13 +65,13 @@ marked_sections style labels (r ∷ rs) [] = []
 marked_sections style labels (r ∷ rs) (s ∷ ss) = marked_section style labels r s ∷ marked_sections style labels rs ss
 
 -- the sections with markers around each open conflict
-abbrev pub sections_with_markers : Labels → List Section → List Section
-sections_with_markers labels ss = marked_sections (style_of ss) labels (roles_of ss) ss
+abbrev pub sections_with_markers : ℕ → Labels → List Section → List Section
+sections_with_markers least labels ss = marked_sections (style_of least ss) labels (roles_of ss) ss
 
 -- the file with markers around each open conflict
-abbrev pub file_with_markers : Labels → File → File
-file_with_markers labels file = file_with_sections file (sections_with_markers labels file.sections)
+abbrev pub file_with_markers : ℕ → Labels → File → File
+file_with_markers least labels file = file_with_sections file (sections_with_markers least labels file.sections)
 
--- the bytes of the merge by the marks of the file, with markers around each open conflict
-abbrev pub bytes_with_markers : Labels → File → List ℕ
-bytes_with_markers labels file = side_bytes true (file_with_markers labels file)
+-- the bytes of the merge by the marks of the file, with markers of at least `least` signs around each open conflict
+abbrev pub bytes_with_markers : ℕ → Labels → File → List ℕ
+bytes_with_markers least labels file = side_bytes true (file_with_markers least labels file)

@@ -25,10 +25,10 @@ is_sign b = b == 60 || b == 124 || b == 61 || b == 62
 abbrev pub marker_run : List ℕ → ℕ
 marker_run line = if is_sign (slice_index line 0) then prefix_len (λ b. b == slice_index line 0) line else 0
 
--- how many signs a marker has: 7, or one more than any line of the file begins with
-abbrev pub marker_len : List (List ℕ) → ℕ
-marker_len [] = 7
-marker_len (l ∷ ls) = max (marker_run l + 1) (marker_len ls)
+-- how many signs a marker has: `least`, or one more than any line of the file begins with, whichever is greater
+abbrev pub marker_len : ℕ → List (List ℕ) → ℕ
+marker_len least [] = least
+marker_len least (l ∷ ls) = max (marker_run l + 1) (marker_len least ls)
 
 -- whether the line has a line end
 abbrev pub has_end : List ℕ → Bool
@@ -43,6 +43,6 @@ abbrev pub is_crlf : List (List ℕ) → Bool
 is_crlf [] = false
 is_crlf (l ∷ ls) = if has_end l then ends_crlf l else is_crlf ls
 
--- the style of the markers in a file with these sections
-abbrev pub style_of : List Section → Style
-style_of sections = record { len = marker_len (all_texts sections); is_crlf = is_crlf (all_texts sections) }
+-- the style of the markers, of at least `least` signs, in a file with these sections
+abbrev pub style_of : ℕ → List Section → Style
+style_of least sections = record { len = marker_len least (all_texts sections); is_crlf = is_crlf (all_texts sections) }

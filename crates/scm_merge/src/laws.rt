@@ -190,9 +190,9 @@ pub fn choice_gives_its_bytes(
 {}
 
 /// Proves that a merge with markers has none if no conflict is open: it is the merge by the marks.
-pub fn settled_merges_have_no_markers(file: &File<'_>, labels: Labels<'_>)
+pub fn settled_merges_have_no_markers(file: &File<'_>, labels: Labels<'_>, least: usize)
     requires { open_conflicts file.now ≡ 0 }
-    ensures { bytes_with_markers labels.entry file.now ≡ merged_bytes file.now }
+    ensures { bytes_with_markers least labels.entry file.now ≡ merged_bytes file.now }
 {}
 
 /// Proves that a merge of which nothing is chosen has the lines of each conflict between its markers,
@@ -205,13 +205,14 @@ pub fn markers_show_the_conflicts(
     theirs: &str,
     file: &File<'_>,
     labels: Labels<'_>,
+    least: usize,
 )
     requires { IsMerge path.now mode base.now ours.now theirs.now file.now }
-    ensures { ShowsConflicts labels.entry base.now ours.now theirs.now file.now }
+    ensures { ShowsConflicts least labels.entry base.now ours.now theirs.now file.now }
 {}
 
 /// Proves that no line of the file begins with as many equal signs as a marker has, and that a marker
-/// has 7 at least.
-pub fn markers_are_told_apart(file: &File<'_>)
-    ensures { AreToldApart file.now.sections }
+/// has at least `least`.
+pub fn markers_are_told_apart(file: &File<'_>, least: usize)
+    ensures { AreToldApart least file.now.sections }
 {}

@@ -190,12 +190,13 @@ fn marked_sections<'a>(
 fn sections_with_markers<'a>(
     alloc: Global,
     labels: Labels<'_>,
+    least: usize,
     sections: &[Section<'a>],
 ) -> Result<Vec<Section<'a>>, AllocError>
     ensures { IfOk result (λ copies.
-        copies.items ≡ sections_with_markers labels.entry sections.now) }
+        copies.items ≡ sections_with_markers least labels.entry sections.now) }
 {
-    let style = style_of(alloc, sections)?;
+    let style = style_of(alloc, sections, least)?;
     let roles = roles_of(alloc, sections)?;
     let copies = marked_sections(alloc, style, labels, roles.as_slice(), sections)?;
     Ok(copies)
@@ -206,10 +207,11 @@ fn file_with_markers<'a>(
     alloc: Global,
     file: &File<'a>,
     labels: Labels<'_>,
+    least: usize,
 ) -> Result<File<'a>, AllocError>
-    ensures { IfOk result (λ copy. copy ≡ file_with_markers labels.entry file.now) }
+    ensures { IfOk result (λ copy. copy ≡ file_with_markers least labels.entry file.now) }
 {
-    let sections = sections_with_markers(alloc, labels, file.sections.as_slice())?;
+    let sections = sections_with_markers(alloc, labels, least, file.sections.as_slice())?;
     let copy = file_with_sections(file, sections)?;
     Ok(copy)
 }
@@ -219,9 +221,10 @@ fn file_with_markers<'a>(
 /// [`merged_bytes`](crate::merged_bytes).
 ///
 /// An open conflict is written in the style `diff3` of git: `<<<<<<<`, our lines, `|||||||`, the lines
-/// of the base, `=======`, their lines and `>>>>>>>`, each marker on a line of its own. A marker has 7
-/// signs, or one more than any line of the file begins with. Its line ends with CR LF if the first line
-/// end of the file is CR LF, else with LF. A last line without a line end gets one before a marker.
+/// of the base, `=======`, their lines and `>>>>>>>`, each marker on a line of its own. A marker has
+/// `least` signs (git has 7), or one more than any line of the file begins with, whichever is greater.
+/// Its line ends with CR LF if the first line end of the file is CR LF, else with LF. A last line without
+/// a line end gets one before a marker.
 ///
 /// # Errors
 /// `AllocError`: an allocation failed.
@@ -229,10 +232,12 @@ pub fn bytes_with_markers(
     alloc: Global,
     file: &File<'_>,
     labels: Labels<'_>,
+    least: usize,
 ) -> Result<Vec<u8>, AllocError>
-    ensures { IfOk result (λ bytes. bytes.items ≡ bytes_with_markers labels.entry file.now) }
+    ensures { IfOk result
+        (λ bytes. bytes.items ≡ bytes_with_markers least labels.entry file.now) }
 {
-    let copy = file_with_markers(alloc, file, labels)?;
+    let copy = file_with_markers(alloc, file, labels, least)?;
     let bytes = side_bytes(alloc, &copy, true)?;
     Ok(bytes)
 }

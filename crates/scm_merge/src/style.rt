@@ -99,11 +99,11 @@ fn marker_run(line: &[u8]) -> usize
     if is_sign(sign) { run_of(line, sign) } else { 0 }
 }
 
-/// Returns how many signs a marker has among these lines.
-fn marker_len(lines: &[Text<'_>]) -> usize
-    ensures { result ≡ marker_len lines.now }
+/// Returns how many signs a marker has among these lines, at least `least`.
+fn marker_len(lines: &[Text<'_>], least: usize) -> usize
+    ensures { result ≡ marker_len least lines.now }
 {
-    let mut len = 7;
+    let mut len = least;
     for line in lines {
         let run = marker_run(line.as_str().as_bytes());
         len = len.max(run + 1);
@@ -139,13 +139,17 @@ fn is_crlf(lines: &[Text<'_>]) -> bool
     false
 }
 
-/// Returns the style of the markers in a file with these sections.
-pub(crate) fn style_of(alloc: Global, sections: &[Section<'_>]) -> Result<Style, AllocError>
-    ensures { IfOk result (λ style. style ≡ style_of sections.now) }
+/// Returns the style of the markers, of at least `least` signs, in a file with these sections.
+pub(crate) fn style_of(
+    alloc: Global,
+    sections: &[Section<'_>],
+    least: usize,
+) -> Result<Style, AllocError>
+    ensures { IfOk result (λ style. style ≡ style_of least sections.now) }
 {
     let texts = all_texts(alloc, sections)?;
     Ok(Style {
-        len: marker_len(texts.as_slice()),
+        len: marker_len(texts.as_slice(), least),
         is_crlf: is_crlf(texts.as_slice()),
     })
 }

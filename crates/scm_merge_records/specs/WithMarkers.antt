@@ -10,22 +10,22 @@ use Rattle.scm_merge_records.specs.declared.markers.LabelBytes.{LabelBytes}
 use Rattle.scm_merge_records.specs.Marked.{is_fit}
 use Rattle.scm_merge_records.specs.Records.{IsMergeOfBytes}
 
--- What the marks make of a file, with markers, if they are as many as its items.
-abbrev pub IsWithMarkers : Labels → List ℕ → File → Option (Vec ℕ) → Type 0
-IsWithMarkers labels marks file None = is_fit marks file ≡ false
-IsWithMarkers labels marks file (Some bytes) =
-    (is_fit marks file ≡ true) × (bytes.items ≡ bytes_with_markers labels (marked_file marks file))
+-- What the marks make of a file, with markers of at least `least` signs, if they are as many as its items.
+abbrev pub IsWithMarkers : ℕ → Labels → List ℕ → File → Option (Vec ℕ) → Type 0
+IsWithMarkers least labels marks file None = is_fit marks file ≡ false
+IsWithMarkers least labels marks file (Some bytes) =
+    (is_fit marks file ≡ true) × (bytes.items ≡ bytes_with_markers least labels (marked_file marks file))
 
 -- The same with labels as bytes.
-pub record IsLabelled (given : LabelBytes) (marks : List ℕ) (file : File) (bytes : Option (Vec ℕ)) : Type 0 where
+pub record IsLabelled (least : ℕ) (given : LabelBytes) (marks : List ℕ) (file : File) (bytes : Option (Vec ℕ)) : Type 0 where
   pub labels : Labels
   pub ours_is : labels.ours.now ≡ text_of_bytes given.ours.now
   pub base_is : labels.base.now ≡ text_of_bytes given.base.now
   pub theirs_is : labels.theirs.now ≡ text_of_bytes given.theirs.now
-  pub is_with_markers : IsWithMarkers labels marks file bytes
+  pub is_with_markers : IsWithMarkers least labels marks file bytes
 
 -- The same of the merge of three files by their bytes.
-pub record IsMergedWithMarkers (labels : LabelBytes) (base ours theirs marks : List ℕ) (bytes : Option (Vec ℕ)) : Type 0 where
+pub record IsMergedWithMarkers (least : ℕ) (labels : LabelBytes) (base ours theirs marks : List ℕ) (bytes : Option (Vec ℕ)) : Type 0 where
   pub file : File
   pub is_merge : IsMergeOfBytes base ours theirs file
-  pub is_labelled : IsLabelled labels marks file bytes
+  pub is_labelled : IsLabelled least labels marks file bytes

@@ -27,15 +27,16 @@ fn marked_bytes(
     file: File<'_>,
     marks: &[u8],
     labels: Labels<'_>,
+    least: usize,
 ) -> Result<Option<Vec<u8>>, AllocError>
-    ensures { IfOk result (IsWithMarkers labels.entry marks.now file.entry) }
+    ensures { IfOk result (IsWithMarkers least labels.entry marks.now file.entry) }
 {
     if !has_items(&file, marks.len()) {
         return Ok(None);
     }
     let mut marked = file;
     mark_file(&mut marked, marks);
-    let bytes = bytes_with_markers(alloc, &marked, labels)?;
+    let bytes = bytes_with_markers(alloc, &marked, labels, least)?;
     Ok(Some(bytes))
 }
 
@@ -45,8 +46,9 @@ fn labelled_bytes(
     file: File<'_>,
     marks: &[u8],
     labels: LabelBytes<'_>,
+    least: usize,
 ) -> Result<Option<Vec<u8>>, AllocError>
-    ensures { IfOk result (λ bytes. IsLabelled labels.entry marks.now file.entry bytes) }
+    ensures { IfOk result (λ bytes. IsLabelled least labels.entry marks.now file.entry bytes) }
 {
     let texts = texts_of(alloc, labels.base, labels.ours, labels.theirs)?;
     let shown = Labels {
@@ -54,13 +56,14 @@ fn labelled_bytes(
         base: texts.base.as_str(),
         theirs: texts.theirs.as_str(),
     };
-    let bytes = marked_bytes(alloc, file, marks, shown)?;
+    let bytes = marked_bytes(alloc, file, marks, shown, least)?;
     Ok(bytes)
 }
 
 /// Returns what `marks` make of the merge of three files, as [`merge_by_marks`](crate::merge_by_marks)
-/// takes them, with markers around each conflict that is open; or `None` if they are not as many as the
-/// items of the conflicts. `scm_merge::bytes_with_markers` has the form of the markers.
+/// takes them, with markers of at least `least` signs around each conflict that is open; or `None` if they
+/// are not as many as the items of the conflicts. `scm_merge::bytes_with_markers` has the form of the
+/// markers.
 ///
 /// # Errors
 /// `AllocError`: an allocation failed.
@@ -71,12 +74,13 @@ pub fn merge_with_markers(
     theirs: &[u8],
     marks: &[u8],
     labels: LabelBytes<'_>,
+    least: usize,
 ) -> Result<Option<Vec<u8>>, AllocError>
     ensures { IfOk result
-        (IsMergedWithMarkers labels.entry base.now ours.now theirs.now marks.now) }
+        (IsMergedWithMarkers least labels.entry base.now ours.now theirs.now marks.now) }
 {
     let texts = texts_of(alloc, base, ours, theirs)?;
     let file = file_of_texts(alloc, &texts)?;
-    let bytes = labelled_bytes(alloc, file, marks, labels)?;
+    let bytes = labelled_bytes(alloc, file, marks, labels, least)?;
     Ok(bytes)
 }
