@@ -25,7 +25,7 @@ gather_reason count old new marks moved (gather.Twice p) f = f
 gather_reason count old new marks moved (gather.Unknown p) f = f
 gather_reason count old new marks moved gather.OutOfMemory f = tt
 
-pub path_reason : (count : ℕ) (old new : List Entry) (marks : List Mark) (moved : List Moved) (rows : List Row) (error : DecideError) → AreMerged count old new marks rows → IsPathReason rows error → IsDecideFault count old new marks moved error
+pub path_reason : (count : ℕ) (old new : List Entry) (marks : List Mark) (moved : List Moved) (rows : List Row) (error : DecideError) → AreMerged count old new marks rows → IsPathReason count rows error → IsDecideFault count old new marks moved error
 path_reason count old new marks moved rows (Twice p) s f = absurd f
 path_reason count old new marks moved rows (Unknown p) s f = absurd f
 path_reason count old new marks moved rows (Path p fault) s f = (rows, (s, f))
@@ -33,7 +33,7 @@ path_reason count old new marks moved rows (Rows fault) s f = absurd f
 path_reason count old new marks moved rows (Rename i) s f = absurd f
 path_reason count old new marks moved rows OutOfMemory s f = absurd f
 
-pub trees_reason : (count : ℕ) (old new : List Entry) (marks : List Mark) (moved : List Moved) (rows : List Row) (error : DecideError) → AreMerged count old new marks rows → PathsFit rows → IsTreesReason (count + 1) rows error → IsDecideFault count old new marks moved error
+pub trees_reason : (count : ℕ) (old new : List Entry) (marks : List Mark) (moved : List Moved) (rows : List Row) (error : DecideError) → AreMerged count old new marks rows → PathsFit count rows → IsTreesReason (count + 1) rows error → IsDecideFault count old new marks moved error
 trees_reason count old new marks moved rows (Twice p) s t f = absurd f
 trees_reason count old new marks moved rows (Unknown p) s t f = absurd f
 trees_reason count old new marks moved rows (Path p fault) s t f = absurd f
@@ -41,7 +41,7 @@ trees_reason count old new marks moved rows (Rows fault) s t f = (rows, (s, (t, 
 trees_reason count old new marks moved rows (Rename i) s t f = absurd f
 trees_reason count old new marks moved rows OutOfMemory s t f = absurd f
 
-pub moved_reason : (count : ℕ) (old new : List Entry) (marks : List Mark) (moved : List Moved) (rows : List Row) (error : DecideError) → AreMerged count old new marks rows → PathsFit rows → AreRows (count + 1) rows → IsMovedReason rows moved error → IsDecideFault count old new marks moved error
+pub moved_reason : (count : ℕ) (old new : List Entry) (marks : List Mark) (moved : List Moved) (rows : List Row) (error : DecideError) → AreMerged count old new marks rows → PathsFit count rows → AreRows (count + 1) rows → IsMovedReason rows moved error → IsDecideFault count old new marks moved error
 moved_reason count old new marks moved rows (Twice p) s t u f = absurd f
 moved_reason count old new marks moved rows (Unknown p) s t u f = absurd f
 moved_reason count old new marks moved rows (Path p fault) s t u f = absurd f

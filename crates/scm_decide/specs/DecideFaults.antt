@@ -16,17 +16,17 @@ use Rattle.scm_decide.specs.GatherFaults.{IsTwice, IsUnknown}
 use Rattle.scm_decide.specs.Merge.{AreMerged}
 use Rattle.scm_decide.specs.Decisions.{IsMoved, row_fault}
 
--- each path that would come names a file below the top folder
-abbrev pub PathsFit : List Row → Type 0
-PathsFit rows = All (λ (r : Row). row_fault r ≡ None) rows
+-- each path that would come, or is that of one of `count` shown files, names a file below the top folder
+abbrev pub PathsFit : ℕ → List Row → Type 0
+PathsFit count rows = All (λ (r : Row). row_fault count r ≡ None) rows
 
--- A row has path `p`, which would come and has the fault. It is the first such row.
-pub record IsFaultyPath (rows : List Row) (p : List ℕ) (fault : PathFault) : Type 0 where
+-- A row has path `p`, which would come or is shown, and has the fault. It is the first such row.
+pub record IsFaultyPath (count : ℕ) (rows : List Row) (p : List ℕ) (fault : PathFault) : Type 0 where
   pub row : ℕ
   pub within : row < length rows
   pub path : (d : Row) → (slice_index_or rows row d).path.now ≡ p
-  pub is_faulty : (d : Row) → row_fault (slice_index_or rows row d) ≡ Some fault
-  pub before : (k : ℕ) (d : Row) → k < row → row_fault (slice_index_or rows k d) ≡ None
+  pub is_faulty : (d : Row) → row_fault count (slice_index_or rows row d) ≡ Some fault
+  pub before : (k : ℕ) (d : Row) → k < row → row_fault count (slice_index_or rows k d) ≡ None
 
 -- The paths of renamed file `i` are not those of rows that are a rename. It is the first such file.
 pub record IsNotMoved (rows : List Row) (moved : List Moved) (i : ℕ) : Type 0 where
@@ -39,9 +39,9 @@ pub record IsNotMoved (rows : List Row) (moved : List Moved) (i : ℕ) : Type 0 
 abbrev pub IsDecideFault : ℕ → List Entry → List Entry → List Mark → List Moved → DecideError → Type 0
 IsDecideFault count old new marks moved (Twice p) = IsTwice old new marks p.now
 IsDecideFault count old new marks moved (Unknown p) = IsUnknown old new marks p.now
-IsDecideFault count old new marks moved (Path p fault) = (rows : List Row) × (AreMerged count old new marks rows × IsFaultyPath rows p.now fault)
-IsDecideFault count old new marks moved (Rows fault) = (rows : List Row) × (AreMerged count old new marks rows × (PathsFit rows × IsRowFault (count + 1) rows fault))
-IsDecideFault count old new marks moved (Rename i) = (rows : List Row) × (AreMerged count old new marks rows × (PathsFit rows × (AreRows (count + 1) rows × IsNotMoved rows moved i)))
+IsDecideFault count old new marks moved (Path p fault) = (rows : List Row) × (AreMerged count old new marks rows × IsFaultyPath count rows p.now fault)
+IsDecideFault count old new marks moved (Rows fault) = (rows : List Row) × (AreMerged count old new marks rows × (PathsFit count rows × IsRowFault (count + 1) rows fault))
+IsDecideFault count old new marks moved (Rename i) = (rows : List Row) × (AreMerged count old new marks rows × (PathsFit count rows × (AreRows (count + 1) rows × IsNotMoved rows moved i)))
 IsDecideFault count old new marks moved OutOfMemory = ⊤
 
 -- why two trees and marks have no rows, as a reason for which nothing is decided
@@ -51,13 +51,13 @@ decide_error (gather.Unknown p) = Unknown p
 decide_error gather.OutOfMemory = OutOfMemory
 
 -- the same of each check of the rows
-abbrev pub IsPathReason : List Row → DecideError → Type 0
-IsPathReason rows (Twice p) = ⊥
-IsPathReason rows (Unknown p) = ⊥
-IsPathReason rows (Path p fault) = IsFaultyPath rows p.now fault
-IsPathReason rows (Rows fault) = ⊥
-IsPathReason rows (Rename i) = ⊥
-IsPathReason rows OutOfMemory = ⊥
+abbrev pub IsPathReason : ℕ → List Row → DecideError → Type 0
+IsPathReason count rows (Twice p) = ⊥
+IsPathReason count rows (Unknown p) = ⊥
+IsPathReason count rows (Path p fault) = IsFaultyPath count rows p.now fault
+IsPathReason count rows (Rows fault) = ⊥
+IsPathReason count rows (Rename i) = ⊥
+IsPathReason count rows OutOfMemory = ⊥
 
 abbrev pub IsTreesReason : ℕ → List Row → DecideError → Type 0
 IsTreesReason count rows (Twice p) = ⊥

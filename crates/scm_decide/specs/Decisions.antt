@@ -1,5 +1,5 @@
 -- What becomes of each path.
-use Rattle.std.specs.Prelude.{◌≡◌, ℕ, ◌+◌, ◌<◌, List, true, false, Option, Some, None, is_some, length, slice_index_or}
+use Rattle.std.specs.Prelude.{◌≡◌, ℕ, ◌+◌, ◌<◌, nat_lt, List, Bool, true, false, ◌||◌, Option, Some, None, is_some, is_none, length, slice_index_or, if◌then◌else◌}
 use Rattle.std.specs.List.{All}
 use Rattle.scm_paths.specs.declared.names.PathFault.{PathFault}
 use Rattle.scm_paths.specs.Names.{fault_of}
@@ -20,14 +20,13 @@ use Rattle.scm_decide.specs.Merge.{AreMerged}
 use Rattle.scm_decide.specs.Find.{IsRowFor}
 use Rattle.scm_decide.specs.Renames.{IsRename, is_one}
 
--- what is wrong with a path, if no file is there now
-abbrev pub fault_if : List ℕ → Option Version → Option PathFault
-fault_if path None = fault_of path
-fault_if path (Some v) = None
+-- whether the path of a row may get another version: no file is there now, or it is that of one of `count` shown files
+abbrev pub may_change : ℕ → Row → Bool
+may_change count r = is_none r.current || nat_lt r.file count
 
--- what is wrong with the path of a row, if it would come
-abbrev pub row_fault : Row → Option PathFault
-row_fault r = fault_if r.path.now r.current
+-- what is wrong with the path of a row, if it may get another version
+abbrev pub row_fault : ℕ → Row → Option PathFault
+row_fault count r = if may_change count r then fault_of r.path.now else None
 
 abbrev pub outcome_path : Outcome → List ℕ
 outcome_path o = o.path.now
@@ -58,8 +57,8 @@ pub record IsMoved (rows : List Row) (m : Moved) : Type 0 where
 pub record IsDecision (count : ℕ) (old new : List Entry) (marks : List Mark) (moved : List Moved) (d : Decision) : Type 0 where
   pub rows : AreMerged count old new marks d.rows.items
   pub fits : AreRows (count + 1) d.rows.items
-  -- each path that would come names a file below the top folder
-  pub paths : All (λ (r : Row). row_fault r ≡ None) d.rows.items
+  -- each path that would come, and each shown one, names a file below the top folder
+  pub paths : All (λ (r : Row). row_fault count r ≡ None) d.rows.items
   pub renames : All (λ (m : Moved). IsMoved d.rows.items m) moved
   -- the files that are left out are the least that have to be, each with its reason
   pub refused : AreRefusals (count + 1) d.rows.items d.refused.items

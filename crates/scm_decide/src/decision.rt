@@ -5,7 +5,7 @@ ghost use Rattle.scm_tree.specs.declared.row.Row.{Row};
 ghost use Rattle.scm_tree.specs.Rows.{AreInOrder, AreRows};
 ghost use Rattle.scm_decide.specs.declared.decision.DecideError.TheVariants.{OutOfMemory};
 ghost use Rattle.scm_decide.specs.declared.decision.Moved.{Moved};
-ghost use Rattle.scm_decide.specs.Decisions.{AreOutcomes, IsDecision, IsMoved, IsOutcome, IsPromise, row_fault};
+ghost use Rattle.scm_decide.specs.Decisions.{AreOutcomes, IsDecision, IsMoved, IsOutcome, IsPromise, may_change, row_fault};
 ghost use Rattle.scm_decide.specs.DecideFaults.{IsDecideFault, IsMovedReason, IsPathReason, IsTreesReason, PathsFit, decide_error};
 
 use crate::find::row_number;
@@ -61,7 +61,7 @@ pub enum DecideError<'a> {
     /// A mark has this path, and neither tree has it.
     Unknown(&'a [u8]),
 
-    /// This path would come, and names no file below the top folder.
+    /// This path would come or is shown, and names no file below the top folder.
     Path(&'a [u8], PathFault),
 
     /// The rows are none of two trees and a choice.
@@ -102,16 +102,31 @@ impl<'a> From<GatherError<'a>> for DecideError<'a> {
     }
 }
 
-/// Returns whether the path of row `i` would come, and names no file below the top folder.
-fn path_fault_at(rows: &[Row<'_>], i: usize) -> Option<PathFault>
-    requires { i < length rows.now }
-    ensures { (d : Row) → row_fault (slice_index_or rows.now i d) ≡ result }
+/// Returns whether the path of `row` may get another version: no file is there now, or it is that of one of `count` shown
+/// files.
+fn may_change(count: usize, row: &Row<'_>) -> bool
+    ensures { result ≡ may_change count row.now }
 {
-    if rows[i].current.is_some() {
-        None
+    row.current.is_none() | (row.file < count)
+}
+
+/// Returns what is wrong with the path of `row`, if it may get another version.
+fn row_fault(count: usize, row: &Row<'_>) -> Option<PathFault>
+    ensures { result ≡ row_fault count row.now }
+{
+    if may_change(count, row) {
+        path_fault(row.path)
     } else {
-        path_fault(rows[i].path)
+        None
     }
+}
+
+/// Returns what is wrong with the path of row `i`, if it may get another version.
+fn path_fault_at(count: usize, rows: &[Row<'_>], i: usize) -> Option<PathFault>
+    requires { i < length rows.now }
+    ensures { (d : Row) → row_fault count (slice_index_or rows.now i d) ≡ result }
+{
+    row_fault(count, &rows[i])
 }
 
 /// Returns the path of row `i`.
@@ -122,15 +137,15 @@ fn path_at<'a>(rows: &[Row<'a>], i: usize) -> &'a [u8]
     rows[i].path
 }
 
-/// Checks that each path that would come names a file below the top folder.
+/// Checks that each path that would come, or is that of one of `count` shown files, names a file below the top folder.
 ///
 /// # Errors
 /// `Path`: a path, and what is wrong with it.
-fn check_paths<'a>(rows: &[Row<'a>]) -> Result<(), DecideError<'a>>
-    ensures { MatchResult result (λ _. PathsFit rows.now) (IsPathReason rows.now) }
+fn check_paths<'a>(count: usize, rows: &[Row<'a>]) -> Result<(), DecideError<'a>>
+    ensures { MatchResult result (λ _. PathsFit count rows.now) (IsPathReason count rows.now) }
 {
     for i in 0..rows.len() {
-        if let Some(fault) = path_fault_at(rows, i) {
+        if let Some(fault) = path_fault_at(count, rows, i) {
             return Err(DecideError::Path(path_at(rows, i), fault));
         }
     }
@@ -224,7 +239,7 @@ fn check_trees<'a>(count: usize, rows: &[Row<'_>]) -> Result<(), DecideError<'a>
 /// # Errors
 /// - `Twice`: a list has a path twice.
 /// - `Unknown`: a mark has a path that neither tree has.
-/// - `Path`: a path that would come names no file below the top folder.
+/// - `Path`: a path that would come, or that is shown, names no file below the top folder.
 /// - `Rows`: one of the trees is none, or a file's number is too great.
 /// - `Rename`: the paths of a renamed file are not both there, or do not have one file, which is there at one of them
 ///   and asked for at one of them.
@@ -244,7 +259,7 @@ pub fn decide<'a>(
         return Err(DecideError::OutOfMemory);
     };
     let rows = rows_of(alloc, old, new, marks, count)?;
-    check_paths(rows.as_slice())?;
+    check_paths(count, rows.as_slice())?;
     check_trees(files, rows.as_slice())?;
     check_moved(rows.as_slice(), moved)?;
     let refused = refusals(alloc, rows.as_slice(), files)?;

@@ -4,4 +4,4 @@ use Rattle.scm_decide.specs.Decisions.{row_fault}
 use Rattle.scm_decide.proofs.decision.check_paths.Given as goal
 
 abbrev pub invariant-loop-i : goal.invariant-loop-i
-invariant-loop-i l = (k : ℕ) (d : Row) → k < l.i → row_fault (get_or l.rows k d) ≡ None
+invariant-loop-i l = (k : ℕ) (d : Row) → k < l.i → row_fault l.count (get_or l.rows k d) ≡ None
