@@ -164,7 +164,7 @@ module _ (old kept new : FrontPainter) (v : Seen) (accept bytes first second : L
   labels-are e are =
       ap (λ (list : List (Option Screen)). sideways_picture x (shown_style theme anchor (map columns_in slice) l) (symbols_over list (screen_of l))) e
       ∙ same-symbols x (shown_style theme anchor (map columns_in slice) l) (symbols_over rows (screen_of l)) (labelled old.labels l) refl refl
-      (λ row c h k. ap (λ (o : Option Screen). symbol_under (columns_of l.kind) o c (symbol_at (screen_of l).rows row c)) (are row h))
+      (λ row c h k. ap (λ (o : Option Screen). symbol_under o c (symbol_at (screen_of l).rows row c)) (are row h))
 
   -- what the code painted is the picture of the view
   pub paints-view : l ≡ v.front.beneath → w ≡ width_of v → h ≡ rows_shown v.front.beneath → x ≡ offset v.pane v.front.beneath

@@ -38,7 +38,7 @@ module _ (painter : FrontPainter) (v : Seen) (accept : List ℕ) (l : Live) (w h
   session-is le xe te ae se e are =
       ap (λ (list : List (Option Screen)). sideways_picture x (shown_style theme anchor (map columns_in slice) l) (symbols_over list (screen_of l))) e
       ∙ same-symbols x (shown_style theme anchor (map columns_in slice) l) (symbols_over rows (screen_of l)) (labelled painter.labels l) refl refl
-      (λ row c below within. ap (λ (o : Option Screen). symbol_under (columns_of l.kind) o c (symbol_at (screen_of l).rows row c)) (are row below))
+      (λ row c below within. ap (λ (o : Option Screen). symbol_under o c (symbol_at (screen_of l).rows row c)) (are row below))
       ∙ ap (λ (n : ℕ). sideways_picture n (shown_style theme anchor (map columns_in slice) l) (labelled painter.labels l)) xe
       ∙ ap (λ (t : Theme). sideways_picture (offset v.pane v.front.beneath) (shown_style t anchor (map columns_in slice) l) (labelled painter.labels l)) te
       ∙ ap (λ (s : List (Option LineValue)). sideways_picture (offset v.pane v.front.beneath) (shown_style painter.theme anchor (map columns_in s) l) (labelled painter.labels l)) se

@@ -1,4 +1,4 @@
--- Labels of sections: texts that the headers of sections show in place of `Section 1/6`.
+-- Labels of sections: texts that the rows of sections show in place of `Section 1/6` or `File mode set to 100644`.
 use Rattle.std.specs.Prelude.{ℕ, ◌-◌, pos, nat_eq, nat_le, nat_lt, ◌==◌, Bool, not, ◌&&◌, ◌||◌, List, [], ◌∷◌, ◌++◌, length, slice_index_or, slice_set, Option, Some, None, is_some, find, position, if◌then◌else◌}
 use Rattle.std.specs.List.{concat}
 use Rattle.scm_cells.specs.Clusters.{text_width}
@@ -33,35 +33,35 @@ with_label label labels = put_at (position (is_of label.file label.section) labe
 
 -- ---- rows
 
--- whether a column is one of a header's text, on a screen of `width` columns: from behind the checkbox to before the fold box
+-- whether a column is one of a section's title, which ends before column `end`: from behind the checkbox on
 abbrev pub is_title : ℕ → ℕ → Bool
-is_title width column = nat_le 6 column && nat_lt column (width - 3)
+is_title end column = nat_le 6 column && nat_lt column end
 
--- whether a symbol begins where the text of a header begins, and one behind its end
-abbrev pub has_title : Symbols → ℕ → Bool
-has_title s row = is_some (s.at row 6) && is_some (s.at row (s.width - 3))
+-- whether a symbol begins where the title of a row begins, and one at column `end`, if there is such a column
+abbrev pub has_title : Symbols → ℕ → ℕ → Bool
+has_title s row end = is_some (s.at row 6) && (nat_le s.width end || is_some (s.at row end))
 
--- a row with a text in the columns of a header's text, cut off as that is
+-- a row of `end` columns with a text as a title, cut off as that is
 abbrev pub label_screen : ℕ → List ℕ → Screen
-label_screen width text =
-    let cut = put_on (blank_screen width 1) 0 (pos 6) text 6 (width - 3) in
-    if nat_lt (width - 3 - 6) (text_width text) then put_on cut 0 (pos (width - 3 - 1)) ellipsis 6 (width - 3) else cut
+label_screen end text =
+    let cut = put_on (blank_screen end 1) 0 (pos 6) text 6 end in
+    if nat_lt (end - 6) (text_width text) then put_on cut 0 (pos (end - 1)) ellipsis 6 end else cut
 
 -- the row of a label with the text `text`, with replacements for what a screen cannot show; none for an empty text
 abbrev pub label_row : ℕ → Bool → List ℕ → Option Screen
-label_row width has_room text = if (length text == 0) || not has_room then None else Some (label_screen width (concat (line_pieces text)))
+label_row end has_room text = if (length text == 0) || not has_room then None else Some (label_screen end (concat (line_pieces text)))
 
--- the symbol of a column, with a label over the row
-abbrev pub symbol_under : ℕ → Option Screen → ℕ → Option (List ℕ) → Option (List ℕ)
-symbol_under width None column symbol = symbol
-symbol_under width (Some label) column symbol = if is_title width column then symbol_at label.rows 0 column else symbol
+-- the symbol of a column, with a label over the row: a label is as wide as its title ends
+abbrev pub symbol_under : Option Screen → ℕ → Option (List ℕ) → Option (List ℕ)
+symbol_under None column symbol = symbol
+symbol_under (Some label) column symbol = if is_title label.width column then symbol_at label.rows 0 column else symbol
 
 -- the symbols of a screen with labels over its rows
 abbrev pub symbols_with : (ℕ → Option Screen) → Screen → Symbols
 symbols_with label s = record {
   width = s.width;
   height = length s.rows;
-  at = λ row column. symbol_under s.width (label row) column (symbol_at s.rows row column);
+  at = λ row column. symbol_under (label row) column (symbol_at s.rows row column);
 }
 
 -- the symbols of a screen with a list of labels over its rows

@@ -1,13 +1,12 @@
-//! Headers of a session's screen, and the labels that they show.
+//! Rows of a session's screen that name a section, and the labels that they show.
 ghost use Rattle.std.specs.Prelude.{◌≡◌, ℕ, IfErr, IfOk, List, None, Some, false, if◌then◌else◌, length};
 ghost use Rattle.scm_errors.specs.declared.error.RecordError.TheVariants.{OutOfMemory};
 ghost use Rattle.scm_cells.specs.Screen.{Screen};
 ghost use Rattle.scm_cells.specs.Symbols.{symbol_at};
-ghost use Rattle.scm_record.specs.Frames.{columns_of};
 ghost use Rattle.scm_record.specs.Live.{Live};
 ghost use Rattle.scm_record.specs.Painted.{screen_of};
 ghost use Rattle.scm_front_paint.specs.declared.labels.Label.{Label};
-ghost use Rattle.scm_front_paint.specs.Headers.{AreRows, IsLabelledHeader, folded_by, header_on, label_on, labelled, section_of_key, text_of_header};
+ghost use Rattle.scm_front_paint.specs.Headers.{AreRows, IsLabelledHeader, folded_by, header_on, label_on, labelled, last_owner, section_of_key, text_of_header, title_end, toggled_by};
 ghost use Rattle.scm_front_paint.specs.Labels.{is_of, is_title, text_of, with_label};
 
 use crate::labels::{Label, label_grid, text_of};
@@ -53,16 +52,62 @@ fn folded_by(id: Option<ComponentId>) -> Option<SectionKey>
     }
 }
 
-/// Returns the section whose header is on row `row` of the screen of `session`, if it is one and nothing
-/// lies over the rows.
+/// Returns the section that the component `id` toggles, if it is the checkbox of one.
+fn toggled_by(id: Option<ComponentId>) -> Option<SectionKey>
+    ensures { result ≡ toggled_by id }
+{
+    match id {
+        Some(ComponentId::ToggleBox(key)) => section_of_key(key),
+        None
+        | Some(ComponentId::App)
+        | Some(ComponentId::AppFiles)
+        | Some(ComponentId::CommitMessageView)
+        | Some(ComponentId::CommitEditMessageButton(_))
+        | Some(ComponentId::MenuBar)
+        | Some(ComponentId::MenuHeader)
+        | Some(ComponentId::Menu(_))
+        | Some(ComponentId::MenuItem(_))
+        | Some(ComponentId::FileViewHeader(_))
+        | Some(ComponentId::SelectableItem(_))
+        | Some(ComponentId::ExpandBox(_))
+        | Some(ComponentId::HelpDialog)
+        | Some(ComponentId::HelpDialogQuitButton)
+        | Some(ComponentId::QuitDialog)
+        | Some(ComponentId::QuitDialogButton(_)) => None,
+    }
+}
+
+/// Returns the section that a click at the end of row `row` of the screen of `session` folds, if it does.
+fn folded_on(session: &LiveSession<'_>, row: usize) -> Option<SectionKey>
+    ensures { result ≡ folded_by (last_owner session.now row) }
+{
+    let column = session.grid().width().saturating_sub(1);
+    folded_by(session.owner(row, column))
+}
+
+/// Returns the section that row `row` of the screen of `session` names, if it names one and nothing lies
+/// over the rows.
 fn header_on(session: &LiveSession<'_>, row: usize) -> Option<SectionKey>
     ensures { result ≡ header_on session.now row }
 {
-    let column = session.grid().width().saturating_sub(1);
     if is_bare(session) {
-        folded_by(session.owner(row, column))
+        let folded = folded_on(session, row);
+        let toggled = toggled_by(session.owner(row, 2));
+        folded.or(toggled)
     } else {
         None
+    }
+}
+
+/// Returns the column before which the title of a section ends on row `row` of the screen of `session`.
+fn title_end(session: &LiveSession<'_>, row: usize) -> u16
+    ensures { result ≡ title_end session.now row }
+{
+    let width = session.grid().width() as u16;
+    if folded_on(session, row).is_some() {
+        width.saturating_sub(3)
+    } else {
+        width
     }
 }
 
@@ -76,8 +121,8 @@ fn text_of_header(labels: &[Label], section: Option<SectionKey>) -> &str
     }
 }
 
-/// Returns the row of the label that row `row` of the screen of `session` shows, if it is the header of a
-/// section that has one.
+/// Returns the row of the label that row `row` of the screen of `session` shows, if it names a section that
+/// has one.
 fn label_on(
     alloc: Global,
     labels: &[Label],
@@ -88,12 +133,12 @@ fn label_on(
     ensures err { IfErr result (λ e. e ≡ OutOfMemory) }
 {
     let text = text_of_header(labels, header_on(session, row));
-    let grid = session.grid();
-    if text.is_empty() || !has_title(grid, row) {
+    let end = title_end(session, row);
+    if text.is_empty() || !has_title(session.grid(), row, end as usize) {
         return Ok(None);
     }
     let shown = with_replacements(alloc, text)?;
-    let label = label_grid(alloc, grid.width() as u16, shown.as_str())?;
+    let label = label_grid(alloc, end, shown.as_str())?;
     Ok(Some(label))
 }
 
@@ -116,12 +161,13 @@ pub(crate) fn label_rows(
     Ok(rows)
 }
 
-/// Proves that labels change the texts of headers alone.
+/// Proves that labels change the titles of sections alone.
 ///
-/// A row that shows a label is the header of a section that has one: a click at its end folds that section.
-/// The symbols of all other rows, and of all other columns of the row, are those of the session's screen. So
-/// checkboxes and fold boxes keep their columns. A label is no part of a session: who owns a place, and what
-/// a click there does, is as without labels.
+/// A row that shows a label names a section that has one. If it is a header, a click at its end folds that
+/// section, and the label ends before the fold box. If it is the row of a mode or of binary contents, a click
+/// on its checkbox toggles that section. The symbols of all other rows, and of all other columns of the row,
+/// are those of the session's screen. So checkboxes and fold boxes keep their columns. A label is no part of a
+/// session: who owns a place, and what a click there does, is as without labels.
 ///
 /// This is a law: the function does nothing, and is there for its contract.
 pub fn labels_change_headers_alone()
@@ -131,7 +177,7 @@ pub fn labels_change_headers_alone()
     ensures rows { (labels : List Label) (l : Live) (row c : ℕ) → label_on labels l row ≡ None
         → (labelled labels l).at row c ≡ symbol_at (screen_of l).rows row c }
     ensures columns { (labels : List Label) (l : Live) (row c : ℕ)
-        → is_title (columns_of l.kind) c ≡ false
+        → is_title (title_end l row) c ≡ false
         → (labelled labels l).at row c ≡ symbol_at (screen_of l).rows row c }
     ensures headers { (labels : List Label) (l : Live) (row : ℕ) (label : Screen)
         → label_on labels l row ≡ Some label → IsLabelledHeader labels l row label }

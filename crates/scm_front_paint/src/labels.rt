@@ -1,4 +1,4 @@
-//! Labels of sections: texts that the headers of sections show in place of their numbers.
+//! Labels of sections: texts that the rows of sections show in place of their own.
 ghost use Rattle.std.specs.Prelude.{◌≡◌, IfErr, IfOk, OnErr, OnOk, position};
 ghost use Rattle.scm_errors.specs.declared.error.RecordError.TheVariants.{OutOfMemory};
 ghost use Rattle.scm_front_paint.specs.Labels.{is_of, label_screen, text_of, with_label};
@@ -15,7 +15,7 @@ pub struct Label {
     pub file: usize,
     /// The index of the section in the file.
     pub section: usize,
-    /// What the header of the section shows in place of its number. Nothing else is shown in place of an empty
+    /// What the row of the section shows in place of its own text. Nothing else is shown in place of an empty
     /// text: the section has no label then.
     pub text: OwnedText,
 }
@@ -71,17 +71,17 @@ pub(crate) fn text_of(labels: &[Label], file: usize, section: usize) -> &str
     ""
 }
 
-/// Returns a row of `width` columns with `text` in the columns of a header's text, cut off as that is.
-pub(crate) fn label_grid(alloc: Global, width: u16, text: &str) -> Result<Grid, RecordError>
-    ensures ok { IfOk result (λ grid. grid ≡ label_screen width text.now) }
+/// Returns a row of `end` columns with `text` as the title of a section, cut off as that is.
+pub(crate) fn label_grid(alloc: Global, end: u16, text: &str) -> Result<Grid, RecordError>
+    ensures ok { IfOk result (λ grid. grid ≡ label_screen end text.now) }
     ensures err { IfErr result (λ e. e ≡ OutOfMemory) }
 {
-    let end = (width as usize).saturating_sub(3);
-    let mut grid = Grid::new(alloc, width, 1)?;
-    grid.put(0, 6, text, 6, end)?;
-    if end.saturating_sub(6) < text_width(text) {
-        let last = 0_isize.strict_add_unsigned(end.saturating_sub(1));
-        grid.put(0, last, "…", 6, end)?;
+    let high = end as usize;
+    let mut grid = Grid::new(alloc, end, 1)?;
+    grid.put(0, 6, text, 6, high)?;
+    if high.saturating_sub(6) < text_width(text) {
+        let last = 0_isize.strict_add_unsigned(high.saturating_sub(1));
+        grid.put(0, last, "…", 6, high)?;
     }
     Ok(grid)
 }

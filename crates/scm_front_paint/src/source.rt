@@ -1,4 +1,4 @@
-//! What a terminal shows of a session's screen: its symbols, with labels over its headers.
+//! What a terminal shows of a session's screen: its symbols, with labels over its rows.
 ghost use Rattle.std.specs.Prelude.{◌≡◌, None, option_map, slice_index_or};
 ghost use Rattle.scm_cells.specs.Screen.{IsScreen};
 ghost use Rattle.scm_front_paint.specs.Labels.{has_title, is_title, symbol_under};
@@ -16,20 +16,23 @@ pub(crate) struct Source<'a> {
     pub(crate) labels: &'a [Option<Grid>],
 }
 
-/// Returns whether `column` is one of a header's text, on a screen of `width` columns.
-fn is_title(width: usize, column: usize) -> bool
-    ensures { result ≡ is_title width column }
+/// Returns whether `column` is one of a section's title, which ends before column `end`.
+fn is_title(end: usize, column: usize) -> bool
+    ensures { result ≡ is_title end column }
 {
-    6 <= column && column < width.saturating_sub(3)
+    6 <= column && column < end
 }
 
-/// Returns whether symbols of row `row` of `grid` begin where the text of a header begins, and behind its
-/// end.
-pub(crate) fn has_title(grid: &Grid, row: usize) -> bool
-    ensures { result ≡ has_title (symbols_of grid.now) row }
+/// Returns whether a symbol of row `row` of `grid` begins where the title of a section begins, and one at
+/// column `end`, if there is such a column.
+pub(crate) fn has_title(grid: &Grid, row: usize, end: usize) -> bool
+    ensures { result ≡ has_title (symbols_of grid.now) row end }
 {
-    let end = grid.width().saturating_sub(3);
-    grid.symbol(row, 6).is_some() && grid.symbol(row, end).is_some()
+    let is_last = grid.width() <= end;
+    let has_first = grid.symbol(row, 6).is_some();
+    let has_next = grid.symbol(row, end).is_some();
+    // `&` and `|`: one branch for the prover
+    has_first & (is_last | has_next)
 }
 
 /// Returns the row of the label on row `row`, if there is one.
@@ -64,7 +67,7 @@ impl<'a> Source<'a> {
         ensures { option_map (λ s. s.now) result ≡ (symbols_in self.now).at row column }
     {
         match label_at(self.labels, row) {
-            Some(label) if is_title(self.grid.width(), column) => label.symbol(0, column),
+            Some(label) if is_title(label.width(), column) => label.symbol(0, column),
             Some(_) | None => self.grid.symbol(row, column),
         }
     }

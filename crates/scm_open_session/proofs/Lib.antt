@@ -4,7 +4,7 @@ pub mod LayeredLemmas
 pub mod StageLemmas
 -- return codes, and the texts that calls write
 pub mod ResultLemmas
--- what `scm_paint` writes
+-- what `gabro_paint` writes
 pub mod PaintLemmas
 -- states that grow by calls
 pub mod BuildLemmas

@@ -6,7 +6,7 @@ use Rattle.scm_c_values.specs.Codes.{done_code}
 use Rattle.scm_open_session.specs.LayerCalls.{is_view}
 use Rattle.scm_open_session.specs.Logging.{IsScriptAt, IsLogCode, IsLoggedCode, IsUnloggedCode, WritesScript}
 
--- the codes of `scm_log`
+-- the codes of `gabro_log`
 begun-code : (b : Bool) (inner : OpenSession) → (IsTrue b → IsTrue (is_view inner.stage)) → IsLogCode (Some inner) (done_code b)
 begun-code true inner view = IsLogCode.log_begun (view refl)
 begun-code false inner view = IsLogCode.log_late
@@ -19,7 +19,7 @@ log-code old h before is_done code e f is view =
 pub log-closed : (old : Option OpenSession) → old ≡ None → IsLogCode old 1
 log-closed old e = rw e IsLogCode.log_closed
 
--- the codes of `scm_logged`
+-- the codes of `gabro_logged`
 pub logged-done : (old : Option OpenSession) (h : OpenSession) → old ≡ Some h → IsLoggedCode old 0
 logged-done old h e = rw e IsLoggedCode.logged_done
 
@@ -29,7 +29,7 @@ logged-not old h code e not = rw e (IsLoggedCode.logged_not not)
 pub logged-closed : (old : Option OpenSession) → old ≡ None → IsLoggedCode old 1
 logged-closed old e = rw e IsLoggedCode.logged_closed
 
--- what `scm_logged` writes
+-- what `gabro_logged` writes
 pub writes-script : (old : Option OpenSession) (h before : OpenSession) (text out new : List ℕ) (answer : ℕ) → old ≡ Some h → before ≡ h
     → IsScriptAt before.stage text → answer ≡ length text → new ≡ over text out → WritesScript old out new answer
 writes-script old h before text out new answer e f is l w =

@@ -1,4 +1,4 @@
--- What `scm_paint` writes.
+-- What `gabro_paint` writes.
 use Rattle.std.proofs.Common.{◌≡◌, ℕ, ◌≤◌, ◌<◌, List, length, Option, Some, None, Result, Ok, Err, ok_or, IfSome, IfNone, sym, ◌∙◌, subst}
 use Rattle.std.specs.Result.{result_map_both}
 use Rattle.scm_record.specs.Live.{Live}

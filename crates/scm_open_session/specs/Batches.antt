@@ -17,7 +17,7 @@ use Rattle.scm_open_session.specs.Results.{code_of_call}
 
 -- ---- codes
 
--- The code of `scm_press_all` for the events of its words, if each has one.
+-- The code of `gabro_press_all` for the events of its words, if each has one.
 abbrev pub code_of_batch : Option (List Event) → Option OpenSession → ℕ
 code_of_batch None inner = 3
 code_of_batch (Some events) inner = code_of_call inner

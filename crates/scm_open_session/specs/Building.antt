@@ -63,7 +63,7 @@ is_building (Editing a) = false
 is_building (Accepted state) = false
 is_building (Ended error) = false
 
--- The stage and the code of `scm_begin`: the session waits for its first event, the state passes a limit and stays, or an
+-- The stage and the code of `gabro_begin`: the session waits for its first event, the state passes a limit and stays, or an
 -- allocation failed and the session has ended.
 pub data Starts (kind : TerminalKind) : Stage → Stage → ℕ → Type 0 where
   started : {state : RecordState} → IsTrue (is_accepted_state state)
@@ -72,7 +72,7 @@ pub data Starts (kind : TerminalKind) : Stage → Stage → ℕ → Type 0 where
   no_memory : {state : RecordState} → IsTrue (is_accepted_state state) → Starts kind (Building state) (Ended OutOfMemory) 8
   not_building : {stage : Stage} → is_building stage ≡ false → Starts kind stage stage 2
 
--- `scm_begin` on a session, with its code.
+-- `gabro_begin` on a session, with its code.
 pub data StartsSession (kind : TerminalKind) : Option OpenSession → Option OpenSession → ℕ → Type 0 where
   closed : StartsSession kind None None 1
   open_one : {old new : OpenSession} {code : ℕ} → Starts kind old.stage new.stage code → new.decoder ≡ old.decoder

@@ -1,4 +1,4 @@
--- The screen of a session as cells, as `scm_cells` tells it.
+-- The screen of a session as cells, as `gabro_cells` tells it.
 use Rattle.std.specs.Prelude.{◌≡◌, ℕ, List, length, false, string_bytes, Option, Some, None, Result, Ok, Err}
 use Rattle.scm_record.specs.Frames.{columns_of, scene_of}
 use Rattle.scm_record.specs.Live.{Live}
@@ -17,7 +17,7 @@ use Rattle.scm_open_session.specs.declared.running.Running.TheVariants as runnin
 use Rattle.scm_open_session.specs.Stages.{is_waiting}
 use Rattle.scm_c_values.specs.Buffers.{over}
 
--- The cells of a session without a layer: those of the picture that `scm_paint` brings a terminal to.
+-- The cells of a session without a layer: those of the picture that `gabro_paint` brings a terminal to.
 pub record PlainCells (l : Live) (screen : ShownScreen) : Type 0 where
   pub cells : AreOf (picture_of l) screen.list
   pub columns : screen.columns ≡ columns_of l.kind
@@ -47,7 +47,7 @@ pub record TellsScreen (screen : ShownScreen) (cells cells_new : List Cell) (out
   pub rows_told : told.rows ≡ screen.rows
   pub length_told : told.len ≡ length (string_bytes screen.list.text)
 
--- `scm_cells` on a session: the buffers, what it tells, and the code. A call that fails writes nothing.
+-- `gabro_cells` on a session: the buffers, what it tells, and the code. A call that fails writes nothing.
 pub data TellsCells (inner : Option OpenSession) : List Cell → List Cell → List ℕ → List ℕ → ScreenInfo → ScreenInfo → ℕ → Type 0 where
   told : {screen : ShownScreen} {cells cells_new : List Cell} {out out_new : List ℕ} {info info_new : ScreenInfo}
       → SessionCells inner (Ok screen) → TellsScreen screen cells cells_new out out_new info_new

@@ -42,7 +42,7 @@ pub record IsNewView (state : RecordState) (width height : ℕ) (v : Seen) : Typ
   pub shown : IsFitted v.pane front v.front
   pub pane : v.pane ≡ record { x = 0; width = width; height = height }
 
--- The stage and the code of `scm_begin_layer`: as those of `scm_begin`, with a view.
+-- The stage and the code of `gabro_begin_layer`: as those of `gabro_begin`, with a view.
 pub data StartsView (width height : ℕ) : Stage → Stage → ℕ → Type 0 where
   started : {state : RecordState} {v : Seen} → IsTrue (is_accepted_state state)
       → IsNewView state (min width 1000) (min height 1000) v
@@ -51,7 +51,7 @@ pub data StartsView (width height : ℕ) : Stage → Stage → ℕ → Type 0 wh
   no_memory : {state : RecordState} → IsTrue (is_accepted_state state) → StartsView width height (Building state) (Ended OutOfMemory) 8
   not_building : {stage : Stage} → is_building stage ≡ false → StartsView width height stage stage 2
 
--- `scm_begin_layer` on a session, with its code.
+-- `gabro_begin_layer` on a session, with its code.
 pub data StartsLayer (width height : ℕ) : Option OpenSession → Option OpenSession → ℕ → Type 0 where
   closed : StartsLayer width height None None 1
   open_one : {old new : OpenSession} {code : ℕ} → StartsView width height old.stage new.stage code → new.decoder ≡ old.decoder

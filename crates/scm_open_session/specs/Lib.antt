@@ -18,7 +18,7 @@ pub mod Building
 pub mod Questions
 -- typing up to a key that the key table lacks
 pub mod FrontKeys
--- what `scm_paint` writes
+-- what `gabro_paint` writes
 pub mod Paint
 -- the screen as cells
 pub mod Cells
@@ -34,6 +34,8 @@ pub mod OwnKeys
 pub mod Logging
 -- the marks of a file of a state that is made
 pub mod Marking
+-- the dialog that a session shows
+pub mod Dialogs
 -- the selection of an item by a call
 pub mod Selecting
 -- the calls of a program, one after another, and what they come to

@@ -81,7 +81,7 @@ IsScriptAt stage text = (log : CallLog) × HasLogAt stage log × (text ≡ scrip
 
 -- ---- the calls
 
--- The codes of `scm_log`. It is done only if the session waits with a layer.
+-- The codes of `gabro_log`. It is done only if the session waits with a layer.
 pub data IsLogCode : Option OpenSession → ℕ → Type 0 where
   log_closed : IsLogCode None 1
   log_begun : {inner : OpenSession} → IsTrue (is_view inner.stage) → IsLogCode (Some inner) 0
@@ -92,13 +92,13 @@ pub data IsUnloggedCode : ℕ → Type 0 where
   unlogged : IsUnloggedCode 2
   forgotten : IsUnloggedCode 8
 
--- The codes of `scm_logged`.
+-- The codes of `gabro_logged`.
 pub data IsLoggedCode : Option OpenSession → ℕ → Type 0 where
   logged_closed : IsLoggedCode None 1
   logged_done : {inner : OpenSession} → IsLoggedCode (Some inner) 0
   logged_not : {inner : OpenSession} {code : ℕ} → IsUnloggedCode code → IsLoggedCode (Some inner) code
 
--- `scm_logged` writes the script of the calls that lead to the session over the buffer, and tells its whole length.
+-- `gabro_logged` writes the script of the calls that lead to the session over the buffer, and tells its whole length.
 pub record WritesScriptOf (inner : OpenSession) (old new : List ℕ) (told : ℕ) : Type 0 where
   pub text : List ℕ
   pub is_script : IsScriptAt inner.stage text

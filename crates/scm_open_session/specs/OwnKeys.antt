@@ -92,7 +92,7 @@ pub data SetsKeys (keys : List OwnKey) : Stage → Stage → Type 0 where
   keys_set : {v : Seen} → SetsKeys keys (Waiting (running.Layered v))
       (Waiting (running.Layered (record v { front = record v.front { kept = record v.front.kept { keys = keys } } })))
 
--- The code of `scm_keys`, where the text names these keys, if any.
+-- The code of `gabro_keys`, where the text names these keys, if any.
 abbrev pub code_of_keys : Option (List OwnKey) → Option OpenSession → ℕ
 code_of_keys None inner = 11
 code_of_keys (Some keys) inner = code_where is_view inner

@@ -1,4 +1,4 @@
--- What `scm_paint` writes: synchronized updates for the terminal.
+-- What `gabro_paint` writes: synchronized updates for the terminal.
 use Rattle.std.specs.Prelude.{◌≡◌, ℕ, ◌≤◌, ◌<◌, List, length, false, Option, Some, None, Result, Ok, Err}
 use Rattle.scm_view_state.specs.Styles.{plain}
 use Rattle.scm_record.specs.Live.{Live}
@@ -66,13 +66,13 @@ pub data Fills (inner : OpenSession) : OpenSession → List ℕ → List ℕ →
   written : {update out : List ℕ} → length update ≤ length out → Fills inner inner update out (over update out)
   no_room : {new : OpenSession} {update out : List ℕ} → length out < length update → ForgetsOpen inner new → Fills inner new update out out
 
--- `scm_paint` on an open session: the session, the buffer, and the length of the update or the code of the failure.
+-- `gabro_paint` on an open session: the session, the buffer, and the length of the update or the code of the failure.
 pub data PaintsOpenSession (old : OpenSession) : OpenSession → List ℕ → List ℕ → Result ℕ ℕ → Type 0 where
   painted : {inner new : OpenSession} {update out filled : List ℕ} → Updates old inner (Ok update)
       → Fills inner new update out filled → PaintsOpenSession old new out filled (Ok (length update))
   unpainted : {new : OpenSession} {out : List ℕ} {code : ℕ} → Updates old new (Err code) → PaintsOpenSession old new out out (Err code)
 
--- `scm_paint` on a session: the session, the buffer, the code, and the length that it tells. A call that fails tells none.
+-- `gabro_paint` on a session: the session, the buffer, the code, and the length that it tells. A call that fails tells none.
 pub data PaintsSession : Option OpenSession → Option OpenSession → List ℕ → List ℕ → ℕ → ℕ → ℕ → Type 0 where
   closed : {out : List ℕ} {told : ℕ} → PaintsSession None None out out 1 told told
   painted : {old new : OpenSession} {out filled : List ℕ} {told count : ℕ} → PaintsOpenSession old new out filled (Ok count)
@@ -80,7 +80,7 @@ pub data PaintsSession : Option OpenSession → Option OpenSession → List ℕ 
   unpainted : {old new : OpenSession} {out filled : List ℕ} {told code : ℕ} → PaintsOpenSession old new out filled (Err code)
       → PaintsSession (Some old) (Some new) out filled code told told
 
--- After `scm_repaint` nothing counts as painted, so the next update has every row.
+-- After `gabro_repaint` nothing counts as painted, so the next update has every row.
 pub data Forgets : Option OpenSession → Option OpenSession → Type 0 where
   closed : Forgets None None
   open_one : {old new : OpenSession} → ForgetsOpen old new → Forgets (Some old) (Some new)

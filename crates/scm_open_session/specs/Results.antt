@@ -36,12 +36,12 @@ abbrev pub is_session_waiting : Option OpenSession → Bool
 is_session_waiting None = false
 is_session_waiting (Some inner) = is_waiting inner.stage
 
--- The code of `scm_press` for the event of a word, if any.
+-- The code of `gabro_press` for the event of a word, if any.
 abbrev pub code_of_press : Option Event → Option OpenSession → ℕ
 code_of_press None inner = 3
 code_of_press (Some event) inner = code_of_call inner
 
--- The code of `scm_answer`, which needs a session that waits for a message.
+-- The code of `gabro_answer`, which needs a session that waits for a message.
 abbrev pub code_of_answer : List ℕ → Option OpenSession → ℕ
 code_of_answer text inner = code_of_message text (code_where is_editing inner)
 
@@ -76,11 +76,11 @@ IsText (Editing a) text = text ≡ unwrap_or (message_of (edit_of a).session (ed
 IsText (Accepted state) text = ⊤
 IsText (Ended error) text = text ≡ sentence_of error
 
--- The text that `scm_text` reads: that of the stage of an open session.
+-- The text that `gabro_text` reads: that of the stage of an open session.
 pub data IsRead : Option OpenSession → List ℕ → Type 0 where
   of_stage : {inner : OpenSession} {bytes : List ℕ} → IsText inner.stage bytes → IsRead (Some inner) bytes
 
--- `scm_text` writes the text that it reads over the buffer, and tells its whole length.
+-- `gabro_text` writes the text that it reads over the buffer, and tells its whole length.
 pub record Writes (inner : Option OpenSession) (old new : List ℕ) (told : ℕ) : Type 0 where
   -- the text
   pub text : List ℕ

@@ -31,23 +31,23 @@ turn_at (Ended error) = None
 
 -- A call of a program changes the stage, as its contract says.
 pub data Step (old new : Stage) : Type 0 where
-  -- `scm_press`, `scm_click`
+  -- `gabro_press`, `gabro_click`
   pressed : (event : Event) → Presses event old new → Step old new
-  -- `scm_press_all`
+  -- `gabro_press_all`
   pressed_all : (events : List Event) → PressesAll events old new → Step old new
-  -- `scm_type`, `scm_type_to_key`
+  -- `gabro_type`, `gabro_type_to_key`
   typed : (bytes : List ℕ) (heard hears : Decoder) → Types bytes heard hears old new → Step old new
-  -- `scm_idle`
+  -- `gabro_idle`
   silent : (heard hears : Decoder) → Idles heard hears old new → Step old new
-  -- `scm_answer`
+  -- `gabro_answer`
   answered : (text : List ℕ) → Says text old new → Step old new
-  -- `scm_resize`
+  -- `gabro_resize`
   resized : (kind : TerminalKind) → Resizes kind old new → Step old new
-  -- `scm_start`
+  -- `gabro_start`
   started : (folds : Folds) (first : SelectionKey) → SetsStart folds first old new → Step old new
-  -- `scm_select`
+  -- `gabro_select`
   selected : (key : SelectionKey) → Selects key old new → Step old new
-  -- `scm_keys`
+  -- `gabro_keys`
   own_keys : (keys : List OwnKey) → SetsKeys keys old new → Step old new
 
 -- Calls of a program lead from stage to stage. A call that changes no stage is left out.

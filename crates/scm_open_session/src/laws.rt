@@ -28,13 +28,13 @@ use scm_record::live::sessions_are_runs;
 ///
 /// This is a law: the function does nothing, and is there for its contract.
 pub fn calls_are_runs()
-    // a session begins at the start of its state: `scm_new`, `scm_begin`
+    // a session begins at the start of its state: `gabro_new`, `gabro_begin`
     ensures new { (json : List ℕ) (width height : ℕ) (inner : Open)
         (h : Begins json width height inner)
         → HasCome h.given (screen_of width height) inner.stage }
     ensures begin { (kind : TerminalKind) (given : RecordState) (stage : Stage)
         → Starts kind (Building given) stage 0 → HasCome given kind stage }
-    // with a layer, on a screen with a row less: `scm_new_layer`, `scm_begin_layer`
+    // with a layer, on a screen with a row less: `gabro_new_layer`, `gabro_begin_layer`
     ensures new_layer { (json : List ℕ) (width height : ℕ) (inner : Open)
         (h : BeginsLayer json width height inner)
         → HasCome h.given (Testing (min width 1000) (min height 1000 - 1)) inner.stage }

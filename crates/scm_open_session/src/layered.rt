@@ -147,7 +147,7 @@ impl OpenSession {
     /// columns and `height` rows.
     ///
     /// # Errors
-    /// The code of the failure, as `scm_new` returns it.
+    /// The code of the failure, as `gabro_new` returns it.
     pub fn layered(
         alloc: Global,
         json: &[u8],

@@ -229,7 +229,7 @@ impl OpenSession {
     /// and `height` rows.
     ///
     /// # Errors
-    /// The code of the failure, as `scm_new` returns it.
+    /// The code of the failure, as `gabro_new` returns it.
     pub fn new(alloc: Global, json: &[u8], width: u16, height: u16) -> Result<Box<OpenSession>, u32>
         ensures ok { IfOk result (λ inner. Begins json.now width height inner.value) }
         ensures good { IfOk result (λ inner. code_of_json json.now ≡ 0) }

@@ -15,6 +15,9 @@ type Marked = (
     &'static str,
 );
 
+/// How many signs the markers of git have.
+const USUAL: usize = 7;
+
 const MERGES: &[Marked] = &[
     // an open conflict, and the same one settled
     (
@@ -107,7 +110,7 @@ fn check_markers(rt: &impl Abort, alloc: Global, merge: Marked) -> Result<(), Al
         base: "old",
         theirs: "topic",
     };
-    let bytes = bytes_with_markers(alloc, &file, labels)?;
+    let bytes = bytes_with_markers(alloc, &file, labels, USUAL)?;
     assert!(rt; bytes.as_slice() == merge.4.as_bytes());
     Ok(())
 }
@@ -130,8 +133,57 @@ fn labels_with_a_line_end_are_left_out(rt: HostRuntime) -> Result<(), Fail> {
         base: "",
         theirs: "a\rb",
     };
-    let bytes = bytes_with_markers(alloc, &file, labels)?;
+    let bytes = bytes_with_markers(alloc, &file, labels, USUAL)?;
     let wanted = b"<<<<<<<\nx\n|||||||\nb\n=======\ny\n>>>>>>>\n";
     assert!(rt; bytes.as_slice() == wanted.as_slice());
+    Ok(())
+}
+
+/// A length that is asked for, a line of both sides, and the markers around their last lines.
+type Long = (usize, &'static str, &'static str);
+
+const LENGTHS: &[Long] = &[
+    (7, "a\n", "a\n<<<<<<<\nx\n|||||||\n=======\ny\n>>>>>>>\n"),
+    (
+        10,
+        "a\n",
+        "a\n<<<<<<<<<<\nx\n||||||||||\n==========\ny\n>>>>>>>>>>\n",
+    ),
+    // a line that begins so makes them longer than what is asked for
+    (3, ">>>>\n", ">>>>\n<<<<<\nx\n|||||\n=====\ny\n>>>>>\n"),
+    (1, "a\n", "a\n<\nx\n|\n=\ny\n>\n"),
+    (0, "a\n", "a\n<\nx\n|\n=\ny\n>\n"),
+];
+
+/// Checks the merge with markers of a length.
+fn check_length(rt: &impl Abort, alloc: Global, row: Long) -> Result<(), AllocError> {
+    let mode = FileMode::Unix(0o100644);
+    let mut ours = String::from_str(alloc, row.1)?;
+    ours.push_str("x\n")?;
+    let mut theirs = String::from_str(alloc, row.1)?;
+    theirs.push_str("y\n")?;
+    let file = merged_file(
+        alloc,
+        Text::from("f"),
+        mode,
+        row.1,
+        ours.as_str(),
+        theirs.as_str(),
+    )?;
+    let labels = Labels {
+        ours: "",
+        base: "",
+        theirs: "",
+    };
+    let bytes = bytes_with_markers(alloc, &file, labels, row.0)?;
+    assert!(rt; bytes.as_slice() == row.2.as_bytes());
+    Ok(())
+}
+
+#[test]
+fn markers_have_the_length_that_is_asked_for(rt: HostRuntime) -> Result<(), Fail> {
+    for row in LENGTHS {
+        check_length(&rt, rt.alloc(), *row)?;
+    }
     Ok(())
 }

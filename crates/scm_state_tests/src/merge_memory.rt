@@ -38,10 +38,10 @@ fn refused_memory_keeps_markers(rt: HostRuntime) -> Result<(), RecordError> {
         theirs: "",
     };
     let wanted = b"<<<<<<< main\nx\n|||||||\nb\n=======\ny\n>>>>>>>\n";
-    match bytes_with_markers(alloc, &file, labels) {
+    match bytes_with_markers(alloc, &file, labels, 7) {
         Ok(bytes) => assert!(rt; bytes.as_slice() == wanted.as_slice()),
         Err(_) => {
-            let again = bytes_with_markers(alloc, &file, labels)?;
+            let again = bytes_with_markers(alloc, &file, labels, 7)?;
             assert!(rt; again.as_slice() == wanted.as_slice());
             return Err(RecordError::OutOfMemory);
         }
