@@ -1,13 +1,15 @@
 //! Finds the static library for C, and links it.
 //!
-//! The library is `libscm_c.a`, and beside it is `liblibc_c.a`, which asks the C library for memory. They are in the folder
-//! `GABROSTY_LIB_DIR`; or where pkg-config finds `scm`, which `tools/install` of the repository installs; or in a folder above this
-//! crate: of an installation, or of a clone in which `tools/build-c` has built them.
+//! The library is `libgabrosty.a`, or `libscm_c.a` as a clone builds it, and beside it is `liblibc_c.a`, which asks the C library for
+//! memory. They are in the folder `GABROSTY_LIB_DIR`; or where pkg-config finds `gabrosty`, which `tools/install` of the repository
+//! installs; or in a folder above this crate: of an installation, or of a clone in which `tools/build-c` has built them.
 use std::env;
+use std::os::unix::fs::MetadataExt;
 use std::path::{Path, PathBuf};
 use std::process::Command;
 
-const LIBRARY: &str = "libscm_c.a";
+/// The names of the library: as it is installed, and as a clone builds it.
+const LIBRARIES: [&str; 2] = ["gabrosty", "scm_c"];
 const MEMORY: &str = "liblibc_c.a";
 /// The file that says of an installed library that nothing was proved.
 const UNPROVED: &str = "gabrosty/unproved";
@@ -40,12 +42,12 @@ fn fail(words: &str) -> ! {
 
 /// Links the library in `folder`.
 fn link(folder: &Path) {
-    if !folder.join(LIBRARY).exists() {
+    let name = library_in(folder).unwrap_or_else(|| {
         fail(&format!(
-            "there is no {LIBRARY} in {}: {MISSING}",
+            "there is no libgabrosty.a in {}: {MISSING}",
             folder.display()
-        ));
-    }
+        ))
+    });
     let of_memory = [Some(folder.to_owned()), toolchain_folder()];
     let of_memory = of_memory
         .into_iter()
@@ -53,36 +55,79 @@ fn link(folder: &Path) {
         .find(|place| place.join(MEMORY).exists());
     let of_memory = of_memory.unwrap_or_else(|| {
         fail(&format!(
-            "there is no {MEMORY} in {}, and no toolchain on the path (`rt doc`) that has it. `tools/install PREFIX` puts it beside {LIBRARY}.",
+            "there is no {MEMORY} in {}, and no toolchain on the path (`rt doc`) that has it. `tools/install PREFIX` puts it beside the library.",
             folder.display()
         ))
     });
-    if let Ok(words) = std::fs::read_to_string(folder.join(UNPROVED)) {
-        println!("cargo:warning=gabrosty: {}", words.trim_end());
+    // no words of another user; and each line is a warning: cargo would obey a second line as it is
+    let (said, library) = (folder.join(UNPROVED), file_of(folder, name));
+    if [Some(0), owner_of(&library)].contains(&owner_of(&said)) {
+        for line in words_in(&said).lines() {
+            println!("cargo:warning=gabrosty: {line}");
+        }
     }
-    println!("cargo:rerun-if-changed={}", folder.join(LIBRARY).display());
-    for (place, name) in [(folder, "scm_c"), (&of_memory, "libc_c")] {
+    println!("cargo:rerun-if-changed={}", library.display());
+    for (place, name) in [(folder, name), (&of_memory, "libc_c")] {
         println!("cargo:rustc-link-search=native={}", place.display());
         println!("cargo:rustc-link-lib=static={name}");
     }
 }
 
+/// Returns the text of a file, or nothing if there is none.
+fn words_in(path: &Path) -> String {
+    std::fs::read_to_string(path).unwrap_or_default()
+}
+
+/// Returns the file of a static library in `folder`.
+fn file_of(folder: &Path, name: &str) -> PathBuf {
+    folder.join(format!("lib{name}.a"))
+}
+
+/// Returns the name of the library that is in `folder`.
+fn library_in(folder: &Path) -> Option<&'static str> {
+    LIBRARIES
+        .into_iter()
+        .find(|name| file_of(folder, name).exists())
+}
+
+/// Returns the number of the user who owns a file, a link or a folder, if one is there.
+fn owner_of(path: &Path) -> Option<u32> {
+    std::fs::symlink_metadata(path)
+        .ok()
+        .map(|found| found.uid())
+}
+
+/// Returns whether `place` has a library of the user `owner` or of root, and none of another user: others may put theirs into a folder above
+/// this crate, as into `/tmp`.
+fn has_own_library(place: &Path, owner: Option<u32>) -> bool {
+    let is_of_another =
+        |path: &Path| owner_of(path).map_or(false, |found| found != 0 && Some(found) != owner);
+    let places = |name| [place.to_owned(), file_of(place, name), place.join(MEMORY)];
+    library_in(place).map_or(false, |name| {
+        !places(name).iter().any(|path| is_of_another(path))
+    })
+}
+
 /// Returns the folder of the library: of the installed one, or of one in a folder above this crate.
 fn found_folder() -> Option<PathBuf> {
     let crate_folder = PathBuf::from(env::var_os("CARGO_MANIFEST_DIR")?);
+    let owner = owner_of(&crate_folder);
     let above = crate_folder
         .ancestors()
         .flat_map(|place| [place.join("crates/scm_c/out"), place.to_owned()]);
     installed_folder()
-        .into_iter()
-        .chain(above)
-        .find(|place| place.join(LIBRARY).exists())
+        .filter(|place| library_in(place).is_some())
+        .or_else(|| {
+            above
+                .into_iter()
+                .find(|place| has_own_library(place, owner))
+        })
 }
 
 /// Returns the folder that pkg-config names.
 fn installed_folder() -> Option<PathBuf> {
     let program = env::var_os("PKG_CONFIG").unwrap_or_else(|| "pkg-config".into());
-    answer_of(Command::new(program).args(["--variable=libdir", "scm"])).map(PathBuf::from)
+    answer_of(Command::new(program).args(["--variable=libdir", "gabrosty"])).map(PathBuf::from)
 }
 
 /// Returns the folder of the toolchain that has the functions for memory.

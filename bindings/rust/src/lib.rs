@@ -42,6 +42,7 @@
 //!   the library's own decoder reads what the terminal sends.
 //! - `serde`: states can be written and read, in the form that `scm-record` has.
 //! - `debug`: [`Recorder::run`] writes its state to a file, if [`consts::ENV_VAR_DUMP_UI_STATE`] is set.
+//! - `jj`: [`merges::Versions`] has `jj_sections`, the sections that jj's builtin merge editor makes of a merge.
 #![warn(missing_docs, missing_debug_implementations, unsafe_op_in_unsafe_fn)]
 #![warn(clippy::all, clippy::undocumented_unsafe_blocks)]
 #![warn(clippy::must_use_candidate)]

@@ -1,7 +1,7 @@
 //! The merge of two changed versions of a file: which lines are taken without asking, which are in conflict, and what marks make of them.
 //!
 //! ```
-//! use scm_record::merges::{Labels, MergeVersion, Versions};
+//! use scm_record::merges::{Labels, MergeVersion, Versions, MARKER_LENGTH};
 //!
 //! let versions = Versions {
 //!     base: b"a\nold\nz\n",
@@ -24,11 +24,13 @@
 //! assert_eq!(versions.merged_bytes(&[true, true, false])?, b"a\nours\nz\nmore\n");
 //! let labels = Labels { ours: b"main", ..Labels::default() };
 //! let open = b"a\n<<<<<<< main\nours\n|||||||\nold\n=======\ntheirs\n>>>>>>>\nz\nmore\n";
-//! assert_eq!(versions.marked_bytes(&[false, true, false], &labels)?, open);
+//! assert_eq!(versions.marked_bytes(&[false, true, false], &labels, MARKER_LENGTH)?, open);
 //! # Ok::<(), scm_record::session::Error>(())
 //! ```
 use crate::ffi;
 use crate::session::{bytes_of, done, sized, Error};
+use crate::{ChangeType, Section, SectionChangedLine};
+use std::borrow::Cow;
 
 /// The version that a line of a merge comes from.
 #[derive(Clone, Copy, Debug, Eq, Hash, PartialEq)]
@@ -74,6 +76,9 @@ pub struct Labels<'t> {
     pub theirs: &'t [u8],
 }
 
+/// How many signs the markers of git have.
+pub const MARKER_LENGTH: usize = 7;
+
 /// The bytes of a record before its text: a letter, and a number.
 const HEAD: usize = 9;
 
@@ -94,7 +99,7 @@ impl Versions<'_> {
         let records = bytes_of(2 * self.most_bytes(), |out, room, written| {
             // SAFETY: each version leads to as many bytes, and `out` has room for `room` bytes.
             unsafe {
-                ffi::scm_merge_texts(
+                ffi::gabro_merge_texts(
                     base,
                     base_length,
                     ours,
@@ -108,6 +113,50 @@ impl Versions<'_> {
             }
         })?;
         Ok(lines_in(&records))
+    }
+
+    /// Returns the sections of a file that shows the merge, with nothing taken: context, and of each conflict one section with our lines, one
+    /// with those of the base, and one with theirs. A user takes a version by the mark of its section, and the base by taking that away.
+    /// [`marks_of`] has the marks for [`merged_bytes`](Versions::merged_bytes).
+    ///
+    /// # Errors
+    ///
+    /// Those of [`lines`](Versions::lines).
+    pub fn sections(&self) -> Result<Vec<Section<'static>>, Error> {
+        let mut sections = Vec::new();
+        let mut last = None;
+        for line in self.lines()? {
+            let begins = last != Some(line.version);
+            last = Some(line.version);
+            let is_checked = line.version == MergeVersion::Base;
+            push_line(&mut sections, line, begins, is_checked);
+        }
+        Ok(sections)
+    }
+
+    /// Returns the sections that the builtin merge editor of jj makes of the merge: each conflict is one section, which has our lines as added
+    /// ones, those of the base as removed ones, and theirs as added ones, none of them checked. A version without lines has none there.
+    ///
+    /// As in jj, the selected side of the file is the merge: [`File::get_selected_contents`](crate::File::get_selected_contents) returns it, and
+    /// it has the lines of the base if nothing is checked.
+    ///
+    /// # Errors
+    ///
+    /// [`Error::NotText`]: a version is not UTF-8. [`Error::NoMemory`]: an allocation failed.
+    #[cfg(feature = "jj")]
+    pub fn jj_sections(&self) -> Result<Vec<Section<'static>>, Error> {
+        for version in [self.base, self.ours, self.theirs] {
+            std::str::from_utf8(version).map_err(|_| Error::NotText)?;
+        }
+        let mut sections = Vec::new();
+        for line in self
+            .lines()?
+            .into_iter()
+            .filter(|line| !line.text.is_empty())
+        {
+            push_line(&mut sections, line, false, false);
+        }
+        Ok(sections)
     }
 
     /// Returns the merge by the marks of its items, which are the lines of the conflicts. Ours and theirs are taken if they are marked, and
@@ -124,7 +173,7 @@ impl Versions<'_> {
         bytes_of(self.most_bytes(), |out, room, written| {
             // SAFETY: each version and the marks lead to as many bytes, and `out` has room for `room` bytes.
             unsafe {
-                ffi::scm_merged_bytes(
+                ffi::gabro_merged_bytes(
                     base,
                     base_length,
                     ours,
@@ -142,12 +191,17 @@ impl Versions<'_> {
     }
 
     /// Returns the merge as [`merged_bytes`](Versions::merged_bytes) does, but with git's markers around each conflict that is open, in the
-    /// style `diff3`.
+    /// style `diff3`. A marker has `marker_length` signs, or one more than any line of the file begins with, whichever is greater.
     ///
     /// # Errors
     ///
     /// Those of [`merged_bytes`](Versions::merged_bytes).
-    pub fn marked_bytes(&self, marks: &[bool], labels: &Labels<'_>) -> Result<Vec<u8>, Error> {
+    pub fn marked_bytes(
+        &self,
+        marks: &[bool],
+        labels: &Labels<'_>,
+        marker_length: usize,
+    ) -> Result<Vec<u8>, Error> {
         let ((base, base_length), (ours, our_length)) = (sized(&self.base), sized(&self.ours));
         let (theirs, their_length) = sized(&self.theirs);
         let marks: Vec<u8> = marks.iter().copied().map(u8::from).collect();
@@ -158,7 +212,7 @@ impl Versions<'_> {
         bytes_of(2 * self.most_bytes(), |out, room, written| {
             // SAFETY: each version, the marks and each label lead to as many bytes, and `out` has room for `room` bytes.
             unsafe {
-                ffi::scm_marked_bytes(
+                ffi::gabro_marked_bytes(
                     base,
                     base_length,
                     ours,
@@ -173,6 +227,7 @@ impl Versions<'_> {
                     our_label_length,
                     their_label,
                     their_label_length,
+                    marker_length,
                     out,
                     room,
                     written,
@@ -194,7 +249,7 @@ impl Versions<'_> {
         let mut open = 0;
         // SAFETY: each version and the marks lead to as many bytes.
         done(unsafe {
-            ffi::scm_open_conflicts(
+            ffi::gabro_open_conflicts(
                 base,
                 base_length,
                 ours,
@@ -207,6 +262,52 @@ impl Versions<'_> {
             )
         })?;
         Ok(open)
+    }
+}
+
+/// Returns the marks of the changed lines of sections, in order, for [`Versions::merged_bytes`].
+#[must_use]
+pub fn marks_of(sections: &[Section<'_>]) -> Vec<bool> {
+    let mut marks = Vec::new();
+    for section in sections {
+        if let Section::Changed { lines } = section {
+            marks.extend(lines.iter().map(|line| line.is_checked));
+        }
+    }
+    marks
+}
+
+/// Adds a line to the last section, or to a new one behind it: if `begins` is set, if there is none, or if that is context and the line is not,
+/// or the reverse. Context always goes on.
+fn push_line(
+    sections: &mut Vec<Section<'static>>,
+    line: MergeLine,
+    begins: bool,
+    is_checked: bool,
+) {
+    let change_type = match line.version {
+        MergeVersion::Agreed => None,
+        MergeVersion::Base => Some(ChangeType::Removed),
+        MergeVersion::Ours | MergeVersion::Theirs => Some(ChangeType::Added),
+    };
+    let line = Cow::Owned(line.text);
+    let Some(change_type) = change_type else {
+        match sections.last_mut() {
+            Some(Section::Unchanged { lines }) => lines.push(line),
+            _ => sections.push(Section::Unchanged { lines: vec![line] }),
+        }
+        return;
+    };
+    let changed = SectionChangedLine {
+        is_checked,
+        change_type,
+        line,
+    };
+    match sections.last_mut() {
+        Some(Section::Changed { lines }) if !begins => lines.push(changed),
+        _ => sections.push(Section::Changed {
+            lines: vec![changed],
+        }),
     }
 }
 

@@ -103,7 +103,8 @@ pub(crate) fn failure(error: Error) -> RecordError {
     }
 }
 
-/// Writes `state` to a file, if the variable of the environment asks for it.
+/// Writes `state` to a file, if the variable of the environment asks for it. A link of that name in the current folder, which may be a
+/// stranger's, is replaced.
 #[cfg(feature = "debug")]
 fn write_state_if_asked(state: &RecordState<'_>) -> Result<(), RecordError> {
     use crate::consts::{DUMP_UI_STATE_FILENAME, ENV_VAR_DUMP_UI_STATE};
@@ -111,6 +112,25 @@ fn write_state_if_asked(state: &RecordState<'_>) -> Result<(), RecordError> {
         return Ok(());
     }
     let json = serde_json::to_string_pretty(state).map_err(RecordError::SerializeJson)?;
-    let written = std::fs::write(DUMP_UI_STATE_FILENAME, json);
+    let written = replace_file(DUMP_UI_STATE_FILENAME, &json);
     written.map_err(|error| RecordError::WriteFile(error.into()))
+}
+
+/// Has `text` be the file at `path`: writes a new file beside it, which then takes its place.
+#[cfg(feature = "debug")]
+fn replace_file(path: &str, text: &str) -> std::io::Result<()> {
+    use std::io::Write as _;
+    let beside = format!("{path}.{}", std::process::id());
+    let mut file = std::fs::OpenOptions::new()
+        .write(true)
+        .create_new(true)
+        .open(&beside)?;
+    let written = file
+        .write_all(text.as_bytes())
+        .and_then(|()| std::fs::rename(&beside, path));
+    if written.is_err() {
+        // the error counts, and the file is of no use
+        let _ = std::fs::remove_file(&beside);
+    }
+    written
 }

@@ -1,7 +1,7 @@
 //! A session that a program drives itself, over the library for C: not in `scm-record`.
 //!
 //! A [`Session`] is first over an empty state. Additions make the state, [`begin`](Session::begin) begins the session, and
-//! [`side`](Session::side) returns a side of a file. It is closed when it is dropped. The header `scm.h` says what each call does.
+//! [`side`](Session::side) returns a side of a file. It is closed when it is dropped. The header `gabrosty.h` says what each call does.
 //!
 //! ```
 //! use scm_record::session::{LineKind, Session, Side, SideContents, Stage};
@@ -81,12 +81,21 @@ impl fmt::Display for Error {
         let code = code.map_or(0, |(_, code)| code);
         let mut words = [0; 256];
         // SAFETY: `words` has room for as many bytes as its length says.
-        let length = unsafe { ffi::scm_words(code, words.as_mut_ptr().cast(), words.len()) };
+        let length = unsafe { ffi::gabro_words(code, words.as_mut_ptr().cast(), words.len()) };
         f.write_str(&String::from_utf8_lossy(&words[..length.min(words.len())]))
     }
 }
 
 impl std::error::Error for Error {}
+
+/// A dialog that lies over the screen.
+#[derive(Clone, Copy, Debug, Eq, Hash, PartialEq)]
+pub enum Dialog {
+    /// The question whether to quit.
+    Question,
+    /// The help. The question may be open below it.
+    Help,
+}
 
 /// What a session waits for.
 #[derive(Clone, Copy, Debug, Eq, Hash, PartialEq)]
@@ -322,7 +331,7 @@ pub struct Item {
 #[must_use]
 pub fn version() -> u32 {
     // SAFETY: the call takes nothing.
-    unsafe { ffi::scm_version() }
+    unsafe { ffi::gabro_version() }
 }
 
 /// Returns the error with the code `code`, if that is one.
@@ -419,7 +428,7 @@ unsafe impl Send for Session {}
 impl Drop for Session {
     fn drop(&mut self) {
         // SAFETY: the handle is this session's alone.
-        unsafe { ffi::scm_free(self.at()) }
+        unsafe { ffi::gabro_free(self.at()) }
     }
 }
 
@@ -446,7 +455,7 @@ impl Session {
     /// `NoMemory`.
     pub fn new(is_read_only: bool) -> Result<Session, Error> {
         let session = Session::closed();
-        done(unsafe { ffi::scm_state_new(session.at(), is_read_only) })?;
+        done(unsafe { ffi::gabro_state_new(session.at(), is_read_only) })?;
         Ok(session)
     }
 
@@ -459,7 +468,7 @@ impl Session {
     pub fn of_json(json: &str, width: u16, height: u16) -> Result<Session, Error> {
         let session = Session::closed();
         let (text, length) = sized(json);
-        done(unsafe { ffi::scm_new(session.at(), text, length, width, height) })?;
+        done(unsafe { ffi::gabro_new(session.at(), text, length, width, height) })?;
         Ok(session)
     }
 
@@ -473,8 +482,8 @@ impl Session {
     /// `NoMemory`. A third commit is `NotAccepted`.
     pub fn add_commit(&mut self, message: Option<&str>) -> Result<(), Error> {
         done(match message.map(sized) {
-            Some((text, length)) => unsafe { ffi::scm_state_message(self.at(), text, length) },
-            None => unsafe { ffi::scm_state_commit(self.at()) },
+            Some((text, length)) => unsafe { ffi::gabro_state_message(self.at(), text, length) },
+            None => unsafe { ffi::gabro_state_commit(self.at()) },
         })
     }
 
@@ -492,7 +501,7 @@ impl Session {
         let (old_path, old_length) = sized(old_path.unwrap_or_default());
         let (path, length) = sized(path);
         let mode = bits(mode);
-        done(unsafe { ffi::scm_state_file(self.at(), path, length, old_path, old_length, mode) })
+        done(unsafe { ffi::gabro_state_file(self.at(), path, length, old_path, old_length, mode) })
     }
 
     /// Adds a file by its two versions. The library finds the lines that differ. [`side_bytes`](Session::side_bytes) returns the
@@ -515,7 +524,7 @@ impl Session {
         let (old_mode, new_mode) = (bits(old.mode), bits(new.mode));
         #[rustfmt::skip]
         let code = unsafe {
-            ffi::scm_state_texts(
+            ffi::gabro_state_texts(
                 self.at(), path, length, old_path, old_length,
                 old_bytes, old_size, old_mode, new_bytes, new_size, new_mode,
             )
@@ -529,7 +538,7 @@ impl Session {
     ///
     /// Those of [`add_commit`](Session::add_commit).
     pub fn add_section(&mut self, kind: SectionKind) -> Result<(), Error> {
-        done(unsafe { ffi::scm_state_section(self.at(), kind == SectionKind::Changed) })
+        done(unsafe { ffi::gabro_state_section(self.at(), kind == SectionKind::Changed) })
     }
 
     /// Adds the lines of `text` to the last file. A line ends behind its line feed, and the last one may lack it.
@@ -540,13 +549,13 @@ impl Session {
     pub fn add_lines(&mut self, kind: LineKind, text: &str) -> Result<(), Error> {
         let (text, length) = sized(text);
         done(match kind {
-            LineKind::Context => unsafe { ffi::scm_state_context(self.at(), text, length) },
+            LineKind::Context => unsafe { ffi::gabro_state_context(self.at(), text, length) },
             LineKind::Changed {
                 change_type,
                 is_checked,
             } => {
                 let is_added = change_type == ChangeType::Added;
-                unsafe { ffi::scm_state_changes(self.at(), is_added, is_checked, text, length) }
+                unsafe { ffi::gabro_state_changes(self.at(), is_added, is_checked, text, length) }
             }
         })
     }
@@ -566,7 +575,7 @@ impl Session {
             } => (true, change_type == ChangeType::Added, is_checked),
         };
         done(unsafe {
-            ffi::scm_state_line(self.at(), is_changed, is_added, is_checked, text, length)
+            ffi::gabro_state_line(self.at(), is_changed, is_added, is_checked, text, length)
         })
     }
 
@@ -576,7 +585,7 @@ impl Session {
     ///
     /// Those of [`add_commit`](Session::add_commit).
     pub fn add_mode(&mut self, mode: FileMode, is_checked: bool) -> Result<(), Error> {
-        done(unsafe { ffi::scm_state_mode(self.at(), is_checked, bits(mode)) })
+        done(unsafe { ffi::gabro_state_mode(self.at(), is_checked, bits(mode)) })
     }
 
     /// Adds a section that changes the binary contents of the last file. The texts describe the old and the new contents. An
@@ -594,7 +603,7 @@ impl Session {
         let (old, old_length) = sized(old.unwrap_or_default());
         let (new, new_length) = sized(new.unwrap_or_default());
         done(unsafe {
-            ffi::scm_state_binary(self.at(), is_checked, old, old_length, new, new_length)
+            ffi::gabro_state_binary(self.at(), is_checked, old, old_length, new, new_length)
         })
     }
 
@@ -607,7 +616,7 @@ impl Session {
     pub fn set_marks(&mut self, file: usize, marks: &[bool]) -> Result<(), Error> {
         let bytes: Vec<u8> = marks.iter().map(|mark| u8::from(*mark)).collect();
         let (bytes, count) = sized(&bytes);
-        done(unsafe { ffi::scm_state_marks(self.at(), file, bytes, count) })
+        done(unsafe { ffi::gabro_state_marks(self.at(), file, bytes, count) })
     }
 
     /// Begins the session, on a screen of `width` columns and `height` rows. It has at most [`MAX_COLUMNS`] and [`MAX_ROWS`].
@@ -617,7 +626,7 @@ impl Session {
     /// `NotNow` if the session has begun, `NotAccepted` if the state has too many items, or `NoMemory`: then the session has
     /// ended.
     pub fn begin(&mut self, width: u16, height: u16) -> Result<(), Error> {
-        done(unsafe { ffi::scm_begin(self.at(), width, height) })
+        done(unsafe { ffi::gabro_begin(self.at(), width, height) })
     }
 
     // ---- a layer over the session
@@ -629,7 +638,7 @@ impl Session {
     ///
     /// Those of [`begin`](Session::begin).
     pub fn begin_layer(&mut self, width: u16, height: u16) -> Result<(), Error> {
-        done(unsafe { ffi::scm_begin_layer(self.at(), width, height) })
+        done(unsafe { ffi::gabro_begin_layer(self.at(), width, height) })
     }
 
     /// Returns a session as [`of_json`](Session::of_json) does, with a layer.
@@ -640,7 +649,7 @@ impl Session {
     pub fn layer_of_json(json: &str, width: u16, height: u16) -> Result<Session, Error> {
         let session = Session::closed();
         let (text, length) = sized(json);
-        done(unsafe { ffi::scm_new_layer(session.at(), text, length, width, height) })?;
+        done(unsafe { ffi::gabro_new_layer(session.at(), text, length, width, height) })?;
         Ok(session)
     }
 
@@ -650,7 +659,7 @@ impl Session {
     ///
     /// `NotNow` if there is no layer.
     pub fn set_theme(&mut self, theme: Theme) -> Result<(), Error> {
-        done(unsafe { ffi::scm_theme(self.at(), theme as u32) })
+        done(unsafe { ffi::gabro_theme(self.at(), theme as u32) })
     }
 
     /// Sets the words by which the status row says what accepting does, as "c commits".
@@ -660,7 +669,7 @@ impl Session {
     /// `TooLong`, `NotNow` if there is no layer, or `NoMemory`.
     pub fn set_accept_text(&mut self, text: &str) -> Result<(), Error> {
         let (text, length) = sized(text);
-        done(unsafe { ffi::scm_accept_text(self.at(), text, length) })
+        done(unsafe { ffi::gabro_accept_text(self.at(), text, length) })
     }
 
     /// Shows `text` in the header of section `section` of file `file`, both counted from 0, in place of its number, or the number
@@ -671,7 +680,7 @@ impl Session {
     /// `TooLong`, `NotNow` if there is no layer, or `NoMemory`.
     pub fn set_label(&mut self, file: usize, section: usize, text: &str) -> Result<(), Error> {
         let (text, length) = sized(text);
-        done(unsafe { ffi::scm_label(self.at(), file, section, text, length) })
+        done(unsafe { ffi::gabro_label(self.at(), file, section, text, length) })
     }
 
     /// Unfolds what `folds` says, and selects the item that `first` names, if there is one.
@@ -680,17 +689,17 @@ impl Session {
     ///
     /// `NotNow` if the session has no layer or waits for no event.
     pub fn start(&mut self, folds: Folds, first: Key) -> Result<(), Error> {
-        done(unsafe { ffi::scm_start(self.at(), folds as u32, &first.into()) })
+        done(unsafe { ffi::gabro_start(self.at(), folds as u32, &first.into()) })
     }
 
-    /// Sets the keys of the user's own, in place of those before: parts `KEY=WORD`, separated by spaces. `scm.h` names the words.
+    /// Sets the keys of the user's own, in place of those before: parts `KEY=WORD`, separated by spaces. `gabrosty.h` names the words.
     ///
     /// # Errors
     ///
     /// `NoKey`, `NotNow` if the session has no layer or waits for no event, or `NoMemory`.
     pub fn set_keys(&mut self, text: &str) -> Result<(), Error> {
         let (text, length) = sized(text);
-        done(unsafe { ffi::scm_keys(self.at(), text, length) })
+        done(unsafe { ffi::gabro_keys(self.at(), text, length) })
     }
 
     /// Begins to log the calls of the session beneath the layer, before the first of them.
@@ -699,16 +708,16 @@ impl Session {
     ///
     /// `NotNow` if a call was made before, or the session has no layer or waits for no event.
     pub fn log(&mut self) -> Result<(), Error> {
-        done(unsafe { ffi::scm_log(self.at()) })
+        done(unsafe { ffi::gabro_log(self.at()) })
     }
 
-    /// Returns the logged calls, a line each. `scm.h` says what each line is.
+    /// Returns the logged calls, a line each. `gabrosty.h` says what each line is.
     ///
     /// # Errors
     ///
     /// `NotNow` if there is no log, or the session has ended in an error, or `NoMemory`.
     pub fn logged(&self) -> Result<String, Error> {
-        text_of(|out, room, length| unsafe { ffi::scm_logged(self.at(), out, room, length) })
+        text_of(|out, room, length| unsafe { ffi::gabro_logged(self.at(), out, room, length) })
     }
 
     // ---- the user's input
@@ -716,7 +725,7 @@ impl Session {
     /// Returns what the session waits for.
     #[must_use]
     pub fn stage(&self) -> Stage {
-        match unsafe { ffi::scm_stage(self.at()) } {
+        match unsafe { ffi::gabro_stage(self.at()) } {
             0 => Stage::Waiting,
             1 => Stage::Editing,
             2 => Stage::Accepted,
@@ -726,10 +735,20 @@ impl Session {
         }
     }
 
+    /// Returns the dialog that is open, or `None` without one, and while the session waits for no event.
+    #[must_use]
+    pub fn dialog(&self) -> Option<Dialog> {
+        match unsafe { ffi::gabro_dialog(self.at()) } {
+            1 => Some(Dialog::Question),
+            2 => Some(Dialog::Help),
+            _ => None,
+        }
+    }
+
     /// Returns how the session ended, or `None` if it has not.
     #[must_use]
     pub fn end(&self) -> Option<End> {
-        match unsafe { ffi::scm_end(self.at()) } {
+        match unsafe { ffi::gabro_end(self.at()) } {
             0 => None,
             1 => Some(End::Accepted),
             2 => Some(End::Cancelled),
@@ -745,7 +764,7 @@ impl Session {
     /// `NoWord`, or `NotNow` if the session does not wait for an event.
     pub fn press(&mut self, word: &str) -> Result<(), Error> {
         let (word, length) = sized(word);
-        done(unsafe { ffi::scm_press(self.at(), word, length) })
+        done(unsafe { ffi::gabro_press(self.at(), word, length) })
     }
 
     /// Handles the events of `words`, which are separated by spaces, as one batch: a click acts on what was drawn before the batch,
@@ -756,7 +775,7 @@ impl Session {
     /// `NoWord`, `NotNow` if the session does not wait for an event, or `NoMemory`.
     pub fn press_all(&mut self, words: &str) -> Result<(), Error> {
         let (words, length) = sized(words);
-        done(unsafe { ffi::scm_press_all(self.at(), words, length) })
+        done(unsafe { ffi::gabro_press_all(self.at(), words, length) })
     }
 
     /// Returns the events of `bytes`, which a terminal sent, and handles none. They may be any part of what it sends. The session
@@ -768,7 +787,7 @@ impl Session {
     pub fn decode(&mut self, bytes: &[u8]) -> Result<Vec<Event>, Error> {
         let (bytes, count) = sized(bytes);
         let words = text_of(|out, room, length| unsafe {
-            ffi::scm_decode(self.at(), bytes, count, out, room, length)
+            ffi::gabro_decode(self.at(), bytes, count, out, room, length)
         })?;
         Ok(events_of(&words))
     }
@@ -780,7 +799,7 @@ impl Session {
     /// `NoMemory`.
     pub fn decode_idle(&mut self) -> Result<Vec<Event>, Error> {
         let words = text_of(|out, room, length| unsafe {
-            ffi::scm_decode_idle(self.at(), out, room, length)
+            ffi::gabro_decode_idle(self.at(), out, room, length)
         })?;
         Ok(events_of(&words))
     }
@@ -794,7 +813,7 @@ impl Session {
     pub fn is_escape_pending(&self) -> Result<bool, Error> {
         let (mut room, mut length) = ([0; 1], 0);
         let out = room.as_mut_ptr();
-        done(unsafe { ffi::scm_decode_idle(self.at(), out, 0, &mut length) })?;
+        done(unsafe { ffi::gabro_decode_idle(self.at(), out, 0, &mut length) })?;
         Ok(length > 0)
     }
 
@@ -805,7 +824,7 @@ impl Session {
     /// `NotNow` if the session does not wait for an event.
     pub fn type_bytes(&mut self, bytes: &[u8]) -> Result<(), Error> {
         let (bytes, length) = sized(bytes);
-        done(unsafe { ffi::scm_type(self.at(), bytes, length) })
+        done(unsafe { ffi::gabro_type(self.at(), bytes, length) })
     }
 
     /// Handles `bytes`, which a terminal sent, up to the first key that means nothing to a session, and returns how many bytes that
@@ -818,7 +837,7 @@ impl Session {
     pub fn type_to_key(&mut self, bytes: &[u8]) -> Result<(usize, Option<char>), Error> {
         let (bytes, length) = sized(bytes);
         let (mut taken, mut key) = (0, 0);
-        done(unsafe { ffi::scm_type_to_key(self.at(), bytes, length, &mut taken, &mut key) })?;
+        done(unsafe { ffi::gabro_type_to_key(self.at(), bytes, length, &mut taken, &mut key) })?;
         Ok((taken, char::from_u32(key).filter(|key| *key != '\0')))
     }
 
@@ -828,7 +847,7 @@ impl Session {
     ///
     /// `NotNow` if the session does not wait for an event.
     pub fn idle(&mut self) -> Result<(), Error> {
-        done(unsafe { ffi::scm_idle(self.at()) })
+        done(unsafe { ffi::gabro_idle(self.at()) })
     }
 
     /// Handles a click at `row`, `column` of the screen, counted from 0.
@@ -837,7 +856,7 @@ impl Session {
     ///
     /// `NotNow` if the session does not wait for an event.
     pub fn click(&mut self, row: u16, column: u16) -> Result<(), Error> {
-        done(unsafe { ffi::scm_click(self.at(), row, column) })
+        done(unsafe { ffi::gabro_click(self.at(), row, column) })
     }
 
     /// Selects the item that `key` names, unfolds what it lies in, and scrolls to it. Its commit is 0 as long as one commit is
@@ -848,7 +867,7 @@ impl Session {
     /// `NotNow` if the session does not wait for an event, or `NoItem` if the key names no file, no section with a checkbox and no
     /// changed line, or the quit dialog is open.
     pub fn select(&mut self, key: Key) -> Result<(), Error> {
-        done(unsafe { ffi::scm_select(self.at(), &key.into()) })
+        done(unsafe { ffi::gabro_select(self.at(), &key.into()) })
     }
 
     /// Answers with the message that the session waits for.
@@ -858,7 +877,7 @@ impl Session {
     /// `TooLong`, `NotNow` if the session waits for no message, or `NoMemory`.
     pub fn answer(&mut self, message: &str) -> Result<(), Error> {
         let (message, length) = sized(message);
-        done(unsafe { ffi::scm_answer(self.at(), message, length) })
+        done(unsafe { ffi::gabro_answer(self.at(), message, length) })
     }
 
     /// Resizes the screen to `width` columns and `height` rows.
@@ -867,7 +886,7 @@ impl Session {
     ///
     /// `NotNow` if the session does not wait for an event, or `NoMemory`.
     pub fn resize(&mut self, width: u16, height: u16) -> Result<(), Error> {
-        done(unsafe { ffi::scm_resize(self.at(), width, height) })
+        done(unsafe { ffi::gabro_resize(self.at(), width, height) })
     }
 
     // ---- the screen
@@ -879,7 +898,7 @@ impl Session {
     /// `NotNow` if the session does not wait for an event, or `NoMemory`.
     pub fn paint(&mut self) -> Result<Vec<u8>, Error> {
         bytes_of(PAINT_ROOM, |out, room, length| unsafe {
-            ffi::scm_paint(self.at(), out, room, length)
+            ffi::gabro_paint(self.at(), out, room, length)
         })
     }
 
@@ -889,14 +908,14 @@ impl Session {
     ///
     /// `Closed`, which no session of this type is.
     pub fn repaint(&mut self) -> Result<(), Error> {
-        done(unsafe { ffi::scm_repaint(self.at()) })
+        done(unsafe { ffi::gabro_repaint(self.at()) })
     }
 
     /// Returns the owner of a place of the screen, and its key.
     #[must_use]
     pub fn owner(&self, row: u16, column: u16) -> (Owner, Key) {
         let mut key = ffi::Key::from(Key::default());
-        let code = unsafe { ffi::scm_owner(self.at(), row, column, &mut key) };
+        let code = unsafe { ffi::gabro_owner(self.at(), row, column, &mut key) };
         let owner = OWNERS.get(code as usize).copied().unwrap_or(Owner::Nobody);
         let key = if owner == Owner::Nobody {
             Key::default()
@@ -913,7 +932,7 @@ impl Session {
     /// `NotNow` if the session does not wait for an event.
     pub fn selected(&self) -> Result<Key, Error> {
         let mut key = ffi::Key::from(Key::default());
-        done(unsafe { ffi::scm_selected(self.at(), &mut key) })?;
+        done(unsafe { ffi::gabro_selected(self.at(), &mut key) })?;
         Ok(Key::from(key))
     }
 
@@ -922,7 +941,7 @@ impl Session {
     #[must_use]
     pub fn symbol(&self, row: u16, column: u16) -> String {
         let symbol = bytes_of(SYMBOL_ROOM, |out, room, length| {
-            *length = unsafe { ffi::scm_symbol(self.at(), row, column, out, room) };
+            *length = unsafe { ffi::gabro_symbol(self.at(), row, column, out, room) };
             0
         });
         symbol.map(text).unwrap_or_default()
@@ -935,7 +954,7 @@ impl Session {
     ///
     /// `NoMemory`.
     pub fn text(&self) -> Result<String, Error> {
-        text_of(|out, room, length| unsafe { ffi::scm_text(self.at(), out, room, length) })
+        text_of(|out, room, length| unsafe { ffi::gabro_text(self.at(), out, room, length) })
     }
 
     // ---- the answer
@@ -947,7 +966,7 @@ impl Session {
     /// As each question: `NotNow` if there is no state to ask (while a message is edited, or behind an error), or `NoItem`.
     pub fn file_count(&self) -> Result<usize, Error> {
         let mut count = 0;
-        done(unsafe { ffi::scm_files(self.at(), &mut count) })?;
+        done(unsafe { ffi::gabro_files(self.at(), &mut count) })?;
         Ok(count)
     }
 
@@ -960,7 +979,7 @@ impl Session {
         let is_selected = side == Side::Selected;
         let mut told = ffi::SideInfo::default();
         let text = text_of(|out, room, length| {
-            let code = unsafe { ffi::scm_side(self.at(), file, is_selected, out, room, &mut told) };
+            let code = unsafe { ffi::gabro_side(self.at(), file, is_selected, out, room, &mut told) };
             *length = told.length;
             code
         })?;
@@ -983,7 +1002,7 @@ impl Session {
     pub fn side_bytes(&self, file: usize, side: Side) -> Result<Vec<u8>, Error> {
         let is_selected = side == Side::Selected;
         bytes_of(TEXT_ROOM, |out, room, length| unsafe {
-            ffi::scm_side_bytes(self.at(), file, is_selected, out, room, length)
+            ffi::gabro_side_bytes(self.at(), file, is_selected, out, room, length)
         })
     }
 
@@ -994,7 +1013,7 @@ impl Session {
     /// Those of [`file_count`](Session::file_count).
     pub fn mark(&self, key: Key) -> Result<Tristate, Error> {
         let mut mark = 0;
-        done(unsafe { ffi::scm_mark(self.at(), &key.into(), &mut mark) })?;
+        done(unsafe { ffi::gabro_mark(self.at(), &key.into(), &mut mark) })?;
         Ok(match mark {
             0 => Tristate::False,
             1 => Tristate::Partial,
@@ -1009,7 +1028,7 @@ impl Session {
     /// Those of [`side`](Session::side).
     pub fn marks(&self, file: usize) -> Result<Vec<bool>, Error> {
         let bytes = bytes_of(TEXT_ROOM, |out, room, length| unsafe {
-            ffi::scm_marks(self.at(), file, out, room, length)
+            ffi::gabro_marks(self.at(), file, out, room, length)
         })?;
         Ok(bytes.iter().map(|byte| *byte == 1).collect())
     }
@@ -1021,7 +1040,7 @@ impl Session {
     /// Those of [`file_count`](Session::file_count).
     pub fn item(&self, key: Key) -> Result<Item, Error> {
         let (mut kind, mut parts) = (0, 0);
-        done(unsafe { ffi::scm_item(self.at(), &key.into(), &mut kind, &mut parts) })?;
+        done(unsafe { ffi::gabro_item(self.at(), &key.into(), &mut kind, &mut parts) })?;
         let kind = OWNERS.get(kind as usize).copied().unwrap_or(Owner::Nobody);
         Ok(Item { kind, parts })
     }
@@ -1033,7 +1052,7 @@ impl Session {
     /// Those of [`file_count`](Session::file_count).
     pub fn path(&self, file: usize) -> Result<String, Error> {
         text_of(|out, room, length| unsafe {
-            ffi::scm_path(self.at(), file, false, out, room, length)
+            ffi::gabro_path(self.at(), file, false, out, room, length)
         })
     }
 
@@ -1044,7 +1063,7 @@ impl Session {
     /// Those of [`file_count`](Session::file_count). `NoItem` also of a file without such a path.
     pub fn old_path(&self, file: usize) -> Result<String, Error> {
         text_of(|out, room, length| unsafe {
-            ffi::scm_path(self.at(), file, true, out, room, length)
+            ffi::gabro_path(self.at(), file, true, out, room, length)
         })
     }
 
@@ -1055,7 +1074,7 @@ impl Session {
     /// Those of [`file_count`](Session::file_count).
     pub fn line(&self, key: Key) -> Result<String, Error> {
         let key = ffi::Key::from(key);
-        text_of(|out, room, length| unsafe { ffi::scm_line(self.at(), &key, out, room, length) })
+        text_of(|out, room, length| unsafe { ffi::gabro_line(self.at(), &key, out, room, length) })
     }
 
     /// Returns the message of commit `commit`, counted from 0.
@@ -1065,7 +1084,7 @@ impl Session {
     /// Those of [`file_count`](Session::file_count). A commit without a message is `NoItem`.
     pub fn message(&self, commit: usize) -> Result<String, Error> {
         text_of(|out, room, length| unsafe {
-            ffi::scm_message(self.at(), commit, out, room, length)
+            ffi::gabro_message(self.at(), commit, out, room, length)
         })
     }
 }

@@ -23,6 +23,8 @@ const TAKE: &str = "\x1b[?1049h\x1b[?25l\x1b[?1000;1006h\x1b[?2004h\x1b[0m\x1b[2
 const GIVE_BACK: &str = "\x1b[?2026l\x1b[?7h\x1b[0m\x1b[?2004l\x1b[?1000;1006l\x1b[?25h\x1b[?1049l";
 
 const CLEAR: &str = "\x1b[0m\x1b[2J";
+/// What is written where nothing has changed: so who types into the program sees that it was heard.
+const NO_CHANGE: &str = "\x1b[?2026h\x1b[?2026l";
 
 /// The thread that has taken the terminal, if one has.
 static TAKEN_BY: Mutex<Option<ThreadId>> = Mutex::new(None);
@@ -78,6 +80,9 @@ impl Screen for Terminal {
             self.shown = Some(size);
         }
         let frame = run.paint().map_err(failure)?;
+        if frame.is_empty() {
+            return write(NO_CHANGE).map_err(not_drawn);
+        }
         write(frame).map_err(not_drawn)
     }
 

@@ -51,8 +51,8 @@ const ORIGINS: [Origin; 3] = [Origin::Side, Origin::Old, Origin::New];
 /// The first room for what is decided, in bytes.
 const ROOM: usize = 1 << 12;
 
-/// Returns the records of what becomes of the paths of `rows`, and which files are left out. `scm.h` has the form of both, at
-/// `scm_decide_rows`.
+/// Returns the records of what becomes of the paths of `rows`, and which files are left out. `gabrosty.h` has the form of both, at
+/// `gabro_decide_rows`.
 ///
 /// # Errors
 /// [`Error::NoMemory`]: an allocation failed.
@@ -60,7 +60,7 @@ pub fn decide_rows(rows: &[u8]) -> Result<Vec<u8>, Error> {
     let (start, length) = sized(rows);
     bytes_of(ROOM, |out, room, written| {
         // SAFETY: `start` leads to `length` bytes, and `out` has room for `room` bytes.
-        unsafe { ffi::scm_decide_rows(start, length, out, room, written) }
+        unsafe { ffi::gabro_decide_rows(start, length, out, room, written) }
     })
 }
 
@@ -70,7 +70,7 @@ pub fn decide_rows(rows: &[u8]) -> Result<Vec<u8>, Error> {
 pub fn path_fault(path: impl AsRef<[u8]>) -> Option<PathFault> {
     let (start, length) = sized(&path);
     // SAFETY: `start` leads to `length` bytes.
-    let number = unsafe { ffi::scm_path_fault(start, length) };
+    let number = unsafe { ffi::gabro_path_fault(start, length) };
     number.checked_sub(1).map(|index| FAULTS[index as usize])
 }
 
@@ -163,7 +163,7 @@ impl Changed {
     pub fn shown(self, is_other: bool) -> Shown {
         let mut shown = ffi::Shown::default();
         // SAFETY: both pointers lead to values of this function.
-        unsafe { ffi::scm_tree_shown(&self.in_c(), is_other, &mut shown) };
+        unsafe { ffi::gabro_tree_shown(&self.in_c(), is_other, &mut shown) };
         Shown {
             old_mode: mode_of(shown.old_mode),
             new_mode: mode_of(shown.new_mode),
@@ -183,7 +183,7 @@ impl Changed {
         };
         let mut found = ffi::InTree::default();
         // SAFETY: all pointers lead to values of this function.
-        unsafe { ffi::scm_tree_side(&self.in_c(), side.is_selected, &told, &mut found) };
+        unsafe { ffi::gabro_tree_side(&self.in_c(), side.is_selected, &told, &mut found) };
         InTree {
             mode: mode_of(found.mode),
             old_path_mode: mode_of(found.old_path_mode),

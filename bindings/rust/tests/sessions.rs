@@ -1,6 +1,6 @@
 //! Sessions that a program drives itself.
 use scm_record::session::{
-    version, Colour, End, Error, Folds, Key, LineKind, Owner, SectionKind, Session, Side,
+    version, Colour, Dialog, End, Error, Folds, Key, LineKind, Owner, SectionKind, Session, Side,
     SideContents, Stage, Theme, Version,
 };
 use scm_record::{ChangeType, Event, FileMode, Tristate};
@@ -38,6 +38,18 @@ fn a_session_waits_until_it_ends() {
     );
     assert_eq!(session.text().unwrap(), "cancelled by user");
     assert_eq!(session.press("none"), Err(Error::NotNow));
+}
+
+#[test]
+fn a_dialog_is_told() {
+    let mut session = begun(&["none"]);
+    assert_eq!(session.dialog(), None);
+    session.press("?").unwrap();
+    assert_eq!(session.dialog(), Some(Dialog::Help));
+    session.press("?").unwrap();
+    assert_eq!(session.dialog(), None);
+    session.press("q").unwrap();
+    assert_eq!((session.stage(), session.dialog()), (Stage::Ended, None));
 }
 
 #[test]
@@ -195,6 +207,7 @@ fn a_user_at_a_terminal() {
     session.add_binary(None, Some("3 bytes"), false).unwrap();
     session.begin(40, 12).unwrap();
     assert!(session.paint().unwrap().starts_with(b"\x1b[?2026h"));
+    assert_eq!(session.paint().unwrap(), b"");
     session.type_bytes(b"ajk").unwrap();
     assert_eq!(
         session.selected().unwrap(),

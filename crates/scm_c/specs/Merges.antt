@@ -41,20 +41,20 @@ pub record TellsOpen (base ours theirs marks : List ℕ) (told : ℕ) : Type 0 w
   pub told_is : told ≡ merged.open
 
 -- The code says whether the marks are as many as the items of the merge, of which the bytes with markers are asked.
-pub record IsCodeOfMarkers (labels : LabelBytes) (base ours theirs marks : List ℕ) (code : ℕ) : Type 0 where
+pub record IsCodeOfMarkers (least : ℕ) (labels : LabelBytes) (base ours theirs marks : List ℕ) (code : ℕ) : Type 0 where
   pub bytes : Option (Vec ℕ)
-  pub is_merged : IsMergedWithMarkers labels base ours theirs marks bytes
+  pub is_merged : IsMergedWithMarkers least labels base ours theirs marks bytes
   pub code_is : code ≡ code_of_found bytes
 
 -- The call for these bytes returns that code, or 8: an allocation failed.
-pub data IsMarkersCode (labels : LabelBytes) (base ours theirs marks : List ℕ) (code : ℕ) : Type 0 where
-  known : IsCodeOfMarkers labels base ours theirs marks code → IsMarkersCode labels base ours theirs marks code
-  no_memory : code ≡ 8 → IsMarkersCode labels base ours theirs marks code
+pub data IsMarkersCode (least : ℕ) (labels : LabelBytes) (base ours theirs marks : List ℕ) (code : ℕ) : Type 0 where
+  known : IsCodeOfMarkers least labels base ours theirs marks code → IsMarkersCode least labels base ours theirs marks code
+  no_memory : code ≡ 8 → IsMarkersCode least labels base ours theirs marks code
 
--- The bytes of the merge by the marks, with markers around each open conflict, are written over the buffer, clipped to the buffer's
+-- The bytes of the merge by the marks, with markers of at least `least` signs around each open conflict, are written over the buffer, clipped to the buffer's
 -- length, and their number is told.
-pub record TellsMarkers (labels : LabelBytes) (base ours theirs marks old new : List ℕ) (told : ℕ) : Type 0 where
+pub record TellsMarkers (least : ℕ) (labels : LabelBytes) (base ours theirs marks old new : List ℕ) (told : ℕ) : Type 0 where
   pub bytes : Vec ℕ
-  pub is_merged : IsMergedWithMarkers labels base ours theirs marks (Some bytes)
+  pub is_merged : IsMergedWithMarkers least labels base ours theirs marks (Some bytes)
   pub long : told ≡ length bytes.items
   pub written : new ≡ over bytes.items old

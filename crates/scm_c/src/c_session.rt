@@ -72,7 +72,7 @@ impl SessionPtr {
     }
 }
 
-/// A session as a C program keeps it, `scm_session`. All zeros if it is closed.
+/// A session as a C program keeps it, `gabro_session`. All zeros if it is closed.
 #[repr(C)]
 pub struct CSession {
     /// Whether the session is open.

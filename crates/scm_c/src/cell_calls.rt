@@ -1,4 +1,4 @@
-//! The call that tells the screen of a session as cells. `include/scm.h` documents it.
+//! The call that tells the screen of a session as cells. `include/gabrosty.h` documents it.
 ghost use Rattle.std.specs.Prelude.{◌≡◌};
 ghost use Rattle.scm_open_session.specs.Cells.{TellsCells};
 
@@ -10,7 +10,7 @@ use std::alloc::Global;
 /// Writes the cells of the screen to `cells`, row by row, and the text of their symbols to `out`, both clipped
 /// to their lengths, and the size of the screen to `told`. Returns the code of the call.
 #[unsafe(no_mangle)]
-pub extern "C" fn scm_cells(
+pub extern "C" fn gabro_cells(
     alloc: Global,
     session: &mut CSession,
     cells: &mut [Cell],

@@ -1,4 +1,4 @@
-//! Calls of the layer: search, ranges, undo, columns to the right, themes, labels. `include/scm.h` documents each function.
+//! Calls of the layer: search, ranges, undo, columns to the right, themes, labels. `include/gabrosty.h` documents each function.
 ghost use Rattle.std.specs.Prelude.{◌≡◌, ◌<◌, None, true};
 ghost use Rattle.std.specs.Str.{is_utf8};
 ghost use Rattle.scm_open_session.specs.LayerCalls.{BeginsLayer, ChangesPainters, HasStart, HasTheme, StartsLayer, code_of_layer, is_view};
@@ -19,7 +19,7 @@ use std::alloc::Global;
 /// Opens `session` with a layer over the state with the JSON form `json`. Its terminal has `width` columns
 /// and `height` rows. If `session` is open, closes it first. Returns the code of the call.
 #[unsafe(no_mangle)]
-pub extern "C" fn scm_new_layer(
+pub extern "C" fn gabro_new_layer(
     alloc: Global,
     session: &mut CSession,
     json: &[u8],
@@ -41,7 +41,7 @@ pub extern "C" fn scm_new_layer(
 /// Begins the session with the state that is made and with a layer, on a terminal of `width` columns and
 /// `height` rows. Returns the code of the call.
 #[unsafe(no_mangle)]
-pub extern "C" fn scm_begin_layer(
+pub extern "C" fn gabro_begin_layer(
     alloc: Global,
     session: &mut CSession,
     width: u16,
@@ -58,7 +58,7 @@ pub extern "C" fn scm_begin_layer(
 
 /// Sets the theme of the layer to that with the number `theme`. Returns the code of the call.
 #[unsafe(no_mangle)]
-pub extern "C" fn scm_theme(alloc: Global, session: &mut CSession, theme: u32) -> u32
+pub extern "C" fn gabro_theme(alloc: Global, session: &mut CSession, theme: u32) -> u32
     ensures code { result ≡ code_of_number (theme_of theme)
         (code_of_layer session.old.pointer.value) }
     ensures themed { result ≡ 0
@@ -73,7 +73,7 @@ pub extern "C" fn scm_theme(alloc: Global, session: &mut CSession, theme: u32) -
 
 /// Sets the words by which the status row says what accepting does. Returns the code of the call.
 #[unsafe(no_mangle)]
-pub extern "C" fn scm_accept_text(alloc: Global, session: &mut CSession, text: &[u8]) -> u32
+pub extern "C" fn gabro_accept_text(alloc: Global, session: &mut CSession, text: &[u8]) -> u32
     ensures code { IsCode (is_message text.now)
         (code_of_message text.now (code_of_layer session.old.pointer.value)) result }
     ensures named { result ≡ 0 → ChangesPainters (HaveWords text.now)
@@ -89,7 +89,7 @@ pub extern "C" fn scm_accept_text(alloc: Global, session: &mut CSession, text: &
 /// Shows `text` in the header of section `section` of file `file` in place of its number. Returns the code of
 /// the call.
 #[unsafe(no_mangle)]
-pub extern "C" fn scm_label(
+pub extern "C" fn gabro_label(
     alloc: Global,
     session: &mut CSession,
     file: usize,
@@ -110,7 +110,7 @@ pub extern "C" fn scm_label(
 
 /// Unfolds what the number `folds` says, and selects what `first` names. Returns the code of the call.
 #[unsafe(no_mangle)]
-pub extern "C" fn scm_start(alloc: Global, session: &mut CSession, folds: u32, first: &Key) -> u32
+pub extern "C" fn gabro_start(alloc: Global, session: &mut CSession, folds: u32, first: &Key) -> u32
     ensures code { result ≡ code_of_number (folds_of folds)
         (code_where is_view session.old.pointer.value) }
     ensures set { result ≡ 0
@@ -125,7 +125,7 @@ pub extern "C" fn scm_start(alloc: Global, session: &mut CSession, folds: u32, f
 
 /// Sets the keys of the user's own to those of `text`. Returns the code of the call.
 #[unsafe(no_mangle)]
-pub extern "C" fn scm_keys(alloc: Global, session: &mut CSession, text: &[u8]) -> u32
+pub extern "C" fn gabro_keys(alloc: Global, session: &mut CSession, text: &[u8]) -> u32
     ensures code { IsCode true
         (code_of_keys (keys_of_bytes text.now) session.old.pointer.value) result }
     ensures set { result ≡ 0 → HasKeys (keys_of_bytes text.now)
@@ -141,7 +141,7 @@ pub extern "C" fn scm_keys(alloc: Global, session: &mut CSession, text: &[u8]) -
 /// Begins to log the calls of the session beneath the layer, if none was made yet. Returns the code of the
 /// call.
 #[unsafe(no_mangle)]
-pub extern "C" fn scm_log(alloc: Global, session: &mut CSession) -> u32
+pub extern "C" fn gabro_log(alloc: Global, session: &mut CSession) -> u32
     ensures code { IsLogCode session.old.pointer.value result }
     ensures kept { session.new.pointer.value ≡ session.old.pointer.value }
 {
@@ -154,7 +154,7 @@ pub extern "C" fn scm_log(alloc: Global, session: &mut CSession) -> u32
 /// Writes to `out` the script of the logged calls, clipped to the length of `out`, and its whole length in
 /// bytes to `written`. Returns the code of the call.
 #[unsafe(no_mangle)]
-pub extern "C" fn scm_logged(
+pub extern "C" fn gabro_logged(
     alloc: Global,
     session: &mut CSession,
     out: &mut [u8],

@@ -1,4 +1,4 @@
-//! A session for C. `include/scm.h` documents each function. What a call does is in `scm_open_session`; here it is reached from
+//! A session for C. `include/gabrosty.h` documents each function. What a call does is in `scm_open_session`; here it is reached from
 //! the pointer of a C program.
 #![tactic(auto)]
 
@@ -6,6 +6,7 @@ ghost use Rattle.std.specs.Prelude.{◌≡◌, ℕ, ◌<◌, None, Some, is_some
 ghost use Rattle.std.specs.Str.{is_utf8};
 ghost use Rattle.scm_open_session.specs.Boxes.{box_value};
 ghost use Rattle.scm_open_session.specs.Stages.{Begins, ChangesDecoder, ChangesStage, Clicks, HandsIn, Idles, IsOpenAt, Resizes, Says, Types, code_of_session, end_of_session};
+ghost use Rattle.scm_open_session.specs.Dialogs.{dialog_of};
 ghost use Rattle.scm_c_values.specs.Screens.{screen_of};
 ghost use Rattle.scm_c_values.specs.Codes.{IsCode, code_of_json, is_message, words_of_code};
 ghost use Rattle.scm_open_session.specs.Results.{Writes, code_of_answer, code_of_call, code_of_press, code_of_repaint, is_session_waiting, symbol_of_session};
@@ -31,13 +32,13 @@ pub mod tree_calls;
 
 use crate::c_session::{CSession, give_back, take};
 use scm_c_values::owners::Key;
-use scm_open_session::calls;
+use scm_open_session::{calls, dialog_calls};
 use std::alloc::Global;
 
 /// Opens `session` over the state with the JSON form `json`. Its screen has `width` columns and
 /// `height` rows. If `session` is open, closes it first. Returns the code of the call.
 #[unsafe(no_mangle)]
-pub extern "C" fn scm_new(
+pub extern "C" fn gabro_new(
     alloc: Global,
     session: &mut CSession,
     json: &[u8],
@@ -58,7 +59,7 @@ pub extern "C" fn scm_new(
 
 /// Returns the stage of `session`: the code of what it waits for, or of how it ended.
 #[unsafe(no_mangle)]
-pub extern "C" fn scm_stage(alloc: Global, session: &mut CSession) -> u32
+pub extern "C" fn gabro_stage(alloc: Global, session: &mut CSession) -> u32
     ensures code { result ≡ code_of_session session.old.pointer.value }
     ensures kept { session.new.pointer.value ≡ session.old.pointer.value }
 {
@@ -70,7 +71,7 @@ pub extern "C" fn scm_stage(alloc: Global, session: &mut CSession) -> u32
 
 /// Returns the code of how `session` ended. 0 if it goes on or is closed.
 #[unsafe(no_mangle)]
-pub extern "C" fn scm_end(alloc: Global, session: &mut CSession) -> u32
+pub extern "C" fn gabro_end(alloc: Global, session: &mut CSession) -> u32
     ensures code { result ≡ end_of_session session.old.pointer.value }
     ensures kept { session.new.pointer.value ≡ session.old.pointer.value }
 {
@@ -80,9 +81,21 @@ pub extern "C" fn scm_end(alloc: Global, session: &mut CSession) -> u32
     end
 }
 
+/// Returns the code of the dialog that `session` shows. 0 without one.
+#[unsafe(no_mangle)]
+pub extern "C" fn gabro_dialog(alloc: Global, session: &mut CSession) -> u32
+    ensures code { result ≡ dialog_of session.old.pointer.value }
+    ensures kept { session.new.pointer.value ≡ session.old.pointer.value }
+{
+    let inner = take(alloc, session);
+    let dialog = dialog_calls::dialog(&inner);
+    give_back(alloc, session, inner);
+    dialog
+}
+
 /// Handles `bytes`, which a terminal sent. Returns the code of the call.
 #[unsafe(no_mangle)]
-pub extern "C" fn scm_type(alloc: Global, session: &mut CSession, bytes: &[u8]) -> u32
+pub extern "C" fn gabro_type(alloc: Global, session: &mut CSession, bytes: &[u8]) -> u32
     ensures code { result ≡ code_of_call session.old.pointer.value }
     ensures typed { result ≡ 0
         → ChangesDecoder (Types bytes.now) session.old.pointer.value session.new.pointer.value }
@@ -98,7 +111,7 @@ pub extern "C" fn scm_type(alloc: Global, session: &mut CSession, bytes: &[u8]) 
 /// of bytes that it took to `taken`, and the code of that key to `key`, 0 without one. Returns the code
 /// of the call.
 #[unsafe(no_mangle)]
-pub extern "C" fn scm_type_to_key(
+pub extern "C" fn gabro_type_to_key(
     alloc: Global,
     session: &mut CSession,
     bytes: &[u8],
@@ -119,7 +132,7 @@ pub extern "C" fn scm_type_to_key(
 
 /// Handles the silence of the terminal. Returns the code of the call.
 #[unsafe(no_mangle)]
-pub extern "C" fn scm_idle(alloc: Global, session: &mut CSession) -> u32
+pub extern "C" fn gabro_idle(alloc: Global, session: &mut CSession) -> u32
     ensures code { result ≡ code_of_call session.old.pointer.value }
     ensures silent { result ≡ 0
         → ChangesDecoder Idles session.old.pointer.value session.new.pointer.value }
@@ -133,7 +146,7 @@ pub extern "C" fn scm_idle(alloc: Global, session: &mut CSession) -> u32
 
 /// Handles the event of `word`, a word of scripts. Returns the code of the call.
 #[unsafe(no_mangle)]
-pub extern "C" fn scm_press(alloc: Global, session: &mut CSession, word: &[u8]) -> u32
+pub extern "C" fn gabro_press(alloc: Global, session: &mut CSession, word: &[u8]) -> u32
     ensures code { result ≡ code_of_press (event_of_bytes word.now) session.old.pointer.value }
     ensures pressed { result ≡ 0
         → HandsIn (event_of_bytes word.now) session.old.pointer.value session.new.pointer.value }
@@ -148,7 +161,7 @@ pub extern "C" fn scm_press(alloc: Global, session: &mut CSession, word: &[u8]) 
 /// Handles the events of `words`, which are separated by spaces, as one batch. Returns the code of the
 /// call.
 #[unsafe(no_mangle)]
-pub extern "C" fn scm_press_all(alloc: Global, session: &mut CSession, words: &[u8]) -> u32
+pub extern "C" fn gabro_press_all(alloc: Global, session: &mut CSession, words: &[u8]) -> u32
     ensures code { IsCode true
         (code_of_batch (events_of_bytes words.now) session.old.pointer.value) result }
     ensures pressed { result ≡ 0 → HandsInAll (events_of_bytes words.now)
@@ -164,7 +177,7 @@ pub extern "C" fn scm_press_all(alloc: Global, session: &mut CSession, words: &[
 /// Writes to `out` the words of the events that `bytes` of a terminal complete, if they fit, and their
 /// length to `written`. No event is handled. Returns the code of the call.
 #[unsafe(no_mangle)]
-pub extern "C" fn scm_decode(
+pub extern "C" fn gabro_decode(
     alloc: Global,
     session: &mut CSession,
     bytes: &[u8],
@@ -183,7 +196,7 @@ pub extern "C" fn scm_decode(
 /// Writes to `out` the word of the event that a silence of the terminal completes, if it fits, and its
 /// length to `written`. No event is handled. Returns the code of the call.
 #[unsafe(no_mangle)]
-pub extern "C" fn scm_decode_idle(
+pub extern "C" fn gabro_decode_idle(
     alloc: Global,
     session: &mut CSession,
     out: &mut [u8],
@@ -201,7 +214,7 @@ pub extern "C" fn scm_decode_idle(
 /// Handles a click at `row`, `column` of the screen, both counted from 0. Returns the code of the
 /// call.
 #[unsafe(no_mangle)]
-pub extern "C" fn scm_click(alloc: Global, session: &mut CSession, row: u16, column: u16) -> u32
+pub extern "C" fn gabro_click(alloc: Global, session: &mut CSession, row: u16, column: u16) -> u32
     ensures code { result ≡ code_of_call session.old.pointer.value }
     ensures clicked { result ≡ 0
         → ChangesStage (Clicks row column) session.old.pointer.value session.new.pointer.value }
@@ -216,7 +229,7 @@ pub extern "C" fn scm_click(alloc: Global, session: &mut CSession, row: u16, col
 /// Answers with the message `text`, if the session waits for a message. Returns the code of the
 /// call.
 #[unsafe(no_mangle)]
-pub extern "C" fn scm_answer(alloc: Global, session: &mut CSession, text: &[u8]) -> u32
+pub extern "C" fn gabro_answer(alloc: Global, session: &mut CSession, text: &[u8]) -> u32
     ensures code { IsCode (is_message text.now)
         (code_of_answer text.now session.old.pointer.value) result }
     ensures said { result ≡ 0
@@ -231,7 +244,12 @@ pub extern "C" fn scm_answer(alloc: Global, session: &mut CSession, text: &[u8])
 
 /// Resizes the screen to `width` columns and `height` rows. Returns the code of the call.
 #[unsafe(no_mangle)]
-pub extern "C" fn scm_resize(alloc: Global, session: &mut CSession, width: u16, height: u16) -> u32
+pub extern "C" fn gabro_resize(
+    alloc: Global,
+    session: &mut CSession,
+    width: u16,
+    height: u16,
+) -> u32
     ensures code { IsCode (is_session_waiting session.old.pointer.value)
         (code_of_call session.old.pointer.value) result }
     ensures resized { result ≡ 0
@@ -248,7 +266,7 @@ pub extern "C" fn scm_resize(alloc: Global, session: &mut CSession, width: u16, 
 /// Writes to `out` the update that makes the terminal show the session, if it fits, and its length
 /// in bytes to `written`. Returns the code of the call.
 #[unsafe(no_mangle)]
-pub extern "C" fn scm_paint(
+pub extern "C" fn gabro_paint(
     alloc: Global,
     session: &mut CSession,
     out: &mut [u8],
@@ -265,7 +283,7 @@ pub extern "C" fn scm_paint(
 
 /// Makes the next update write every row. Returns the code of the call.
 #[unsafe(no_mangle)]
-pub extern "C" fn scm_repaint(alloc: Global, session: &mut CSession) -> u32
+pub extern "C" fn gabro_repaint(alloc: Global, session: &mut CSession) -> u32
     ensures code { result ≡ code_of_repaint session.old.pointer.value }
     ensures forgotten { Forgets session.old.pointer.value session.new.pointer.value }
 {
@@ -279,7 +297,7 @@ pub extern "C" fn scm_repaint(alloc: Global, session: &mut CSession) -> u32
 /// bytes to `written`: the screen's rows, the message to edit, the accepted state and its sides, or
 /// the error. Returns the code of the call.
 #[unsafe(no_mangle)]
-pub extern "C" fn scm_text(
+pub extern "C" fn gabro_text(
     alloc: Global,
     session: &mut CSession,
     out: &mut [u8],
@@ -301,7 +319,7 @@ pub extern "C" fn scm_text(
 /// Returns the code of the owner at `row` and `column` of the screen, both counted from 0. Writes
 /// to `key` the indices of the item that the place belongs to.
 #[unsafe(no_mangle)]
-pub extern "C" fn scm_owner(
+pub extern "C" fn gabro_owner(
     alloc: Global,
     session: &mut CSession,
     row: u16,
@@ -320,7 +338,7 @@ pub extern "C" fn scm_owner(
 
 /// Writes the key of the selected item to `key`. Returns the code of the call.
 #[unsafe(no_mangle)]
-pub extern "C" fn scm_selected(alloc: Global, session: &mut CSession, key: &mut Key) -> u32
+pub extern "C" fn gabro_selected(alloc: Global, session: &mut CSession, key: &mut Key) -> u32
     ensures code { result ≡ code_of_call session.old.pointer.value }
     ensures key { result ≡ 0 → selected_of_session session.old.pointer.value ≡ Some key.new }
     ensures unwritten { 0 < result → key.new ≡ key.old }
@@ -335,7 +353,7 @@ pub extern "C" fn scm_selected(alloc: Global, session: &mut CSession, key: &mut 
 /// Writes to `out` the symbol that begins at `row` and `column` of the screen, both counted from 0,
 /// clipped to the length of `out`. Returns the whole length, in bytes.
 #[unsafe(no_mangle)]
-pub extern "C" fn scm_symbol(
+pub extern "C" fn gabro_symbol(
     alloc: Global,
     session: &mut CSession,
     row: u16,
@@ -356,7 +374,7 @@ pub extern "C" fn scm_symbol(
 /// Writes to `out` the sentence of `code`, clipped to the length of `out`. Returns the whole
 /// length, in bytes.
 #[unsafe(no_mangle)]
-pub extern "C" fn scm_words(code: u32, out: &mut [u8]) -> usize
+pub extern "C" fn gabro_words(code: u32, out: &mut [u8]) -> usize
     ensures len { result ≡ length (words_of_code code) }
     ensures written { out.new ≡ over (words_of_code code) out.old }
 {
@@ -366,15 +384,16 @@ pub extern "C" fn scm_words(code: u32, out: &mut [u8]) -> usize
 /// Returns the version of the library: 10,000 times the major number, 100 times the minor number,
 /// and the patch number.
 #[unsafe(no_mangle)]
-pub extern "C" fn scm_version() -> u32
+pub extern "C" fn gabro_version() -> u32
     ensures { result ≡ 10100 }
 {
     10_100
 }
 
-/// Closes `session`, and frees its memory.
+/// Closes `session`, and frees its memory. `gabro_free` of `terminal/run.c` is this call for a session that
+/// is not null.
 #[unsafe(no_mangle)]
-pub extern "C" fn scm_free(alloc: Global, session: &mut CSession)
+pub extern "C" fn gabrosty_close(alloc: Global, session: &mut CSession)
     ensures closed { session.new.pointer.value ≡ None }
 {
     drop(take(alloc, session));

@@ -1,4 +1,4 @@
-//! The call that sets the marks of a file of a state that is made. `include/scm.h` documents it.
+//! The call that sets the marks of a file of a state that is made. `include/gabrosty.h` documents it.
 ghost use Rattle.std.specs.Prelude.{◌≡◌, ◌<◌};
 ghost use Rattle.scm_open_session.specs.Marking.{SetsMarks, code_of_marks};
 ghost use Rattle.scm_open_session.specs.Stages.{ChangesStage};
@@ -10,7 +10,7 @@ use std::alloc::Global;
 /// Sets the marks of file `file` of the state that is made to `marks`, a byte for each of its items, in
 /// order: 1 for a checked one. Returns the code of the call.
 #[unsafe(no_mangle)]
-pub extern "C" fn scm_state_marks(
+pub extern "C" fn gabro_state_marks(
     alloc: Global,
     session: &mut CSession,
     file: usize,

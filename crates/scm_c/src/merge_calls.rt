@@ -1,4 +1,4 @@
-//! Calls without a session: the merge of three files, and what marks make of it. `include/scm.h` documents each function.
+//! Calls without a session: the merge of three files, and what marks make of it. `include/gabrosty.h` documents each function.
 ghost use Rattle.std.specs.Prelude.{◌≡◌, ◌<◌, true};
 ghost use Rattle.scm_c_values.specs.Codes.{IsCode};
 ghost use Rattle.scm_c.specs.Merges.{IsMarkedCode, IsMarkersCode, TellsMarkers, TellsMerge, TellsMerged, TellsOpen};
@@ -11,7 +11,7 @@ use std::alloc::Global;
 /// Writes to `out` the records of the merge of three files, clipped to the length of `out`, and their whole length to `written`.
 /// Returns the code of the call.
 #[unsafe(no_mangle)]
-pub extern "C" fn scm_merge_texts(
+pub extern "C" fn gabro_merge_texts(
     alloc: Global,
     base: &[u8],
     ours: &[u8],
@@ -34,7 +34,7 @@ pub extern "C" fn scm_merge_texts(
 /// Writes to `out` the bytes of the merge of three files by `marks`, clipped to the length of `out`, and their number to
 /// `written`. Returns the code of the call.
 #[unsafe(no_mangle)]
-pub extern "C" fn scm_merged_bytes(
+pub extern "C" fn gabro_merged_bytes(
     alloc: Global,
     base: &[u8],
     ours: &[u8],
@@ -62,7 +62,7 @@ pub extern "C" fn scm_merged_bytes(
 
 /// Writes to `open` how many conflicts of the merge of three files `marks` leave open. Returns the code of the call.
 #[unsafe(no_mangle)]
-pub extern "C" fn scm_open_conflicts(
+pub extern "C" fn gabro_open_conflicts(
     alloc: Global,
     base: &[u8],
     ours: &[u8],
@@ -87,10 +87,11 @@ pub extern "C" fn scm_open_conflicts(
     }
 }
 
-/// Writes to `out` the bytes of the merge of three files by `marks`, with markers around each conflict that is open, clipped to the
-/// length of `out`, and their number to `written`. The labels are those of the three versions. Returns the code of the call.
+/// Writes to `out` the bytes of the merge of three files by `marks`, with markers of at least `marker_length` signs around each
+/// conflict that is open, clipped to the length of `out`, and their number to `written`. The labels are those of the three versions.
+/// Returns the code of the call.
 #[unsafe(no_mangle)]
-pub extern "C" fn scm_marked_bytes(
+pub extern "C" fn gabro_marked_bytes(
     alloc: Global,
     base: &[u8],
     ours: &[u8],
@@ -99,13 +100,14 @@ pub extern "C" fn scm_marked_bytes(
     base_label: &[u8],
     our_label: &[u8],
     their_label: &[u8],
+    marker_length: usize,
     out: &mut [u8],
     written: &mut usize,
 ) -> u32
-    ensures code { IsMarkersCode
+    ensures code { IsMarkersCode marker_length
         (record { ours = our_label.entry; base = base_label.entry; theirs = their_label.entry })
         base.now ours.now theirs.now marks.now result }
-    ensures bytes { result ≡ 0 → TellsMarkers
+    ensures bytes { result ≡ 0 → TellsMarkers marker_length
         (record { ours = our_label.entry; base = base_label.entry; theirs = their_label.entry })
         base.now ours.now theirs.now marks.now out.old out.new written.new }
     ensures unwritten { 0 < result → (out.new ≡ out.old) × (written.new ≡ written.old) }
@@ -115,7 +117,8 @@ pub extern "C" fn scm_marked_bytes(
         base: base_label,
         theirs: their_label,
     };
-    let Ok(found) = merge_with_markers(alloc, base, ours, theirs, marks, labels) else {
+    let Ok(found) = merge_with_markers(alloc, base, ours, theirs, marks, labels, marker_length)
+    else {
         return NO_MEMORY;
     };
     match found {

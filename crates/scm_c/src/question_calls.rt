@@ -1,4 +1,4 @@
-//! Calls that ask for the state of a session. `include/scm.h` documents each function.
+//! Calls that ask for the state of a session. `include/gabrosty.h` documents each function.
 ghost use Rattle.std.specs.Prelude.{◌≡◌, ◌<◌, Some, true};
 ghost use Rattle.scm_open_session.specs.Boxes.{box_value};
 ghost use Rattle.scm_c_values.specs.Codes.{IsCode};
@@ -15,7 +15,7 @@ use std::alloc::Global;
 
 /// Writes the number of files to `count`. Returns the code of the call.
 #[unsafe(no_mangle)]
-pub extern "C" fn scm_files(alloc: Global, session: &mut CSession, count: &mut usize) -> u32
+pub extern "C" fn gabro_files(alloc: Global, session: &mut CSession, count: &mut usize) -> u32
     ensures code { result
         ≡ code_of_question file_count (asked_state session.old.pointer.value) }
     ensures count { result ≡ 0
@@ -33,7 +33,7 @@ pub extern "C" fn scm_files(alloc: Global, session: &mut CSession, count: &mut u
 /// `out`, clipped to its length. Writes the side's kind, mode and number of bytes to `told`. Returns
 /// the code of the call.
 #[unsafe(no_mangle)]
-pub extern "C" fn scm_side(
+pub extern "C" fn gabro_side(
     alloc: Global,
     session: &mut CSession,
     file: usize,
@@ -59,7 +59,12 @@ pub extern "C" fn scm_side(
 /// Writes the mark of the file, the section or the line that `key` names to `mark`. Returns the code
 /// of the call.
 #[unsafe(no_mangle)]
-pub extern "C" fn scm_mark(alloc: Global, session: &mut CSession, key: &Key, mark: &mut u32) -> u32
+pub extern "C" fn gabro_mark(
+    alloc: Global,
+    session: &mut CSession,
+    key: &Key,
+    mark: &mut u32,
+) -> u32
     ensures code { result
         ≡ code_of_question (mark_at key.now) (asked_state session.old.pointer.value) }
     ensures mark { result ≡ 0
@@ -76,7 +81,7 @@ pub extern "C" fn scm_mark(alloc: Global, session: &mut CSession, key: &Key, mar
 /// Writes the message of commit `commit` to `out`, clipped to its length, and the whole length in
 /// bytes to `written`. Returns the code of the call.
 #[unsafe(no_mangle)]
-pub extern "C" fn scm_message(
+pub extern "C" fn gabro_message(
     alloc: Global,
     session: &mut CSession,
     commit: usize,
@@ -100,7 +105,7 @@ pub extern "C" fn scm_message(
 /// Writes the marks of file `file` to `out`, a byte each, clipped to its length, and their number to
 /// `written`. Returns the code of the call.
 #[unsafe(no_mangle)]
-pub extern "C" fn scm_marks(
+pub extern "C" fn gabro_marks(
     alloc: Global,
     session: &mut CSession,
     file: usize,
@@ -124,7 +129,7 @@ pub extern "C" fn scm_marks(
 /// Writes the text of the line that `key` names to `out`, clipped to its length, and the whole length
 /// in bytes to `written`. Returns the code of the call.
 #[unsafe(no_mangle)]
-pub extern "C" fn scm_line(
+pub extern "C" fn gabro_line(
     alloc: Global,
     session: &mut CSession,
     key: &Key,
@@ -148,7 +153,7 @@ pub extern "C" fn scm_line(
 /// Writes the bytes of the selected side of file `file` if `selected`, or of the other side, to `out`,
 /// clipped to its length, and the whole length in bytes to `written`. Returns the code of the call.
 #[unsafe(no_mangle)]
-pub extern "C" fn scm_side_bytes(
+pub extern "C" fn gabro_side_bytes(
     alloc: Global,
     session: &mut CSession,
     file: usize,

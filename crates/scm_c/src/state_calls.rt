@@ -1,4 +1,4 @@
-//! Calls that make a state and begin a session with it. `include/scm.h` documents each function.
+//! Calls that make a state and begin a session with it. `include/gabrosty.h` documents each function.
 ghost use Rattle.std.specs.Prelude.{◌≡◌, ◌<◌, None, Some, true};
 ghost use Rattle.scm_embed.specs.declared.addition.Addition.TheVariants as additions;
 ghost use Rattle.scm_embed.specs.declared.addition.Part.TheVariants as parts;
@@ -17,7 +17,7 @@ use std::alloc::Global;
 /// Opens `session` over a state without commits and files, which later calls make. If `session` is
 /// open, closes it first. Returns the code of the call.
 #[unsafe(no_mangle)]
-pub extern "C" fn scm_state_new(alloc: Global, session: &mut CSession, is_read_only: bool) -> u32
+pub extern "C" fn gabro_state_new(alloc: Global, session: &mut CSession, is_read_only: bool) -> u32
     ensures code { IsCode true 0 result }
     ensures begun { result ≡ 0
         → IsOpenAt (BeginsState is_read_only) session.new.pointer.value }
@@ -32,7 +32,7 @@ pub extern "C" fn scm_state_new(alloc: Global, session: &mut CSession, is_read_o
 
 /// Adds a commit without a message. Returns the code of the call.
 #[unsafe(no_mangle)]
-pub extern "C" fn scm_state_commit(alloc: Global, session: &mut CSession) -> u32
+pub extern "C" fn gabro_state_commit(alloc: Global, session: &mut CSession) -> u32
     ensures code { IsCode true
         (code_of_addition (Some (additions.Commit None)) session.old.pointer.value) result }
     ensures added { result ≡ 0 → ChangesStage (Builds (additions.Commit None))
@@ -47,7 +47,7 @@ pub extern "C" fn scm_state_commit(alloc: Global, session: &mut CSession) -> u32
 
 /// Adds a commit with the message `text`. Returns the code of the call.
 #[unsafe(no_mangle)]
-pub extern "C" fn scm_state_message(alloc: Global, session: &mut CSession, text: &[u8]) -> u32
+pub extern "C" fn gabro_state_message(alloc: Global, session: &mut CSession, text: &[u8]) -> u32
     ensures code { IsCode true
         (code_of_addition (message_of_bytes text.now) session.old.pointer.value) result }
     ensures added { result ≡ 0 → Adds (message_of_bytes text.now)
@@ -62,7 +62,7 @@ pub extern "C" fn scm_state_message(alloc: Global, session: &mut CSession, text:
 
 /// Adds a file without sections. Returns the code of the call.
 #[unsafe(no_mangle)]
-pub extern "C" fn scm_state_file(
+pub extern "C" fn gabro_state_file(
     alloc: Global,
     session: &mut CSession,
     path: &[u8],
@@ -84,7 +84,7 @@ pub extern "C" fn scm_state_file(
 
 /// Adds the context lines of `text` to the last file. Returns the code of the call.
 #[unsafe(no_mangle)]
-pub extern "C" fn scm_state_context(alloc: Global, session: &mut CSession, text: &[u8]) -> u32
+pub extern "C" fn gabro_state_context(alloc: Global, session: &mut CSession, text: &[u8]) -> u32
     ensures code { IsCode true
         (code_of_addition (context_of_bytes text.now) session.old.pointer.value) result }
     ensures added { result ≡ 0 → Adds (context_of_bytes text.now)
@@ -100,7 +100,7 @@ pub extern "C" fn scm_state_context(alloc: Global, session: &mut CSession, text:
 /// Adds the changed lines of `text` to the last file: added ones if `is_added`, or else removed
 /// ones. Returns the code of the call.
 #[unsafe(no_mangle)]
-pub extern "C" fn scm_state_changes(
+pub extern "C" fn gabro_state_changes(
     alloc: Global,
     session: &mut CSession,
     is_added: bool,
@@ -123,7 +123,7 @@ pub extern "C" fn scm_state_changes(
 /// Adds the line that is the whole of `text` to the last file: a changed line if `is_changed`, or else
 /// a context line. Returns the code of the call.
 #[unsafe(no_mangle)]
-pub extern "C" fn scm_state_line(
+pub extern "C" fn gabro_state_line(
     alloc: Global,
     session: &mut CSession,
     is_changed: bool,
@@ -147,7 +147,11 @@ pub extern "C" fn scm_state_line(
 /// Adds a section without lines to the last file: of changed lines if `is_changed`, or else of
 /// context lines. Returns the code of the call.
 #[unsafe(no_mangle)]
-pub extern "C" fn scm_state_section(alloc: Global, session: &mut CSession, is_changed: bool) -> u32
+pub extern "C" fn gabro_state_section(
+    alloc: Global,
+    session: &mut CSession,
+    is_changed: bool,
+) -> u32
     ensures code { IsCode true
         (code_of_addition (Some (additions.Part (parts.Lines is_changed)))
         session.old.pointer.value) result }
@@ -163,7 +167,7 @@ pub extern "C" fn scm_state_section(alloc: Global, session: &mut CSession, is_ch
 
 /// Adds a section that changes the mode of the last file to `mode`. Returns the code of the call.
 #[unsafe(no_mangle)]
-pub extern "C" fn scm_state_mode(
+pub extern "C" fn gabro_state_mode(
     alloc: Global,
     session: &mut CSession,
     is_checked: bool,
@@ -185,7 +189,7 @@ pub extern "C" fn scm_state_mode(
 
 /// Adds a section that changes the binary contents of the last file. Returns the code of the call.
 #[unsafe(no_mangle)]
-pub extern "C" fn scm_state_binary(
+pub extern "C" fn gabro_state_binary(
     alloc: Global,
     session: &mut CSession,
     is_checked: bool,
@@ -208,7 +212,7 @@ pub extern "C" fn scm_state_binary(
 /// Adds the file that shows how the bytes `old` become the bytes `new`. Each mode is that of a version,
 /// `usize::MAX` of a file that does not exist. Returns the code of the call.
 #[unsafe(no_mangle)]
-pub extern "C" fn scm_state_texts(
+pub extern "C" fn gabro_state_texts(
     alloc: Global,
     session: &mut CSession,
     path: &[u8],
@@ -237,7 +241,7 @@ pub extern "C" fn scm_state_texts(
 /// Begins the session with the state that is made, on a screen of `width` columns and `height` rows.
 /// Returns the code of the call.
 #[unsafe(no_mangle)]
-pub extern "C" fn scm_begin(alloc: Global, session: &mut CSession, width: u16, height: u16) -> u32
+pub extern "C" fn gabro_begin(alloc: Global, session: &mut CSession, width: u16, height: u16) -> u32
     ensures { StartsSession (screen_of width height)
         session.old.pointer.value session.new.pointer.value result }
 {

@@ -1,4 +1,4 @@
-//! Calls that ask for the items of a session's state, and the one that selects an item. `include/scm.h`
+//! Calls that ask for the items of a session's state, and the one that selects an item. `include/gabrosty.h`
 //! documents each function.
 ghost use Rattle.std.specs.Prelude.{◌≡◌, ◌<◌, Some};
 ghost use Rattle.scm_open_session.specs.Questions.{asked_state};
@@ -17,7 +17,7 @@ use std::alloc::Global;
 /// Writes the kind of the file, the section or the line that `key` names to `kind`, and the number of its
 /// parts to `parts`. Returns the code of the call.
 #[unsafe(no_mangle)]
-pub extern "C" fn scm_item(
+pub extern "C" fn gabro_item(
     alloc: Global,
     session: &mut CSession,
     key: &Key,
@@ -41,7 +41,7 @@ pub extern "C" fn scm_item(
 /// Writes the path of file `file`, or if `is_old` its path before a rename or a copy, to `out`, clipped to
 /// its length, and the whole length in bytes to `written`. Returns the code of the call.
 #[unsafe(no_mangle)]
-pub extern "C" fn scm_path(
+pub extern "C" fn gabro_path(
     alloc: Global,
     session: &mut CSession,
     file: usize,
@@ -66,7 +66,7 @@ pub extern "C" fn scm_path(
 /// Selects the item that `key` names, unfolds what it lies in, and scrolls to it. Returns the code of the
 /// call.
 #[unsafe(no_mangle)]
-pub extern "C" fn scm_select(alloc: Global, session: &mut CSession, key: &Key) -> u32
+pub extern "C" fn gabro_select(alloc: Global, session: &mut CSession, key: &Key) -> u32
     ensures code { result ≡ code_of_select (item_of_key key.now) session.old.pointer.value }
     ensures selected { result ≡ 0 → ChangesStage (Selects (item_of_key key.now))
         session.old.pointer.value session.new.pointer.value }

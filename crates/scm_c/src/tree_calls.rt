@@ -21,7 +21,7 @@ use std::alloc::Global;
 /// Writes to `out` the records of what becomes of the paths that the records `rows` have, clipped to the length of `out`,
 /// and their whole length to `written`. Returns the code of the call.
 #[unsafe(no_mangle)]
-pub extern "C" fn scm_decide_rows(
+pub extern "C" fn gabro_decide_rows(
     alloc: Global,
     rows: &[u8],
     out: &mut [u8],
@@ -37,7 +37,7 @@ pub extern "C" fn scm_decide_rows(
 /// Returns the number of what is wrong with the first name of `path` with which something is, or 0 if the path names a file
 /// below the top folder.
 #[unsafe(no_mangle)]
-pub extern "C" fn scm_path_fault(path: &[u8]) -> u32
+pub extern "C" fn gabro_path_fault(path: &[u8]) -> u32
     ensures { result ≡ fault_number (fault_of path.now) }
 {
     path_fault_number(path)
@@ -57,7 +57,7 @@ fn side_told(selected: bool, told: &Side) -> scm_tree_sides::Side
 
 /// Writes to `shown` what a state is to be given of a changed file, whose contents differ if `is_other`.
 #[unsafe(no_mangle)]
-pub extern "C" fn scm_tree_shown(changed: &ChangedBits, is_other: bool, shown: &mut ShownBits)
+pub extern "C" fn gabro_tree_shown(changed: &ChangedBits, is_other: bool, shown: &mut ShownBits)
     ensures { shown.exit.now ≡ shown_bits (shown_as (changed_of changed.now) is_other) }
 {
     *shown = shown_bits(changed, is_other);
@@ -66,7 +66,7 @@ pub extern "C" fn scm_tree_shown(changed: &ChangedBits, is_other: bool, shown: &
 /// Writes to `found` what a tree has of a changed file by a side of it, of which `side` is told: the selected side if
 /// `selected`, or the other one.
 #[unsafe(no_mangle)]
-pub extern "C" fn scm_tree_side(
+pub extern "C" fn gabro_tree_side(
     changed: &ChangedBits,
     selected: bool,
     side: &Side,

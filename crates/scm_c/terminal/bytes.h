@@ -3,7 +3,7 @@
 #ifndef BYTES_H
 #define BYTES_H
 
-#include "scm.h"
+#include "gabrosty.h"
 
 #include <errno.h>
 #include <fcntl.h>
@@ -52,30 +52,30 @@ static inline void end_at(text *text, size_t length) {
 }
 
 /* A call of the library that writes a text. */
-typedef uint32_t reader(scm_session *session, char *out, size_t length, size_t *written);
+typedef uint32_t reader(gabro_session *session, char *out, size_t length, size_t *written);
 
-/* Sets `into` to what `read` writes. Returns its code, or SCM_NO_MEMORY; `into` is empty after any code but SCM_DONE. */
-static inline uint32_t read_session(scm_session *session, reader *read, text *into) {
+/* Sets `into` to what `read` writes. Returns its code, or GABRO_NO_MEMORY; `into` is empty after any code but GABRO_DONE. */
+static inline uint32_t read_session(gabro_session *session, reader *read, text *into) {
     size_t length = FIRST_ROOM;
-    uint32_t code = SCM_NO_MEMORY;
+    uint32_t code = GABRO_NO_MEMORY;
     end_at(into, 0);
     do {
         if (!make_room(into, length)) {
-            return SCM_NO_MEMORY;
+            return GABRO_NO_MEMORY;
         }
         code = read(session, into->bytes, into->room, &length);
-    } while (code == SCM_DONE && length > into->room);
-    end_at(into, code == SCM_DONE ? length : 0);
+    } while (code == GABRO_DONE && length > into->room);
+    end_at(into, code == GABRO_DONE ? length : 0);
     return code;
 }
 
-/* scm_text, as a reader. */
-static inline uint32_t text_of_stage(scm_session *session, char *out, size_t length, size_t *written) {
-    return scm_text(session, out, length, written);
+/* gabro_text, as a reader. */
+static inline uint32_t text_of_stage(gabro_session *session, char *out, size_t length, size_t *written) {
+    return gabro_text(session, out, length, written);
 }
 
 /* Sets `into` to the text of the session's stage, as `read_session` does. */
-static inline uint32_t read_text(scm_session *session, text *into) { return read_session(session, text_of_stage, into); }
+static inline uint32_t read_text(gabro_session *session, text *into) { return read_session(session, text_of_stage, into); }
 
 /* The most bytes that are read of a file. */
 enum { MOST_BYTES = 1 << 30 };

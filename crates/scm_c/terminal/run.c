@@ -1,4 +1,4 @@
-/* scm_run, a session at a terminal: raw mode, new sizes, signals, and the editor of a message. It is a part of the library for C that
+/* gabro_run, a session at a terminal: raw mode, new sizes, signals, and the editor of a message; and gabro_free. It is a part of the library for C that
  * is written in C, over the other calls. No proof covers this file. */
 #define _GNU_SOURCE
 #include "bytes.h"
@@ -14,6 +14,15 @@
 #include <termios.h>
 #include <time.h>
 
+/* The call of the library that `gabro_free` makes. No header declares it, and the shared library does not export it. */
+extern void gabrosty_close(gabro_session *session);
+
+void gabro_free(gabro_session *session) {
+    if (session) {
+        gabrosty_close(session);
+    }
+}
+
 /* Keeps the title; takes the second screen, a title, the mouse, and marks around what is pasted; and gives the terminal back, also
  * where a paint was cut off: an update ends, and symbols wrap. */
 static const char KEEP_TITLE[] = "\x1b[22;2t";
@@ -21,14 +30,16 @@ static const char TITLE[] = "\x1b]2;";
 static const char TAKE[] = " (? for help)\x1b\\\x1b[?1049h\x1b[?25l\x1b[?1000;1006h\x1b[?2004h";
 static const char GIVE_BACK[] = "\x1b[?2026l\x1b[?7h\x1b[0m\x1b[?2004l\x1b[?1000;1006l\x1b[?25h\x1b[?1049l\x1b[23;2t";
 static const char CLEAR[] = "\x1b[0m\x1b[2J";
+/* Is written where nothing has changed: so who types into the program sees that it was heard. */
+static const char NO_CHANGE[] = "\x1b[?2026h\x1b[?2026l";
 
 enum { TAB = 9, CONTROL_L = 12, CONTROL_Z = 26, ESC = 27, SILENCE = 50 /* milliseconds */, MOST_WAITS = 20 /* silences */ };
 
 typedef struct run {
-    scm_session *session;
+    gabro_session *session;
     int terminal;
     const char *title;
-    const scm_hooks *hooks; /* what the program does within the run, or NULL */
+    const gabro_hooks *hooks; /* what the program does within the run, or NULL */
     struct termios settings_before;
     bool is_taken;
     uint16_t width, height; /* of the session's screen; 0 before the first turn */
@@ -255,22 +266,22 @@ static void follow_size(run *run) {
     if (ioctl(run->terminal, TIOCGWINSZ, &size) != 0 || size.ws_col == 0 || size.ws_row == 0) {
         size = (struct winsize){.ws_col = 80, .ws_row = 24};
     }
-    uint16_t width = size.ws_col < SCM_MAX_COLUMNS ? size.ws_col : SCM_MAX_COLUMNS;
-    uint16_t height = size.ws_row < SCM_MAX_ROWS ? size.ws_row : SCM_MAX_ROWS;
+    uint16_t width = size.ws_col < GABRO_MAX_COLUMNS ? size.ws_col : GABRO_MAX_COLUMNS;
+    uint16_t height = size.ws_row < GABRO_MAX_ROWS ? size.ws_row : GABRO_MAX_ROWS;
     bool is_first = run->width == 0;
     if (width != size.ws_col || height != size.ws_row) {
         write_words(run, CLEAR);
     }
-    scm_repaint(run->session);
+    gabro_repaint(run->session);
     if (width == run->width && height == run->height) {
         return;
     }
-    if (scm_resize(run->session, width, height) != SCM_DONE) {
+    if (gabro_resize(run->session, width, height) != GABRO_DONE) {
         is_resized = 1;
         return;
     }
     run->width = width, run->height = height;
-    scm_press(run->session, is_first ? "none" : "ensure", is_first ? 4 : 6);
+    gabro_press(run->session, is_first ? "none" : "ensure", is_first ? 4 : 6);
 }
 
 /* Does what signals asked for. Returns whether every row is to be drawn. */
@@ -293,10 +304,14 @@ static bool follow_terminal(run *run) {
 
 /* Draws what has changed. Returns whether the terminal shows the session; if memory fails, the next turn tries again. */
 static bool draw(run *run) {
-    if (is_resized || read_session(run->session, scm_paint, &run->frame) != SCM_DONE) {
+    if (is_resized || read_session(run->session, gabro_paint, &run->frame) != GABRO_DONE) {
         return false;
     }
-    write_terminal(run, run->frame.bytes, run->frame.length);
+    if (run->frame.length == 0) {
+        write_words(run, NO_CHANGE);
+    } else {
+        write_terminal(run, run->frame.bytes, run->frame.length);
+    }
     return true;
 }
 
@@ -348,14 +363,19 @@ static bool run_editor(const run *run, const char *path) {
     return editor > 0 && WIFEXITED(status) && WEXITSTATUS(status) == 0;
 }
 
-/* Makes the file in which a message is edited, in the folder TMPDIR or /tmp. Returns false with errno set if that fails. */
-static bool make_message(char *path, size_t room, const text *message) {
+/* Returns the folder for temporary files: TMPDIR if that is a whole path, else /tmp. The current folder may be a stranger's. */
+static const char *temporary_folder(void) {
     const char *folder = getenv("TMPDIR");
-    if (snprintf(path, room, "%s/message-XXXXXX", folder && *folder ? folder : "/tmp") >= (int)room) {
+    return folder && *folder == '/' ? folder : "/tmp";
+}
+
+/* Makes the file in which a message is edited. Returns false with errno set if that fails. */
+static bool make_message(char *path, size_t room, const text *message) {
+    if (snprintf(path, room, "%s/message-XXXXXX", temporary_folder()) >= (int)room) {
         errno = ENAMETOOLONG;
         return false;
     }
-    int file = mkstemp(path);
+    int file = mkostemp(path, O_CLOEXEC);
     bool is_written = file >= 0 && write_bytes(file, message->bytes, message->length);
     int error = errno;
     if (file >= 0) {
@@ -397,7 +417,7 @@ static void tell(run *run, const char *why) {
 /* Returns what a code says, until the next call. */
 static const char *words_of(uint32_t code) {
     static char words[256];
-    words[scm_words(code, words, sizeof words - 1)] = 0;
+    words[gabro_words(code, words, sizeof words - 1)] = 0;
     return words;
 }
 
@@ -407,13 +427,13 @@ static void answer(run *run, const text *message) {
     ignore_keys_of_signals(true);
     const char *why = edit_text(run, message, &edited);
     ignore_keys_of_signals(false);
-    uint32_t code = why ? SCM_NOT_NOW : scm_answer(run->session, edited.bytes, edited.length);
+    uint32_t code = why ? GABRO_NOT_NOW : gabro_answer(run->session, edited.bytes, edited.length);
     free(edited.bytes);
-    if (code != SCM_DONE) {
+    if (code != GABRO_DONE) {
         tell(run, why ? why : words_of(code));
-        code = scm_answer(run->session, message->bytes, message->length);
+        code = gabro_answer(run->session, message->bytes, message->length);
     }
-    if (code != SCM_DONE) {
+    if (code != GABRO_DONE) {
         run->error = ENOMEM;
     }
 }
@@ -421,7 +441,7 @@ static void answer(run *run, const text *message) {
 /* Lets the user edit the message that the session waits for, on the main screen. A stop there stops this program too. */
 static void edit_message(run *run) {
     text message = {0};
-    if (read_text(run->session, &message) == SCM_DONE) {
+    if (read_text(run->session, &message) == GABRO_DONE) {
         give_back(run);
         handle(STOP, SIG_DFL);
         answer(run, &message);
@@ -459,9 +479,9 @@ static void tell_rest(const run *run) {
 /* Handles a key of the run's own, by its code: Tab shows both commits, ctrl-l draws every row, and ctrl-z stops. */
 static void press_own_key(run *run, uint32_t key) {
     if (key == TAB) {
-        scm_press(run->session, "view", 4);
+        gabro_press(run->session, "view", 4);
     } else if (key == CONTROL_L) {
-        scm_repaint(run->session);
+        gabro_repaint(run->session);
     } else if (key == CONTROL_Z) {
         stop(run);
     } else {
@@ -474,7 +494,7 @@ static void press_own_key(run *run, uint32_t key) {
 static size_t hear_to_key(run *run, const char *bytes, size_t count) {
     size_t taken = count;
     uint32_t key = 0;
-    if (scm_type_to_key(run->session, bytes, count, &taken, &key) != SCM_DONE) {
+    if (gabro_type_to_key(run->session, bytes, count, &taken, &key) != GABRO_DONE) {
         return count;
     }
     press_own_key(run, key);
@@ -483,10 +503,10 @@ static size_t hear_to_key(run *run, const char *bytes, size_t count) {
 
 /* Hands in what was typed, in order. What comes after the key that opens the editor, or ends the session, is dropped. */
 static void hear(run *run, const char *bytes, size_t count) {
-    for (size_t heard = 0; heard < count && scm_stage(run->session) == SCM_WAITING;) {
+    for (size_t heard = 0; heard < count && gabro_stage(run->session) == GABRO_WAITING;) {
         heard += hear_to_key(run, bytes + heard, count - heard);
     }
-    while (scm_stage(run->session) == SCM_EDITING && !run->error) {
+    while (gabro_stage(run->session) == GABRO_EDITING && !run->error) {
         edit_message(run);
     }
 }
@@ -498,7 +518,7 @@ static void hear(run *run, const char *bytes, size_t count) {
 static void take_turns(run *run) {
     char bytes[4096];
     bool is_drawn = false, is_cut = false, was_silent = true;
-    while (scm_stage(run->session) == SCM_WAITING && !ended_by && !run->error) {
+    while (gabro_stage(run->session) == GABRO_WAITING && !ended_by && !run->error) {
         bool is_silent;
         is_drawn = !follow_terminal(run) && is_drawn;
         is_drawn = is_drawn || draw(run);
@@ -513,7 +533,7 @@ static void take_turns(run *run) {
             is_drawn = is_cut = bytes[count - 1] == ESC;
             was_silent = false;
         } else if (is_silent) {
-            scm_idle(run->session);
+            gabro_idle(run->session);
             tell_change(run);
             tell_rest(run);
             is_drawn = is_drawn && !is_cut;
@@ -552,9 +572,9 @@ static int run_alone(run *run) {
     return ended_by ? ended_by : run->error ? -1 : 0;
 }
 
-int scm_run(scm_session *session, int terminal, const char *title) { return scm_run_with(session, terminal, title, NULL); }
+int gabro_run(gabro_session *session, int terminal, const char *title) { return gabro_run_with(session, terminal, title, NULL); }
 
-int scm_run_with(scm_session *session, int terminal, const char *title, const scm_hooks *hooks) {
+int gabro_run_with(gabro_session *session, int terminal, const char *title, const gabro_hooks *hooks) {
     /* the actions of signals, and what handlers have seen, are those of the process */
     static atomic_flag is_running = ATOMIC_FLAG_INIT;
     run run = {.session = session, .terminal = terminal, .title = title_of(title), .hooks = hooks};

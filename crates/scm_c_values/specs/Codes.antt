@@ -32,12 +32,12 @@ pub data IsCode (needs_memory : Bool) (code : ℕ) : ℕ → Type 0 where
   known : IsCode needs_memory code code
   no_memory : IsTrue needs_memory → IsCode needs_memory code 8
 
--- The code of `scm_new` for the state that the JSON is the form of, if any.
+-- The code of `gabro_new` for the state that the JSON is the form of, if any.
 abbrev pub code_of_form : Option RecordState → ℕ
 code_of_form None = 5
 code_of_form (Some given) = if is_accepted_state given then 0 else 6
 
--- The code of `scm_new` for the bytes of a JSON text.
+-- The code of `gabro_new` for the bytes of a JSON text.
 abbrev pub code_of_json : List ℕ → ℕ
 code_of_json json = if is_utf8 json then code_of_form (option_and_then state_of (read json)) else 4
 

@@ -1,5 +1,5 @@
 -- Synchronized updates for the terminal.
-use Rattle.std.specs.Prelude.{◌≡◌, ℕ, List, ◌∷◌, ◌++◌, codes}
+use Rattle.std.specs.Prelude.{◌≡◌, ℕ, List, [], ◌∷◌, ◌++◌, codes}
 use Rattle.scm_terminal.specs.StyledCell.{StyledCell}
 use Rattle.scm_terminal.specs.Promise.{Paints}
 use Rattle.scm_terminal.specs.Style.{style_bytes}
@@ -9,9 +9,11 @@ use Rattle.scm_record.specs.Headline.{IsInline}
 use Rattle.scm_record.specs.Live.{Live}
 use Rattle.scm_record.specs.Painted.{picture_of, window_picture_of}
 
--- The bytes as one synchronized update, between `ESC [ ? 2026 h` and `ESC [ ? 2026 l`. No style is set at its end.
+-- The bytes as one synchronized update, between `ESC [ ? 2026 h` and `ESC [ ? 2026 l`. No style is set at its end. Without a byte there is
+-- nothing to update.
 abbrev pub as_update : List ℕ → List ℕ
-as_update bytes = (27 ∷ codes "[?2026h") ++ (bytes ++ (style_bytes plain ++ (27 ∷ codes "[?2026l")))
+as_update [] = []
+as_update (byte ∷ bytes) = (27 ∷ codes "[?2026h") ++ ((byte ∷ bytes) ++ (style_bytes plain ++ (27 ∷ codes "[?2026l")))
 
 -- On a terminal of the screen's size that shows the rows `last`, the update shows the session with its styles. If `last` is
 -- empty, the terminal may show anything.

@@ -45,7 +45,7 @@ impl Session {
         let _running = only_run()?;
         // SAFETY: the handle is this session's alone, the title ends in a NUL, and the file stays open as long as `terminal` is
         // borrowed. No other thread is in this call.
-        match unsafe { ffi::scm_run(self.at(), terminal, title.as_ptr()) } {
+        match unsafe { ffi::gabro_run(self.at(), terminal, title.as_ptr()) } {
             0 => Ok(()),
             number if number > 0 => {
                 // SAFETY: any number may be raised.

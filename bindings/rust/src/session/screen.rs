@@ -108,7 +108,7 @@ impl Session {
             let out = text.as_mut_ptr().cast();
             // SAFETY: both buffers have room for as much as their lengths say.
             done(unsafe {
-                ffi::scm_cells(self.at(), cells.as_mut_ptr(), count, out, room, &mut info)
+                ffi::gabro_cells(self.at(), cells.as_mut_ptr(), count, out, room, &mut info)
             })?;
             cells.resize(info.columns * info.rows, ffi::Cell::default());
             text.resize(info.length, 0);

@@ -1,6 +1,6 @@
 use Rattle.std.proofs.Common.{refl}
 use Rattle.scm_c_values.specs.Codes.{IsCode}
-use Rattle.scm_c.proofs.merge_calls.scm_merge_texts.Goals as goal
+use Rattle.scm_c.proofs.merge_calls.gabro_merge_texts.Goals as goal
 
 pub returns-in_default-clause-code : goal.returns-in_default-clause-code
 returns-in_default-clause-code c = IsCode.no_memory refl

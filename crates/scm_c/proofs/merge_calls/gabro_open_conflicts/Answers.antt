@@ -1,7 +1,7 @@
 use Rattle.std.proofs.Common.{Option, refl, subst}
 use Rattle.scm_merge_records.specs.declared.result.Merged.{Merged}
 use Rattle.scm_merge_records.specs.Marked.{IsMergedByMarks}
-use Rattle.scm_c.proofs.merge_calls.scm_open_conflicts.Goals as goal
+use Rattle.scm_c.proofs.merge_calls.gabro_open_conflicts.Goals as goal
 
 pub returns-in-Some-clause-open : goal.returns-in-Some-clause-open
 returns-in-Some-clause-open c = λ _. record {
