@@ -72,11 +72,8 @@ def left_marks(path, changes):
 
 
 def side_in(file, side, change):
-    """Returns the mode that a side has at each path of a file, and the side's bytes, by the records of the file. Contents that are one
-    item are those of a version."""
-    version = file.get(side + "-version")
-    if version:
-        return change.version_in_place({b"old": False, b"new": True}[version])
+    """Returns the mode that a side has at each path of a file, and the side's bytes, by the records of the file. Contents may be named
+    by the version that has them."""
     modes = [file.get("%s-%s" % (side, word), ABSENT.encode()).decode("ascii") for word in change.modes]
     versions = {b"old": change.old_data, b"new": change.new_data}
     return modes, file[side] if side in file else versions[file[side + "-is"]]

@@ -91,10 +91,6 @@ class Change:
         """Returns the change of each of its paths by itself."""
         return (self,)
 
-    def version_in_place(self, is_new):
-        """Returns the mode at each of its paths, and the bytes, where the new or the old version is in place."""
-        return ([self.new.mode], self.new_data) if is_new else ([self.old.mode], self.old_data)
-
 
 class Renamed(Change):
     """A file that has another path by now, shown as one file: its path is an item. `gone` and `come` are the changes of the old path
@@ -116,9 +112,6 @@ class Renamed(Change):
 
     def paths(self):
         return self.gone, self.come
-
-    def version_in_place(self, is_new):
-        return ([ABSENT, self.new.mode], self.new_data) if is_new else ([self.old.mode, ABSENT], self.old_data)
 
 
 class Choice(collections.namedtuple("Choice", "change mode data")):

@@ -1,8 +1,10 @@
-"""Which files of a choice are left out, and what becomes of each path. No Python decides it: scm-select does, by the library."""
+"""Which files of a choice are left out, and what becomes of each path. No Python decides it: scm-select does, by the library. A version of
+a path is its mode with its bytes."""
 import collections
 import os
 import subprocess
 
+from .change import ABSENT as NO_FILE
 from .front_end import own_front_end
 from .git import reason_in, run_to_end, split_by_zeros
 from .words import Stop, shown
@@ -41,6 +43,18 @@ class Decided:
     def is_taken(self, row):
         """Whether the path of `row` has what its marks ask for."""
         return self.outcomes[row.path] == row.wanted
+
+
+def row_of(path, now, goal, wanted, file):
+    """Returns the row of a shown path, by the version that is there now, the one that is there once everything is marked, and the one
+    that the marks ask for."""
+    letter = ABSENT if wanted[0] == NO_FILE else NOW if wanted == now else GOAL if wanted == goal else CHOSEN
+    return Row(path, now[0] != NO_FILE, goal[0] != NO_FILE, letter, file)
+
+
+def version_by(letter, now, goal, wanted):
+    """Returns the version of a path that was decided, by its letter: one of those of its row."""
+    return {ABSENT: (NO_FILE, b""), NOW: now, GOAL: goal, CHOSEN: wanted}[letter]
 
 
 def given_of(rows):

@@ -13,7 +13,7 @@ from .terminal import Kept
 from .words import Stop, shown, words_of
 
 HERE = os.path.dirname(os.path.realpath(__file__))
-# where it lies beside an installed program, and else what builds it
+# where it lies beside an installed program, and what builds it in a tree
 INSTALLED, BUILDS = os.path.join(HERE, "../../../bin/scm-select"), os.path.join(HERE, "../../tools/select")
 AT_ONCE = 1_000_000  # how many bytes are written at once
 STATUSES = ACCEPTED, GIVEN_UP, FAILED = 0, 1, 2  # a front end that failed has said why
@@ -33,7 +33,8 @@ KEYS = """Keys:
   c                         accepts what is marked
   q                         gives up; asks first if something is marked or a
                             message is not empty (then Enter quits, and q goes
-                            back)
+                            back); with the layer the programs do not ask where
+                            no mark and no message was changed
   ?                         opens or closes the help, which names the keys
   /                         searches for a text, downwards
   n, N                      searches for it again, downwards or upwards
@@ -58,8 +59,9 @@ man page of scm-select has their form, and says how to choose colours (SELECT_TH
 
 
 def own_front_end():
-    """Returns the command of scm-select as it is installed with this program, else as the tree builds it."""
-    return [INSTALLED if os.path.exists(INSTALLED) else BUILDS]
+    """Returns the command of scm-select as the tree of this program builds it, else as it is installed with it: beside a tree others may
+    have put a program."""
+    return [BUILDS if os.path.exists(BUILDS) else INSTALLED]
 
 
 def front_end():

@@ -18,16 +18,21 @@ def check_own(found):
         raise PermissionError(errno.EPERM, "it lies in a folder of another user")
 
 
-class Made(Named):
-    """The folder that a path names. It is made for this user alone if it is not there, and so are those above it. Raises PermissionError if
-    it is another user's, or lies in a folder of theirs that was to be made, or if a link of theirs leads to it."""
+class Owned(Named):
+    """The folder that a path names. Raises PermissionError if it is another user's, or if a link of theirs leads to it."""
 
     def __init__(self, path):
         super().__init__(path)
+        self.check_is_folder()
         check_own(os.fstat(self.at))
 
     def check(self, found):
         check_own(found)
+
+
+class Made(Owned):
+    """The same folder, which is made for this user alone if it is not there, and so are those above it. Raises PermissionError too if one
+    would be made in a folder of another user."""
 
     def step(self, name):
         super().step(name)
@@ -115,17 +120,27 @@ class UserRoom(Room):
     """The folder for plans in the user's own state folder, whose name is `folder`."""
 
     def __init__(self, place):
-        folder = os.environ.get("XDG_STATE_HOME", "")
-        folder = folder if os.path.isabs(folder) else os.path.expanduser("~/.local/state")
+        folder, self.home = os.environ.get("XDG_STATE_HOME", ""), None
+        if not os.path.isabs(folder):
+            self.home, folder = (os.path.expanduser(path) for path in ("~", "~/.local/state"))
         super().__init__(os.path.join(folder, NAME), place, ANOTHER_STATE)
 
-    def make(self):
+    def go_to(self, kind):
+        """Opens the folder around it, as an Owned or a Made one. Raises OSError if another user can have put it there."""
         self.check_absolute()
+        if self.home:
+            with contextlib.suppress(FileNotFoundError):
+                check_own(os.stat(self.home))
         above, self.name = os.path.split(self.path)
-        self.above = Made(above).at
+        self.above = kind(above).at
+
+    def make(self):
+        self.go_to(Made)
         super().make()
 
     def open(self):
+        if self.above is None:
+            self.go_to(Owned)
         folder = super().open()
         # a folder that git has checked out can be read by others, as most users have set their mask
         if os.fstat(folder).st_mode & 0o077:

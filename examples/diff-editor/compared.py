@@ -6,7 +6,7 @@ import stat
 
 from choosing.change import ABSENT, LINK, digest_of
 from choosing.cut_off import names_within
-from choosing.decided import ABSENT as NOTHING, CHOSEN, KEPT, Row, decide
+from choosing.decided import GOAL, KEPT, Row, decide, row_of, version_by
 from choosing.files import ABSENT_SIDE, Files
 from choosing.folders import MOST_BYTES, TOO_LARGE, below
 from choosing.git import Git
@@ -185,48 +185,51 @@ class Folders:
         return data[:MOST_INSTRUCTIONS].decode(errors="replace") if is_file else ""
 
     def entries(self, choices):
-        """Returns the path of each file that is to be changed, with what it is and what it is to be (see Files.change)."""
-        if self.target is self.right:
-            return [(change.path, (change.new.mode, change.new_data), (mode, data)) for change, mode, data in choices]
+        """Returns the path of each file that is to be changed, with what it is and what it is to be (see Files.change). Stops if a file
+        would have to lie in another one: what one needs the removal of is not chosen."""
         wanted = {path: new for path, (_, new) in self.pairs.items()}
         wanted.update((change.path, (mode, data)) for change, mode, data in choices)
+        decided = decide(self.rows(wanted))
+        for paths in sorted(map(sorted, decided.left_out.values())):
+            raise Stop("%s and %s cannot both be there, as what is marked asks for" % tuple(map(shown, paths)))
         entries, total = [], 0
-        # what was left out, also by LEFT alone, is neither
-        for path in sorted({*self.digests, *wanted}):
-            added = self.entry(path, wanted.get(path))
+        # what was left out, also by LEFT alone, is not among them
+        for path in sorted({*decided.outcomes, *(self.digests or ())}):
+            added = self.entry(path, decided.outcomes.get(path), wanted.get(path))
             entries += added
             total += sum(bytes_in(sides) for _, *sides in added)
-            if total > MOST_IN_ALL:
+            if self.digests is not None and total > MOST_IN_ALL:
                 raise Stop("%s cannot be written: OUTPUT would be given more than %s bytes" % (shown(path), format(MOST_IN_ALL, ",")))
         return entries
+
+    def rows(self, wanted):
+        """Returns the rows of all paths: LEFT is what is there now, and all of it marked is RIGHT. OUTPUT gets what both have alike. What
+        was left out stays."""
+        rows = [row_of(path, *sides, wanted[path], path) for path, sides in self.pairs.items()]
+        alike = {path for path, (mode, _) in (self.digests or {}).items() if mode != ABSENT}
+        others = (path for path in self.there if path not in self.pairs and path not in (self.digests or ()))
+        rows += [Row(path, path in self.there, True, GOAL, path) for path in sorted(alike)]
+        return [*rows, *(Row(path, True, False, KEPT, None) for path in others)]
+
+    def entry(self, path, letter, wanted):
+        """Returns the entry of a path, if it is to be changed: to the version that was decided (`letter`), which may be the one that its
+        marks ask for. OUTPUT gets what LEFT and RIGHT have alike, and loses what neither has."""
+        now = self.pairs[path][1] if self.target is self.right else self.target.read(path)[0]
+        version = version_by(letter, *self.pairs[path], wanted) if path in self.pairs else self.alike(path)
+        return [(path, now, version)] if now != version else []
+
+    def alike(self, path):
+        """Returns what LEFT and RIGHT have both at a path."""
+        version, self.sources[path] = self.right.read(path)
+        if digest_of(version) != self.digests[path]:
+            raise Stop("%s changed meanwhile" % shown(path))
+        return version
 
     def folders_for(self, entries):
         """Returns the permissions that a folder may have which is made for `entries`, by path."""
         paths = [path for path, old, _ in entries if old[0] == ABSENT]
         old, new = (files.folders_above(paths) for files in (self.left, self.right))
         return {path: permissions_of_both(old.get(path), new.get(path)) for path in {**old, **new}}
-
-    def entry(self, path, wanted):
-        """Returns the entry of a path of OUTPUT, if it is to be changed: to what is `wanted`, or else to what RIGHT has."""
-        now = self.target.read(path)[0]
-        if wanted is None:
-            wanted, self.sources[path] = self.right.read(path)
-            if digest_of(wanted) != self.digests[path]:
-                raise Stop("%s changed meanwhile" % shown(path))
-        return [(path, now, wanted)] if now != wanted else []
-
-    def check_fits(self, entries):
-        """Stops if a file would have to lie in another one: what one needs the removal of is not chosen."""
-        for paths in sorted(map(sorted, decide(self.rows(entries)).left_out.values())):
-            raise Stop("%s and %s cannot both be there, as what is marked asks for" % tuple(map(shown, paths)))
-
-    def rows(self, entries):
-        """Returns the rows of all paths: LEFT is what is there now, and all of it marked is RIGHT. What does not differ stays."""
-        wanted = {path: new[0] != ABSENT for path, _, new in entries}
-        rows = [Row(path, old[0] != ABSENT, new[0] != ABSENT, CHOSEN if wanted.get(path, path in self.there) else NOTHING, path)
-                for path, (old, new) in self.pairs.items()]
-        others = (path for path in self.there if path not in self.pairs and wanted.get(path, True))
-        return [*rows, *(Row(path, True, False, KEPT, None) for path in others)]
 
     def is_copied_back(self):
         """Whether hg copies RIGHT back, file by file."""
@@ -276,14 +279,16 @@ class TwoFiles:
         return ""
 
     def entries(self, choices):
-        wanted = next(((mode, data) for _, mode, data in choices), self.pair[1])
-        return [(self.target_name, self.now, wanted)] if self.now != wanted else []
+        old, new = self.pair
+        wanted = next(((mode, data) for _, mode, data in choices), new)
+        rows = [row_of(self.target_name, old, new, wanted, self.target_name)] if old != new else []
+        outcomes = decide(rows).outcomes.values()
+        # OUTPUT gets what both have alike
+        version = next((version_by(letter, old, new, wanted) for letter in outcomes), new)
+        return [(self.target_name, self.now, version)] if self.now != version else []
 
     def folders_for(self, entries):
         return {}
-
-    def check_fits(self, entries):
-        pass
 
     def is_copied_back(self):
         return False

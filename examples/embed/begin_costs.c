@@ -5,7 +5,7 @@
  * meanwhile, with 8 bytes for each block. The status is 1 if that is more than three times the bytes of the texts and 64 bytes for
  * each line. Link it with -Wl,--wrap=malloc,--wrap=realloc,--wrap=free. */
 #define _XOPEN_SOURCE 700
-#include "scm.h"
+#include "gabrosty.h"
 
 #include <malloc.h>
 #include <stdio.h>
@@ -81,15 +81,15 @@ static char *text_of(size_t lines, size_t bytes, bool is_json) {
     return text;
 }
 
-static bool add_lines(scm_session *session, const char *text, size_t length, bool is_each) {
+static bool add_lines(gabro_session *session, const char *text, size_t length, bool is_each) {
     while (is_each && length > 0) {
         size_t line = (size_t)((const char *)memchr(text, '\n', length) + 1 - text);
-        if (scm_state_changes(session, true, false, text, line) != SCM_DONE) {
+        if (gabro_state_changes(session, true, false, text, line) != GABRO_DONE) {
             return false;
         }
         text += line, length -= line;
     }
-    return scm_state_changes(session, true, false, text, length) == SCM_DONE;
+    return gabro_state_changes(session, true, false, text, length) == GABRO_DONE;
 }
 
 /* How many bytes the first `count` lines have. */
@@ -102,18 +102,18 @@ static size_t first_lines(const char *text, size_t length, size_t count) {
 }
 
 /* Adds the lines in sections of `count` lines, or in one section if that is 0. */
-static bool add_sections(scm_session *session, const char *text, size_t length, bool is_each, size_t count) {
+static bool add_sections(gabro_session *session, const char *text, size_t length, bool is_each, size_t count) {
     bool is_well = true;
     while (length > 0 && is_well) {
         size_t section = count ? first_lines(text, length, count) : length;
-        is_well = scm_state_section(session, true) == SCM_DONE && add_lines(session, text, section, is_each);
+        is_well = gabro_state_section(session, true) == GABRO_DONE && add_lines(session, text, section, is_each);
         text += section, length -= section;
     }
     return is_well;
 }
 
 int main(int argc, char **argv) {
-    scm_session session = {0};
+    gabro_session session = {0};
     const char *how = argc > 1 ? argv[1] : "calls";
     size_t lines = argc > 2 ? strtoul(argv[2], NULL, 10) : 0, bytes = argc > 3 ? strtoul(argv[3], NULL, 10) : 0;
     size_t count = argc > 4 ? strtoul(argv[4], NULL, 10) : 0;
@@ -125,12 +125,12 @@ int main(int argc, char **argv) {
     size_t length = strlen(text), before = in_use;
     most_in_use = in_use;
     double begun = now();
-    bool is_well = is_json ? scm_new(&session, given, strlen(given), 80, 24) == SCM_DONE
-        : scm_state_new(&session, false) == SCM_DONE && scm_state_file(&session, "f", 1, "", 0, 0100644) == SCM_DONE
-            && add_sections(&session, text, length, strcmp(how, "lines") == 0, count) && scm_begin(&session, 80, 24) == SCM_DONE;
+    bool is_well = is_json ? gabro_new(&session, given, strlen(given), 80, 24) == GABRO_DONE
+        : gabro_state_new(&session, false) == GABRO_DONE && gabro_state_file(&session, "f", 1, "", 0, 0100644) == GABRO_DONE
+            && add_sections(&session, text, length, strcmp(how, "lines") == 0, count) && gabro_begin(&session, 80, 24) == GABRO_DONE;
     double ended = now();
     size_t most = most_in_use - before, limit = 3 * length + 64 * lines;
     printf("%s: %zu lines, %zu bytes, %.1f ms, %zu bytes of memory, with a limit of %zu\n", how, lines, length, ended - begun, most, limit);
-    scm_free(&session);
+    gabro_free(&session);
     return is_well && (is_json || most <= limit) ? 0 : 1;
 }

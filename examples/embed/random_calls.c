@@ -1,12 +1,12 @@
-/* random_calls COUNT SEED: makes COUNT random calls of the library for C, and holds each answer to what scm.h says of it.
+/* random_calls COUNT SEED: makes COUNT random calls of the library for C, and holds each answer to what gabrosty.h says of it.
  *
  * The calls are of every kind, at every stage: half-made states, words and bytes of terminals, clicks, sizes from 0 on, answers, layers,
  * buffers that are too short, and some are made while memory is refused. A call that is refused must leave the state as it was:
  * the answers about it are compared. Each other call is made of a twin, too, which has all its memory: then both have the same answers.
- * First each request for memory of one call of `scm_state_texts` is refused in turn. It prints how many calls had each code, and stops at
+ * First each request for memory of one call of `gabro_state_texts` is refused in turn. It prints how many calls had each code, and stops at
  * the first answer that is otherwise. */
 #undef NDEBUG
-#include "scm.h"
+#include "gabrosty.h"
 
 #include <assert.h>
 #include <inttypes.h>
@@ -30,11 +30,11 @@ void *__wrap_realloc(void *block, size_t size) { return is_refused() ? NULL : __
 enum { CAN_REFUSE = false };
 #endif
 
-static scm_session session, twin;
+static gabro_session session, twin;
 static uint64_t seed;
 static unsigned long counts[CODES];
 static bool may_lack_memory;
-static bool has_labels; /* headers may show labels, which `scm_symbol` does not tell */
+static bool has_labels; /* headers may show labels, which `gabro_symbol` does not tell */
 static char long_text[LONGEST + 2];
 
 static uint32_t random_below(uint32_t limit) {
@@ -61,11 +61,11 @@ static void check_buffer(const char *out, size_t room, size_t length, bool is_wr
 
 static uint64_t side_sum(uint64_t sum, size_t file, bool selected) {
     static char out[ROOM];
-    scm_side_info side = {77, 77, 77};
+    gabro_side_info side = {77, 77, 77};
     memset(out, GUARD, sizeof out);
-    uint32_t code = scm_side(&session, file, selected, out, ROOM, &side);
-    assert(code == SCM_DONE);
-    assert(side.contents <= SCM_SIDE_BINARY && (side.length == 0 || side.contents == SCM_SIDE_TEXT));
+    uint32_t code = gabro_side(&session, file, selected, out, ROOM, &side);
+    assert(code == GABRO_DONE);
+    assert(side.contents <= GABRO_SIDE_BINARY && (side.length == 0 || side.contents == GABRO_SIDE_TEXT));
     check_buffer(out, ROOM, side.length, true);
     sum = mixed(sum, &side.contents, sizeof side.contents);
     sum = mixed(mixed(sum, &side.mode, sizeof side.mode), &side.length, sizeof side.length);
@@ -77,43 +77,43 @@ static uint64_t all_marks_sum(uint64_t sum, size_t file, uint32_t mark) {
     char marks[ROOM];
     size_t count = 77, checked = 0;
     memset(marks, GUARD, sizeof marks);
-    uint32_t code = scm_marks(&session, file, marks, sizeof marks, &count);
-    assert(code == SCM_DONE);
+    uint32_t code = gabro_marks(&session, file, marks, sizeof marks, &count);
+    assert(code == GABRO_DONE);
     check_buffer(marks, ROOM, count, true);
     for (size_t i = 0; i < count && i < sizeof marks; i++) {
         assert(marks[i] == 0 || marks[i] == 1);
         checked += marks[i] == 1;
     }
-    assert(count > sizeof marks || mark == (checked == 0 ? SCM_UNCHECKED : checked == count ? SCM_CHECKED : SCM_PARTLY));
+    assert(count > sizeof marks || mark == (checked == 0 ? GABRO_UNCHECKED : checked == count ? GABRO_CHECKED : GABRO_PARTLY));
     return mixed(sum, marks, count < sizeof marks ? count : sizeof marks);
 }
 
 static uint64_t marks_sum(uint64_t sum, size_t file) {
     uint32_t mark = 77;
-    scm_key key = {0, file, SCM_NO_INDEX, SCM_NO_INDEX};
-    assert(scm_mark(&session, &key, &mark) == SCM_DONE && mark <= SCM_CHECKED);
+    gabro_key key = {0, file, GABRO_NO_INDEX, GABRO_NO_INDEX};
+    assert(gabro_mark(&session, &key, &mark) == GABRO_DONE && mark <= GABRO_CHECKED);
     sum = all_marks_sum(mixed(sum, &mark, sizeof mark), file, mark);
     for (key.section = 0; key.section < 4; key.section++) {
         for (key.line = 0; key.line < 4; key.line++) {
-            uint32_t code = scm_mark(&session, &key, &mark);
-            assert(code == SCM_DONE || code == SCM_NO_ITEM);
+            uint32_t code = gabro_mark(&session, &key, &mark);
+            assert(code == GABRO_DONE || code == GABRO_NO_ITEM);
             sum = mixed(mixed(sum, &code, sizeof code), &mark, sizeof mark);
             size_t length = 77;
             char text[ROOM];
-            uint32_t code_of_line = scm_line(&session, &key, text, sizeof text, &length);
-            assert(code_of_line == SCM_DONE || (code_of_line == SCM_NO_ITEM && length == 77 && code == SCM_NO_ITEM));
-            sum = code_of_line == SCM_DONE ? mixed(sum, text, length < sizeof text ? length : sizeof text) : sum;
+            uint32_t code_of_line = gabro_line(&session, &key, text, sizeof text, &length);
+            assert(code_of_line == GABRO_DONE || (code_of_line == GABRO_NO_ITEM && length == 77 && code == GABRO_NO_ITEM));
+            sum = code_of_line == GABRO_DONE ? mixed(sum, text, length < sizeof text ? length : sizeof text) : sum;
         }
     }
     return sum;
 }
 
 /* Asks what an item is. It is there if `is_there`, and else nothing is written. Returns its number of parts. */
-static size_t parts_of(uint64_t *sum, const scm_key *key, bool is_there) {
+static size_t parts_of(uint64_t *sum, const gabro_key *key, bool is_there) {
     uint32_t kind = 77;
     size_t parts = 0;
-    uint32_t code = scm_item(&session, key, &kind, &parts);
-    assert(code == (is_there ? SCM_DONE : SCM_NO_ITEM) && (is_there ? kind >= SCM_FILE && kind <= SCM_BINARY : kind == 77 && parts == 0));
+    uint32_t code = gabro_item(&session, key, &kind, &parts);
+    assert(code == (is_there ? GABRO_DONE : GABRO_NO_ITEM) && (is_there ? kind >= GABRO_FILE && kind <= GABRO_BINARY : kind == 77 && parts == 0));
     *sum = mixed(mixed(*sum, &kind, sizeof kind), &parts, sizeof parts);
     return parts;
 }
@@ -123,14 +123,14 @@ static uint64_t structure_sum(uint64_t sum, size_t file) {
     char path[ROOM];
     size_t length = 77;
     for (int is_old = 0; is_old < 2; is_old++) {
-        uint32_t code = scm_path(&session, file, is_old, path, sizeof path, &length);
-        assert(code == SCM_DONE || (is_old && code == SCM_NO_ITEM));
-        sum = code == SCM_DONE ? mixed(sum, path, length < sizeof path ? length : sizeof path) : sum;
+        uint32_t code = gabro_path(&session, file, is_old, path, sizeof path, &length);
+        assert(code == GABRO_DONE || (is_old && code == GABRO_NO_ITEM));
+        sum = code == GABRO_DONE ? mixed(sum, path, length < sizeof path ? length : sizeof path) : sum;
     }
-    scm_key key = {0, file, SCM_NO_INDEX, SCM_NO_INDEX};
+    gabro_key key = {0, file, GABRO_NO_INDEX, GABRO_NO_INDEX};
     size_t sections = parts_of(&sum, &key, true);
     for (key.section = 0; key.section < 4; key.section++) {
-        key.line = SCM_NO_INDEX;
+        key.line = GABRO_NO_INDEX;
         size_t lines = parts_of(&sum, &key, key.section < sections);
         for (key.line = 0; key.line < 4; key.line++) {
             size_t none = parts_of(&sum, &key, key.line < lines);
@@ -142,33 +142,33 @@ static uint64_t structure_sum(uint64_t sum, size_t file) {
 
 /* What can be asked of a session: its stage, and of its state the files, their items, sides, marks and messages. */
 static uint64_t asked(void) {
-    uint32_t stage = scm_stage(&session), code;
+    uint32_t stage = gabro_stage(&session), code;
     uint64_t sum = mixed(0, &stage, sizeof stage);
-    uint32_t end = scm_end(&session);
-    assert(end <= SCM_END_NO_MEMORY && (end == SCM_END_ACCEPTED) == (stage == SCM_ACCEPTED));
-    assert((end >= SCM_END_CANCELLED) == (stage == SCM_ENDED));
-    scm_key selected;
-    code = scm_selected(&session, &selected);
-    assert(code == (stage == SCM_WAITING ? SCM_DONE : stage == SCM_NONE ? SCM_CLOSED : SCM_NOT_NOW));
+    uint32_t end = gabro_end(&session);
+    assert(end <= GABRO_END_NO_MEMORY && (end == GABRO_END_ACCEPTED) == (stage == GABRO_ACCEPTED));
+    assert((end >= GABRO_END_CANCELLED) == (stage == GABRO_ENDED));
+    gabro_key selected;
+    code = gabro_selected(&session, &selected);
+    assert(code == (stage == GABRO_WAITING ? GABRO_DONE : stage == GABRO_NONE ? GABRO_CLOSED : GABRO_NOT_NOW));
     size_t count = 77, length;
     char out[ROOM];
-    code = scm_files(&session, &count);
-    bool has_state = stage == SCM_BUILDING || stage == SCM_WAITING || stage == SCM_ACCEPTED;
-    assert(code == (has_state ? SCM_DONE : stage == SCM_NONE ? SCM_CLOSED : SCM_NOT_NOW) && (has_state || count == 77));
+    code = gabro_files(&session, &count);
+    bool has_state = stage == GABRO_BUILDING || stage == GABRO_WAITING || stage == GABRO_ACCEPTED;
+    assert(code == (has_state ? GABRO_DONE : stage == GABRO_NONE ? GABRO_CLOSED : GABRO_NOT_NOW) && (has_state || count == 77));
     for (size_t file = 0; has_state && file < count && file < 3; file++) {
         sum = structure_sum(marks_sum(side_sum(side_sum(sum, file, true), file, false), file), file);
     }
     for (size_t commit = 0; has_state && commit < 3; commit++) {
-        code = scm_message(&session, commit, out, sizeof out, &length);
-        assert(code == SCM_DONE || code == SCM_NO_ITEM);
-        sum = code == SCM_DONE ? mixed(sum, out, length < sizeof out ? length : sizeof out) : mixed(sum, &code, sizeof code);
+        code = gabro_message(&session, commit, out, sizeof out, &length);
+        assert(code == GABRO_DONE || code == GABRO_NO_ITEM);
+        sum = code == GABRO_DONE ? mixed(sum, out, length < sizeof out ? length : sizeof out) : mixed(sum, &code, sizeof code);
     }
     return mixed(sum, &count, sizeof count);
 }
 
-/* Counts a code, which has to be one of these, or SCM_NO_MEMORY while memory may be refused. */
+/* Counts a code, which has to be one of these, or GABRO_NO_MEMORY while memory may be refused. */
 static uint32_t one_of(uint32_t code, uint32_t a, uint32_t b, uint32_t c) {
-    assert(code == a || code == b || code == c || (may_lack_memory && code == SCM_NO_MEMORY));
+    assert(code == a || code == b || code == c || (may_lack_memory && code == GABRO_NO_MEMORY));
     counts[code]++;
     return code;
 }
@@ -189,16 +189,16 @@ static bool is_utf8(const char *text, size_t length) { return memchr(text, 0xff,
 
 /* The code of an addition with these texts, if memory is there: `is_long` is whether one is too long. */
 static uint32_t addition_code(bool is_text, bool needs_file, bool is_long) {
-    uint32_t stage = scm_stage(&session);
+    uint32_t stage = gabro_stage(&session);
     size_t count = 0;
     if (!is_text) {
-        return SCM_NOT_TEXT;
+        return GABRO_NOT_TEXT;
     }
-    if (stage != SCM_BUILDING) {
-        return stage == SCM_NONE ? SCM_CLOSED : SCM_NOT_NOW;
+    if (stage != GABRO_BUILDING) {
+        return stage == GABRO_NONE ? GABRO_CLOSED : GABRO_NOT_NOW;
     }
-    assert(scm_files(&session, &count) == SCM_DONE);
-    return needs_file && count == 0 ? SCM_NO_ITEM : is_long ? SCM_TOO_LONG : SCM_DONE;
+    assert(gabro_files(&session, &count) == GABRO_DONE);
+    return needs_file && count == 0 ? GABRO_NO_ITEM : is_long ? GABRO_TOO_LONG : GABRO_DONE;
 }
 
 static uint32_t add_lines(void) {
@@ -211,9 +211,9 @@ static uint32_t add_lines(void) {
     }
     uint32_t wanted = addition_code(is_utf8(given, length), true, is_long);
     uint32_t kind = random_below(3);
-    uint32_t code = kind == 0 ? scm_state_context(&session, given, length)
-        : kind == 1 ? scm_state_line(&session, random_below(2), random_below(2), random_below(2), given, length)
-                    : scm_state_changes(&session, random_below(2), random_below(2), given, length);
+    uint32_t code = kind == 0 ? gabro_state_context(&session, given, length)
+        : kind == 1 ? gabro_state_line(&session, random_below(2), random_below(2), random_below(2), given, length)
+                    : gabro_state_changes(&session, random_below(2), random_below(2), given, length);
     return one_of(code, wanted, wanted, wanted);
 }
 
@@ -221,9 +221,9 @@ static uint32_t add_lines(void) {
 static void check_bytes(bool selected, const char *bytes, size_t length) {
     static char out[ROOM];
     size_t count = 0, written = 77;
-    assert(scm_files(&session, &count) == SCM_DONE && count > 0);
+    assert(gabro_files(&session, &count) == GABRO_DONE && count > 0);
     memset(out, GUARD, sizeof out);
-    assert(scm_side_bytes(&session, count - 1, selected, out, ROOM, &written) == SCM_DONE);
+    assert(gabro_side_bytes(&session, count - 1, selected, out, ROOM, &written) == GABRO_DONE);
     assert(written == length && memcmp(out, bytes, length) == 0);
     check_buffer(out, ROOM, length, true);
 }
@@ -231,38 +231,38 @@ static void check_bytes(bool selected, const char *bytes, size_t length) {
 /* Adds a file by its two versions. Its sides are their bytes. */
 static uint32_t add_versions(const char *old, size_t old_size, const char *new_bytes, size_t new_size, size_t old_mode) {
     uint32_t wanted = addition_code(true, false, false);
-    uint32_t code = scm_state_texts(&session, "p", 1, "", 0, old, old_size, old_mode, new_bytes, new_size, 0100644);
-    if (code == SCM_DONE) {
+    uint32_t code = gabro_state_texts(&session, "p", 1, "", 0, old, old_size, old_mode, new_bytes, new_size, 0100644);
+    if (code == GABRO_DONE) {
         refused_after = 0;
-        check_bytes(true, old, old_mode == SCM_ABSENT ? 0 : old_size);
+        check_bytes(true, old, old_mode == GABRO_ABSENT ? 0 : old_size);
         check_bytes(false, new_bytes, new_size);
     }
     return one_of(code, wanted, wanted, wanted);
 }
 
 static uint32_t code_at(uint32_t stage) {
-    uint32_t now = scm_stage(&session);
-    return now == stage ? SCM_DONE : now == SCM_NONE ? SCM_CLOSED : SCM_NOT_NOW;
+    uint32_t now = gabro_stage(&session);
+    return now == stage ? GABRO_DONE : now == GABRO_NONE ? GABRO_CLOSED : GABRO_NOT_NOW;
 }
 
 /* Hands in marks of a file, sometimes too many or too few. Then the file has them. The call takes no memory. */
 static uint32_t set_marks(void) {
     char marks[ROOM], found[ROOM];
     size_t file = random_below(3), items = 0, length = 77;
-    uint32_t refused = refused_after, wanted = code_at(SCM_BUILDING);
+    uint32_t refused = refused_after, wanted = code_at(GABRO_BUILDING);
     refused_after = 0;
-    bool is_file = scm_marks(&session, file, marks, 0, &items) == SCM_DONE;
+    bool is_file = gabro_marks(&session, file, marks, 0, &items) == GABRO_DONE;
     refused_after = refused;
     size_t count = random_below(4) && items < sizeof marks ? items : random_below(6);
     for (size_t i = 0; i < count; i++) {
         marks[i] = (char)random_below(3);
     }
-    wanted = wanted == SCM_DONE && (!is_file || count != items) ? SCM_NO_ITEM : wanted;
-    uint32_t code = scm_state_marks(&session, file, marks, count);
+    wanted = wanted == GABRO_DONE && (!is_file || count != items) ? GABRO_NO_ITEM : wanted;
+    uint32_t code = gabro_state_marks(&session, file, marks, count);
     assert(code == wanted && refused_after == refused);
     refused_after = 0;
-    if (code == SCM_DONE) {
-        assert(scm_marks(&session, file, found, sizeof found, &length) == SCM_DONE && length == count);
+    if (code == GABRO_DONE) {
+        assert(gabro_marks(&session, file, found, sizeof found, &length) == GABRO_DONE && length == count);
         for (size_t i = 0; i < count; i++) {
             assert(found[i] == (marks[i] == 1));
         }
@@ -276,31 +276,31 @@ static uint32_t add_other(void) {
     size_t first = random_text(one), second = random_text(two);
     bool both = is_utf8(one, first) && is_utf8(two, second);
     uint32_t wanted = addition_code(true, true, false);
-    size_t mode = random_below(4) ? 0100644 + random_below(2) * 0111 : SCM_ABSENT;
+    size_t mode = random_below(4) ? 0100644 + random_below(2) * 0111 : GABRO_ABSENT;
     switch (random_below(8)) {
     case 6: return set_marks();
-    case 0: return one_of(scm_state_section(&session, random_below(2)), wanted, wanted, wanted);
-    case 1: return one_of(scm_state_mode(&session, random_below(2), mode), wanted, wanted, wanted);
+    case 0: return one_of(gabro_state_section(&session, random_below(2)), wanted, wanted, wanted);
+    case 1: return one_of(gabro_state_mode(&session, random_below(2), mode), wanted, wanted, wanted);
     case 2:
         wanted = addition_code(both, true, false);
-        return one_of(scm_state_binary(&session, random_below(2), one, first, two, second), wanted, wanted, wanted);
+        return one_of(gabro_state_binary(&session, random_below(2), one, first, two, second), wanted, wanted, wanted);
     case 3:
         wanted = addition_code(is_utf8(one, first), false, false);
-        return one_of(scm_state_message(&session, one, first), wanted, wanted == SCM_DONE ? SCM_NOT_ACCEPTED : wanted, wanted);
+        return one_of(gabro_state_message(&session, one, first), wanted, wanted == GABRO_DONE ? GABRO_NOT_ACCEPTED : wanted, wanted);
     case 4:
         wanted = addition_code(true, false, false);
-        return one_of(scm_state_commit(&session), wanted, wanted == SCM_DONE ? SCM_NOT_ACCEPTED : wanted, wanted);
+        return one_of(gabro_state_commit(&session), wanted, wanted == GABRO_DONE ? GABRO_NOT_ACCEPTED : wanted, wanted);
     case 5: return add_versions(one, first, two, second, mode);
     default:
         wanted = addition_code(both, false, false);
-        return one_of(scm_state_file(&session, one, first, two, second, mode), wanted, wanted, wanted);
+        return one_of(gabro_state_file(&session, one, first, two, second, mode), wanted, wanted, wanted);
     }
 }
 
 static uint32_t begin(void) {
-    uint32_t wanted = code_at(SCM_BUILDING);
+    uint32_t wanted = code_at(GABRO_BUILDING);
     uint16_t width = (uint16_t)random_below(90), height = (uint16_t)random_below(30);
-    uint32_t code = random_below(2) ? scm_begin(&session, width, height) : scm_begin_layer(&session, width, height);
+    uint32_t code = random_below(2) ? gabro_begin(&session, width, height) : gabro_begin_layer(&session, width, height);
     return one_of(code, wanted, wanted, wanted);
 }
 
@@ -309,9 +309,9 @@ static uint32_t read_log(uint32_t wanted) {
     static char out[ROOM];
     size_t room = random_below(2) ? random_below(200) : ROOM, length = 77;
     memset(out, GUARD, sizeof out);
-    uint32_t code = one_of(scm_logged(&session, out, room, &length), wanted, SCM_NOT_NOW, SCM_NO_MEMORY);
-    check_buffer(out, room, length, code == SCM_DONE);
-    assert(code == SCM_DONE || length == 77);
+    uint32_t code = one_of(gabro_logged(&session, out, room, &length), wanted, GABRO_NOT_NOW, GABRO_NO_MEMORY);
+    check_buffer(out, room, length, code == GABRO_DONE);
+    assert(code == GABRO_DONE || length == 77);
     return code;
 }
 
@@ -320,26 +320,26 @@ static uint32_t layer(void) {
     static const char *const keys[] = {"x=undo", "ctrl-n=j x=space", "", "x", "v=range u=nothing >=search"};
     char text[ROOM];
     size_t length = random_text(text);
-    uint32_t wanted = scm_stage(&session) == SCM_NONE ? SCM_CLOSED : SCM_DONE, which = random_below(5);
-    scm_key first = {0, random_below(3), random_below(4), random_below(4)};
+    uint32_t wanted = gabro_stage(&session) == GABRO_NONE ? GABRO_CLOSED : GABRO_DONE, which = random_below(5);
+    gabro_key first = {0, random_below(3), random_below(4), random_below(4)};
     switch (random_below(7)) {
     case 0:
-        wanted = which > SCM_NO_COLOURS ? SCM_NO_NUMBER : wanted;
-        return one_of(scm_theme(&session, which), wanted, wanted == SCM_DONE ? SCM_NOT_NOW : wanted, wanted);
+        wanted = which > GABRO_NO_COLOURS ? GABRO_NO_NUMBER : wanted;
+        return one_of(gabro_theme(&session, which), wanted, wanted == GABRO_DONE ? GABRO_NOT_NOW : wanted, wanted);
     case 1:
-        wanted = is_utf8(text, length) ? wanted : SCM_NOT_TEXT;
-        return one_of(scm_accept_text(&session, text, length), wanted, wanted == SCM_DONE ? SCM_NOT_NOW : wanted, wanted);
+        wanted = is_utf8(text, length) ? wanted : GABRO_NOT_TEXT;
+        return one_of(gabro_accept_text(&session, text, length), wanted, wanted == GABRO_DONE ? GABRO_NOT_NOW : wanted, wanted);
     case 2:
-        wanted = is_utf8(text, length) ? wanted : SCM_NOT_TEXT;
+        wanted = is_utf8(text, length) ? wanted : GABRO_NOT_TEXT;
         has_labels = true;
-        return one_of(scm_label(&session, random_below(3), random_below(4), text, length), wanted, wanted == SCM_DONE ? SCM_NOT_NOW : wanted, wanted);
+        return one_of(gabro_label(&session, random_below(3), random_below(4), text, length), wanted, wanted == GABRO_DONE ? GABRO_NOT_NOW : wanted, wanted);
     case 3:
-        wanted = which > SCM_OPEN_IF_IT_FITS ? SCM_NO_NUMBER : wanted;
-        return one_of(scm_start(&session, which, &first), wanted, wanted == SCM_DONE ? SCM_NOT_NOW : wanted, wanted);
+        wanted = which > GABRO_OPEN_IF_IT_FITS ? GABRO_NO_NUMBER : wanted;
+        return one_of(gabro_start(&session, which, &first), wanted, wanted == GABRO_DONE ? GABRO_NOT_NOW : wanted, wanted);
     case 4:
-        wanted = which == 3 ? SCM_NO_KEY : wanted;
-        return one_of(scm_keys(&session, keys[which], strlen(keys[which])), wanted, wanted == SCM_DONE ? SCM_NOT_NOW : wanted, wanted);
-    case 5: return one_of(scm_log(&session), wanted, wanted == SCM_DONE ? SCM_NOT_NOW : wanted, wanted);
+        wanted = which == 3 ? GABRO_NO_KEY : wanted;
+        return one_of(gabro_keys(&session, keys[which], strlen(keys[which])), wanted, wanted == GABRO_DONE ? GABRO_NOT_NOW : wanted, wanted);
+    case 5: return one_of(gabro_log(&session), wanted, wanted == GABRO_DONE ? GABRO_NOT_NOW : wanted, wanted);
     default: return read_log(wanted);
     }
 }
@@ -353,38 +353,38 @@ static uint32_t press_batch(const char *const *words, size_t count, uint32_t wan
         is_known = is_known && which < count - 2;
         strcat(strcat(text, words[which]), random_below(2) ? " " : "   ");
     }
-    wanted = is_known ? wanted : SCM_NO_WORD;
-    return one_of(scm_press_all(&session, text, strlen(text)), wanted, wanted, wanted);
+    wanted = is_known ? wanted : GABRO_NO_WORD;
+    return one_of(gabro_press_all(&session, text, strlen(text)), wanted, wanted, wanted);
 }
 
 /* Decodes bytes, or a silence, into room that may be too short, and presses what they mean as one batch. */
 static uint32_t decode(const char *bytes, size_t length, uint32_t wanted) {
     static char out[ROOM];
     size_t room = random_below(3) ? ROOM : random_below(20), written = 77;
-    uint32_t code_if_open = scm_stage(&session) == SCM_NONE ? SCM_CLOSED : SCM_DONE;
+    uint32_t code_if_open = gabro_stage(&session) == GABRO_NONE ? GABRO_CLOSED : GABRO_DONE;
     memset(out, GUARD, sizeof out);
-    uint32_t code = random_below(4) ? scm_decode(&session, bytes, length, out, room, &written)
-                                    : scm_decode_idle(&session, out, room, &written);
+    uint32_t code = random_below(4) ? gabro_decode(&session, bytes, length, out, room, &written)
+                                    : gabro_decode_idle(&session, out, room, &written);
     one_of(code, code_if_open, code_if_open, code_if_open);
-    check_buffer(out, room, written, code == SCM_DONE && written <= room);
-    assert(code == SCM_DONE || written == 77);
-    if (code != SCM_DONE || written > room) {
+    check_buffer(out, room, written, code == GABRO_DONE && written <= room);
+    assert(code == GABRO_DONE || written == 77);
+    if (code != GABRO_DONE || written > room) {
         return code;
     }
-    return one_of(scm_press_all(&session, out, written), wanted, wanted, wanted);
+    return one_of(gabro_press_all(&session, out, written), wanted, wanted, wanted);
 }
 
 /* Selects a random item. Then it is selected, unless the session ended since memory was refused. */
 static uint32_t select_item(void) {
-    scm_key key = {random_below(8) == 0, random_below(3), SCM_NO_INDEX, SCM_NO_INDEX}, selected;
+    gabro_key key = {random_below(8) == 0, random_below(3), GABRO_NO_INDEX, GABRO_NO_INDEX}, selected;
     if (random_below(4)) {
         key.section = random_below(4);
-        key.line = random_below(3) ? random_below(4) : SCM_NO_INDEX;
+        key.line = random_below(3) ? random_below(4) : GABRO_NO_INDEX;
     }
-    uint32_t wanted = code_at(SCM_WAITING);
-    uint32_t code = one_of(scm_select(&session, &key), wanted, wanted == SCM_DONE ? SCM_NO_ITEM : wanted, wanted);
-    if (code == SCM_DONE && scm_stage(&session) == SCM_WAITING) {
-        assert(scm_selected(&session, &selected) == SCM_DONE && memcmp(&key, &selected, sizeof key) == 0);
+    uint32_t wanted = code_at(GABRO_WAITING);
+    uint32_t code = one_of(gabro_select(&session, &key), wanted, wanted == GABRO_DONE ? GABRO_NO_ITEM : wanted, wanted);
+    if (code == GABRO_DONE && gabro_stage(&session) == GABRO_WAITING) {
+        assert(gabro_selected(&session, &selected) == GABRO_DONE && memcmp(&key, &selected, sizeof key) == 0);
     }
     return code;
 }
@@ -392,8 +392,8 @@ static uint32_t select_item(void) {
 /* Types bytes up to a key that means nothing to a session. */
 static uint32_t type_to_key(const char *bytes, size_t length, uint32_t wanted) {
     size_t taken = 77;
-    uint32_t key = 77, code = one_of(scm_type_to_key(&session, bytes, length, &taken, &key), wanted, wanted, wanted);
-    assert(code == SCM_DONE ? taken <= length && (key != 0 || taken == length || scm_stage(&session) == SCM_WAITING) : taken == 77 && key == 77);
+    uint32_t key = 77, code = one_of(gabro_type_to_key(&session, bytes, length, &taken, &key), wanted, wanted, wanted);
+    assert(code == GABRO_DONE ? taken <= length && (key != 0 || taken == length || gabro_stage(&session) == GABRO_WAITING) : taken == 77 && key == 77);
     return code;
 }
 
@@ -402,19 +402,19 @@ static uint32_t input(void) {
                                         "none", "view", "ensure", "pagedown", "ctrl-d", "click:3:4", "click:0:2", "no word", "\xff"};
     char text[ROOM];
     size_t length = random_text(text);
-    uint32_t wanted = code_at(SCM_WAITING), which = random_below(sizeof words / sizeof *words);
+    uint32_t wanted = code_at(GABRO_WAITING), which = random_below(sizeof words / sizeof *words);
     switch (random_below(10)) {
     case 9: return type_to_key(text, length, wanted);
     case 8: return select_item();
     case 4: return press_batch(words, sizeof words / sizeof *words, wanted);
     case 5: return decode(text, length, wanted);
-    case 0: return one_of(scm_type(&session, text, length), wanted, wanted, wanted);
-    case 1: return one_of(scm_idle(&session), wanted, wanted, wanted);
-    case 2: return one_of(scm_click(&session, (uint16_t)random_below(40), (uint16_t)random_below(100)), wanted, wanted, wanted);
-    case 3: return one_of(scm_resize(&session, (uint16_t)random_below(90), (uint16_t)random_below(30)), wanted, wanted, wanted);
+    case 0: return one_of(gabro_type(&session, text, length), wanted, wanted, wanted);
+    case 1: return one_of(gabro_idle(&session), wanted, wanted, wanted);
+    case 2: return one_of(gabro_click(&session, (uint16_t)random_below(40), (uint16_t)random_below(100)), wanted, wanted, wanted);
+    case 3: return one_of(gabro_resize(&session, (uint16_t)random_below(90), (uint16_t)random_below(30)), wanted, wanted, wanted);
     default:
-        wanted = which >= sizeof words / sizeof *words - 2 ? SCM_NO_WORD : wanted;
-        return one_of(scm_press(&session, words[which], strlen(words[which])), wanted, wanted, wanted);
+        wanted = which >= sizeof words / sizeof *words - 2 ? GABRO_NO_WORD : wanted;
+        return one_of(gabro_press(&session, words[which], strlen(words[which])), wanted, wanted, wanted);
     }
 }
 
@@ -422,32 +422,32 @@ static uint32_t answer(void) {
     char text[ROOM];
     size_t length = random_text(text);
     bool is_long = random_below(50) == 0;
-    uint32_t wanted = is_long ? SCM_TOO_LONG : !is_utf8(text, length) ? SCM_NOT_TEXT : code_at(SCM_EDITING);
-    return one_of(is_long ? scm_answer(&session, long_text, LONGEST + 1) : scm_answer(&session, text, length), wanted, wanted, wanted);
+    uint32_t wanted = is_long ? GABRO_TOO_LONG : !is_utf8(text, length) ? GABRO_NOT_TEXT : code_at(GABRO_EDITING);
+    return one_of(is_long ? gabro_answer(&session, long_text, LONGEST + 1) : gabro_answer(&session, text, length), wanted, wanted, wanted);
 }
 
 /* Looks that a cell has the symbol of its place, or that it is on the last row, which may be a status row. */
-static void check_cell(const scm_cell *cell, const char *text, size_t place, const scm_screen_info *info) {
+static void check_cell(const gabro_cell *cell, const char *text, size_t place, const gabro_screen_info *info) {
     static char symbol[ROOM];
     size_t row = place / info->columns, column = place % info->columns;
-    size_t length = scm_symbol(&session, (uint16_t)row, (uint16_t)column, symbol, sizeof symbol);
+    size_t length = gabro_symbol(&session, (uint16_t)row, (uint16_t)column, symbol, sizeof symbol);
     bool is_it = length == cell->length && memcmp(symbol, text + cell->start, length) == 0;
     assert(is_it || has_labels || (row + 1 == info->rows && length == 0));
-    assert(cell->foreground <= SCM_WHITE && cell->background == SCM_COLOUR_NONE && cell->flags < 16);
+    assert(cell->foreground <= GABRO_WHITE && cell->background == GABRO_COLOUR_NONE && cell->flags < 16);
     assert(cell->length > 0 ? cell->columns > 0 && column + cell->columns <= info->columns : cell->columns == 0 && cell->flags == 0);
 }
 
 /* Reads the screen as cells, into buffers that may be too short. */
 static uint32_t read_cells(void) {
-    static scm_cell cells[CELLS];
+    static gabro_cell cells[CELLS];
     static char text[4 * ROOM];
     size_t count = random_below(2) ? random_below(CELLS) : CELLS, room = random_below(2) ? random_below(200) : sizeof text;
-    scm_screen_info info = {77, 77, 77};
+    gabro_screen_info info = {77, 77, 77};
     memset(cells, GUARD, sizeof cells);
     memset(text, GUARD, sizeof text);
-    uint32_t wanted = code_at(SCM_WAITING), code = one_of(scm_cells(&session, cells, count, text, room, &info), wanted, wanted, wanted);
+    uint32_t wanted = code_at(GABRO_WAITING), code = one_of(gabro_cells(&session, cells, count, text, room, &info), wanted, wanted, wanted);
     refused_after = 0;
-    bool is_done = code == SCM_DONE;
+    bool is_done = code == GABRO_DONE;
     assert(is_done || (info.columns == 77 && info.rows == 77 && info.length == 77));
     size_t places = is_done ? info.columns * info.rows : 0, length = is_done ? info.length : 0, begins = 0;
     for (size_t place = 0; place < CELLS; place++) {
@@ -472,35 +472,35 @@ static uint32_t read_cells(void) {
 static uint32_t read_out(void) {
     static char out[ROOM];
     size_t room = random_below(2) ? random_below(200) : ROOM, length = 77;
-    uint32_t stage = scm_stage(&session), wanted = stage == SCM_NONE ? SCM_CLOSED : SCM_DONE;
-    scm_key key;
+    uint32_t stage = gabro_stage(&session), wanted = stage == GABRO_NONE ? GABRO_CLOSED : GABRO_DONE;
+    gabro_key key;
     memset(out, GUARD, sizeof out);
     uint32_t which = random_below(5), code;
     if (which == 4) {
         return read_cells();
     }
     if (which == 0) {
-        code = one_of(scm_text(&session, out, room, &length), wanted, wanted, wanted);
+        code = one_of(gabro_text(&session, out, room, &length), wanted, wanted, wanted);
     } else if (which == 1) {
-        wanted = code_at(SCM_WAITING);
-        code = one_of(scm_paint(&session, out, room, &length), wanted, wanted, wanted);
-        check_buffer(out, room, length, code == SCM_DONE && length <= room);
+        wanted = code_at(GABRO_WAITING);
+        code = one_of(gabro_paint(&session, out, room, &length), wanted, wanted, wanted);
+        check_buffer(out, room, length, code == GABRO_DONE && length <= room);
     } else if (which == 2) {
-        code = one_of(scm_repaint(&session), wanted, wanted, wanted);
+        code = one_of(gabro_repaint(&session), wanted, wanted, wanted);
         return code;
     } else {
-        uint32_t owner = scm_owner(&session, (uint16_t)random_below(40), (uint16_t)random_below(100), &key);
-        assert(owner <= SCM_FILE_EDGE && (stage == SCM_WAITING || owner == SCM_NOBODY));
-        length = scm_symbol(&session, (uint16_t)random_below(40), (uint16_t)random_below(100), out, room);
+        uint32_t owner = gabro_owner(&session, (uint16_t)random_below(40), (uint16_t)random_below(100), &key);
+        assert(owner <= GABRO_FILE_EDGE && (stage == GABRO_WAITING || owner == GABRO_NOBODY));
+        length = gabro_symbol(&session, (uint16_t)random_below(40), (uint16_t)random_below(100), out, room);
         check_buffer(out, room, length, true);
-        assert(stage == SCM_WAITING || length == 0);
-        counts[SCM_DONE]++;
-        return SCM_DONE;
+        assert(stage == GABRO_WAITING || length == 0);
+        counts[GABRO_DONE]++;
+        return GABRO_DONE;
     }
     if (which == 0) {
-        check_buffer(out, room, length, code == SCM_DONE);
+        check_buffer(out, room, length, code == GABRO_DONE);
     }
-    assert(code == SCM_DONE || length == 77);
+    assert(code == GABRO_DONE || length == 77);
     return code;
 }
 
@@ -520,7 +520,7 @@ static size_t random_rows(char *rows) {
     return length - (length > 0 && random_below(20) == 0);
 }
 
-/* Looks that an answer is what scm.h says: versions of paths, and then two records for each file that is left out, or one fault. */
+/* Looks that an answer is what gabrosty.h says: versions of paths, and then two records for each file that is left out, or one fault. */
 static void check_decided(const char *answer, size_t length) {
     bool is_fault = length > 0 && strchr("#2!/+", answer[0]), is_refusal = false;
     for (size_t at = 0, count = 0; at < length; count++) {
@@ -534,25 +534,25 @@ static void check_decided(const char *answer, size_t length) {
 }
 
 static size_t random_mode(void) {
-    static const size_t modes[] = {0100644, 0100755, 0120000, 0644, 0, SCM_ABSENT};
+    static const size_t modes[] = {0100644, 0100755, 0120000, 0644, 0, GABRO_ABSENT};
     return modes[random_below(sizeof modes / sizeof *modes)];
 }
 
 /* Whatever a side is, a tree has one of the modes that are given, and a renamed file is at one of its paths. If a state has no items of a file,
  * its versions do not differ. */
 static void check_sides(void) {
-    scm_changed changed = {random_mode(), random_mode(), (uint32_t)random_below(4), random_below(2)};
-    scm_side_info side = {(uint32_t)random_below(3), random_mode(), random_below(2)};
-    scm_in_tree found;
-    scm_shown shown;
-    scm_tree_side(&changed, random_below(2), &side, &found);
+    gabro_changed changed = {random_mode(), random_mode(), (uint32_t)random_below(4), random_below(2)};
+    gabro_side_info side = {(uint32_t)random_below(3), random_mode(), random_below(2)};
+    gabro_in_tree found;
+    gabro_shown shown;
+    gabro_tree_side(&changed, random_below(2), &side, &found);
     bool is_known = found.mode == changed.old_mode || found.mode == changed.new_mode || found.mode == side.mode;
-    assert((is_known || found.mode == SCM_ABSENT) && found.contents <= SCM_OF_NEW);
-    bool is_both = changed.is_renamed && changed.old_mode != SCM_ABSENT && changed.new_mode != SCM_ABSENT;
-    assert(is_both ? (found.mode != SCM_ABSENT) != (found.old_path_mode != SCM_ABSENT) : found.old_path_mode == SCM_ABSENT);
-    scm_tree_shown(&changed, true, &shown);
+    assert((is_known || found.mode == GABRO_ABSENT) && found.contents <= GABRO_OF_NEW);
+    bool is_both = changed.is_renamed && changed.old_mode != GABRO_ABSENT && changed.new_mode != GABRO_ABSENT;
+    assert(is_both ? (found.mode != GABRO_ABSENT) != (found.old_path_mode != GABRO_ABSENT) : found.old_path_mode == GABRO_ABSENT);
+    gabro_tree_shown(&changed, true, &shown);
     assert(shown.has_mode == (shown.old_mode != shown.new_mode));
-    assert(shown.has_mode || shown.has_contents || changed.shown == SCM_BY_LINES || changed.shown > SCM_BY_ONE_ITEM || is_both);
+    assert(shown.has_mode || shown.has_contents || changed.shown == GABRO_BY_LINES || changed.shown > GABRO_BY_ONE_ITEM || is_both);
 }
 
 /* Decides what becomes of random rows, in a buffer that may be too short. */
@@ -560,13 +560,13 @@ static uint32_t decide(void) {
     static char rows[ROOM], out[ROOM];
     size_t count = random_rows(rows), room = random_below(4) ? ROOM : random_below(20), length = 77;
     memset(out, GUARD, sizeof out);
-    uint32_t code = one_of(scm_decide_rows(rows, count, out, room, &length), SCM_DONE, SCM_DONE, SCM_DONE);
-    check_buffer(out, room, length, code == SCM_DONE);
-    assert(code == SCM_DONE || length == 77);
-    if (code == SCM_DONE && length <= room) {
+    uint32_t code = one_of(gabro_decide_rows(rows, count, out, room, &length), GABRO_DONE, GABRO_DONE, GABRO_DONE);
+    check_buffer(out, room, length, code == GABRO_DONE);
+    assert(code == GABRO_DONE || length == 77);
+    if (code == GABRO_DONE && length <= room) {
         check_decided(out, length);
     }
-    assert(scm_path_fault(rows, count) <= SCM_PATH_WITH_NUL);
+    assert(gabro_path_fault(rows, count) <= GABRO_PATH_WITH_NUL);
     check_sides();
     return code;
 }
@@ -581,7 +581,7 @@ static size_t random_file(char *bytes) {
     return length - (length > 0 && random_below(4) == 0);
 }
 
-/* Looks that records have the letters that scm.h says, in their order. Returns how many are of a conflict, and sets `conflicts`. */
+/* Looks that records have the letters that gabrosty.h says, in their order. Returns how many are of a conflict, and sets `conflicts`. */
 static size_t check_merge(const char *records, size_t length, size_t *conflicts) {
     size_t items = 0;
     char last = ' ';
@@ -608,10 +608,10 @@ static uint32_t merge(void) {
     }
     memset(records, GUARD, sizeof records);
     memset(out, GUARD, sizeof out);
-    uint32_t code = one_of(scm_merge_texts(files[0], sizes[0], files[1], sizes[1], files[2], sizes[2], records, ROOM, &length), SCM_DONE, SCM_DONE,
-                           SCM_DONE);
-    check_buffer(records, ROOM, length, code == SCM_DONE);
-    if (code != SCM_DONE) {
+    uint32_t code = one_of(gabro_merge_texts(files[0], sizes[0], files[1], sizes[1], files[2], sizes[2], records, ROOM, &length), GABRO_DONE, GABRO_DONE,
+                           GABRO_DONE);
+    check_buffer(records, ROOM, length, code == GABRO_DONE);
+    if (code != GABRO_DONE) {
         assert(length == 77);
         return code;
     }
@@ -620,24 +620,24 @@ static uint32_t merge(void) {
     for (size_t i = 0; i < count; i++) {
         marks[i] = (char)random_below(2);
     }
-    uint32_t wanted = count == items ? SCM_DONE : SCM_NO_ITEM;
+    uint32_t wanted = count == items ? GABRO_DONE : GABRO_NO_ITEM;
     length = 77;
-    code = one_of(scm_merged_bytes(files[0], sizes[0], files[1], sizes[1], files[2], sizes[2], marks, count, out, room, &length), wanted, wanted,
+    code = one_of(gabro_merged_bytes(files[0], sizes[0], files[1], sizes[1], files[2], sizes[2], marks, count, out, room, &length), wanted, wanted,
                   wanted);
-    check_buffer(out, room, length, code == SCM_DONE);
-    assert(code == SCM_DONE ? length <= sizes[0] + sizes[1] + sizes[2] + 3 : length == 77);
+    check_buffer(out, room, length, code == GABRO_DONE);
+    assert(code == GABRO_DONE ? length <= sizes[0] + sizes[1] + sizes[2] + 3 : length == 77);
     if (code == wanted) {
         static char marked[ROOM];
         size_t written = 77;
         memset(marked, GUARD, sizeof marked);
-        code = one_of(scm_marked_bytes(files[0], sizes[0], files[1], sizes[1], files[2], sizes[2], marks, count, "b", 1, "o", 1, "t", 1, marked, ROOM,
-                                       &written), wanted, wanted, wanted);
-        check_buffer(marked, ROOM, written, code == SCM_DONE);
-        assert(code == SCM_DONE || written == 77);
+        code = one_of(gabro_marked_bytes(files[0], sizes[0], files[1], sizes[1], files[2], sizes[2], marks, count, "b", 1, "o", 1, "t", 1,
+                                       random_below(12), marked, ROOM, &written), wanted, wanted, wanted);
+        check_buffer(marked, ROOM, written, code == GABRO_DONE);
+        assert(code == GABRO_DONE || written == 77);
     }
     if (code == wanted) {
-        code = one_of(scm_open_conflicts(files[0], sizes[0], files[1], sizes[1], files[2], sizes[2], marks, count, &open), wanted, wanted, wanted);
-        assert(code == SCM_DONE ? open <= conflicts : open == 77);
+        code = one_of(gabro_open_conflicts(files[0], sizes[0], files[1], sizes[1], files[2], sizes[2], marks, count, &open), wanted, wanted, wanted);
+        assert(code == GABRO_DONE ? open <= conflicts : open == 77);
     }
     return code;
 }
@@ -648,41 +648,41 @@ static uint32_t open_or_close(void) {
     static const char json[] = "{\"is_read_only\":false,\"commits\":[{\"message\":\"m\"}],\"files\":[{\"old_path\":null,\"path\":\"p\","
                                "\"file_mode\":\"Absent\",\"sections\":[{\"Changed\":{\"lines\":[{\"is_checked\":true,\"change_type\":\"Added\","
                                "\"line\":\"x\\n\"}]}}]}]}";
-    uint32_t which = random_below(5), code = SCM_DONE;
+    uint32_t which = random_below(5), code = GABRO_DONE;
     if (which == 0) {
-        scm_free(&session);
-        assert(scm_stage(&session) == SCM_NONE);
+        gabro_free(&session);
+        assert(gabro_stage(&session) == GABRO_NONE);
     } else if (which == 1 || which == 4) {
         size_t length = sizeof json - 1 - random_below(2);
-        code = which == 1 ? scm_new(&session, json, length, 40, 10) : scm_new_layer(&session, json, length, 40, 10);
-        one_of(code, SCM_DONE, SCM_BAD_STATE, SCM_DONE);
-        assert(scm_stage(&session) == (code == SCM_DONE ? SCM_WAITING : SCM_NONE));
+        code = which == 1 ? gabro_new(&session, json, length, 40, 10) : gabro_new_layer(&session, json, length, 40, 10);
+        one_of(code, GABRO_DONE, GABRO_BAD_STATE, GABRO_DONE);
+        assert(gabro_stage(&session) == (code == GABRO_DONE ? GABRO_WAITING : GABRO_NONE));
     } else {
-        code = one_of(scm_state_new(&session, random_below(4) == 0), SCM_DONE, SCM_DONE, SCM_DONE);
-        assert(scm_stage(&session) == (code == SCM_DONE ? SCM_BUILDING : SCM_NONE));
+        code = one_of(gabro_state_new(&session, random_below(4) == 0), GABRO_DONE, GABRO_DONE, GABRO_DONE);
+        assert(gabro_stage(&session) == (code == GABRO_DONE ? GABRO_BUILDING : GABRO_NONE));
     }
-    counts[SCM_DONE] += which == 0;
+    counts[GABRO_DONE] += which == 0;
     return code;
 }
 
 /* Makes a call of a kind, while the request for memory `refused` is refused, if it is not 0. Returns its code. */
 static uint32_t make_call(uint32_t kind, uint32_t refused) {
     uint64_t before = asked();
-    uint32_t stage = scm_stage(&session);
-    bool is_building = stage == SCM_BUILDING, is_opening = kind < (stage == SCM_NONE ? 30 : 2);
+    uint32_t stage = gabro_stage(&session);
+    bool is_building = stage == GABRO_BUILDING, is_opening = kind < (stage == GABRO_NONE ? 30 : 2);
     bool is_begin = !is_opening && kind < (is_building ? 8 : 4);
     refused_after = refused;
     uint32_t code = is_opening ? open_or_close() : is_begin ? begin() : kind < (is_building ? 55 : 10) ? add_lines() : kind < (is_building ? 88 : 14) ? add_other()
         : kind < (is_building ? 90 : 62) ? input() : kind < (is_building ? 91 : 72) ? layer() : kind < 93 ? read_out() : kind < 95 ? decide() : kind < 97 ? merge() : answer();
     refused_after = 0;
-    if (code != SCM_DONE && !is_opening) {
-        assert(is_begin && code == SCM_NO_MEMORY ? scm_stage(&session) == SCM_ENDED : asked() == before);
+    if (code != GABRO_DONE && !is_opening) {
+        assert(is_begin && code == GABRO_NO_MEMORY ? gabro_stage(&session) == GABRO_ENDED : asked() == before);
     }
     return code;
 }
 
 static void exchange(void) {
-    scm_session other = session;
+    gabro_session other = session;
     session = twin;
     twin = other;
 }
@@ -703,10 +703,10 @@ static void random_call(void) {
     uint32_t refused = may_lack_memory ? 1 + random_below(12) : 0;
     uint64_t begun = seed;
     uint32_t code = make_call(kind, refused);
-    bool is_lost = scm_end(&session) == SCM_END_NO_MEMORY || (code == SCM_NO_MEMORY && scm_stage(&session) == SCM_NONE);
+    bool is_lost = gabro_end(&session) == GABRO_END_NO_MEMORY || (code == GABRO_NO_MEMORY && gabro_stage(&session) == GABRO_NONE);
     if (is_lost) {
-        assert(scm_state_new(&session, false) == SCM_DONE && scm_state_new(&twin, false) == SCM_DONE);
-    } else if (code != SCM_NO_MEMORY) {
+        assert(gabro_state_new(&session, false) == GABRO_DONE && gabro_state_new(&twin, false) == GABRO_DONE);
+    } else if (code != GABRO_NO_MEMORY) {
         call_twin(kind, begun, code);
     }
 }
@@ -715,17 +715,17 @@ static void random_call(void) {
  * refusal has its code, and leaves the state as it was. */
 static void refuse_texts(void) {
     static const char old[] = "same\nold\nkept", new_bytes[] = "same\nnew\xff\nkept\n";
-    assert(scm_state_new(&session, false) == SCM_DONE);
+    assert(gabro_state_new(&session, false) == GABRO_DONE);
     uint64_t before = asked();
     for (uint32_t number = 1;; number++) {
         refused_after = number;
-        uint32_t code = scm_state_texts(&session, "p", 1, "q", 1, old, sizeof old - 1, 0100644, new_bytes, sizeof new_bytes - 1, 0100755);
+        uint32_t code = gabro_state_texts(&session, "p", 1, "q", 1, old, sizeof old - 1, 0100644, new_bytes, sizeof new_bytes - 1, 0100755);
         bool is_met = refused_after == 0;
         refused_after = 0;
-        assert(code == (is_met ? SCM_NO_MEMORY : SCM_DONE) && (asked() == before) == is_met);
+        assert(code == (is_met ? GABRO_NO_MEMORY : GABRO_DONE) && (asked() == before) == is_met);
         if (!is_met) {
             assert(number > 10);
-            scm_free(&session);
+            gabro_free(&session);
             return;
         }
     }
@@ -741,8 +741,8 @@ int main(int argc, char **argv) {
     for (unsigned long i = 0; i < count; i++) {
         random_call();
     }
-    scm_free(&session);
-    scm_free(&twin);
+    gabro_free(&session);
+    gabro_free(&twin);
     for (int code = 0; code < CODES; code++) {
         printf("%d: %lu\n", code, counts[code]);
     }

@@ -1,5 +1,5 @@
 /* split OLD NEW [WORDS]: prints OLD with the changes to NEW that the user chooses, or that the words of keys do. */
-#include <scm.h>
+#include <gabrosty.h>
 #include <stdio.h>
 #include <stdlib.h>
 #include <string.h>
@@ -16,8 +16,8 @@ static void check(bool is_well, const char *what) {
 
 static void check_code(uint32_t code) {
     char words[256];
-    words[scm_words(code, words, sizeof words - 1)] = 0;
-    check(code == SCM_DONE, words);
+    words[gabro_words(code, words, sizeof words - 1)] = 0;
+    check(code == GABRO_DONE, words);
 }
 
 static size_t read_file(const char *path, char *bytes) {
@@ -28,22 +28,22 @@ static size_t read_file(const char *path, char *bytes) {
 }
 
 int main(int argc, char **argv) {
-    scm_session session = {0};
+    gabro_session session = {0};
     size_t length;
     check(argc > 2, "usage: split OLD NEW [WORDS]");
     size_t old_length = read_file(argv[1], old), new_length = read_file(argv[2], new);
-    check_code(scm_state_new(&session, false));
-    check_code(scm_state_texts(&session, argv[2], strlen(argv[2]), "", 0, old, old_length, 0100644, new, new_length, 0100644));
-    check_code(scm_begin_layer(&session, 80, 24));
+    check_code(gabro_state_new(&session, false));
+    check_code(gabro_state_texts(&session, argv[2], strlen(argv[2]), "", 0, old, old_length, 0100644, new, new_length, 0100644));
+    check_code(gabro_begin_layer(&session, 80, 24));
     if (argc > 3) {
-        check_code(scm_press_all(&session, argv[3], strlen(argv[3])));
+        check_code(gabro_press_all(&session, argv[3], strlen(argv[3])));
     } else {
-        check(scm_run(&session, 0, "split") == 0, "standard input is no terminal, or it is gone");
+        check(gabro_run(&session, 0, "split") == 0, "standard input is no terminal, or it is gone");
     }
-    if (scm_end(&session) == SCM_END_CANCELLED) {
+    if (gabro_end(&session) == GABRO_END_CANCELLED) {
         return EXIT_FAILURE; /* the user gave up */
     }
-    check_code(scm_side_bytes(&session, 0, true, chosen, sizeof chosen, &length));
-    scm_free(&session);
+    check_code(gabro_side_bytes(&session, 0, true, chosen, sizeof chosen, &length));
+    gabro_free(&session);
     return fwrite(chosen, 1, length, stdout) == length && fclose(stdout) == 0 ? EXIT_SUCCESS : EXIT_FAILURE;
 }

@@ -324,10 +324,17 @@ def check_previews():
         session.begin(80, 24)
         session.press("e")
         assert session.stage == scm.EDITING and refused(session.side, 0) == refused(session.side_bytes, 0) == "not_now"
+        assert session.dialog == scm.Dialog.NONE
         session.answer("other\n")
         before = sides_of(session)
-        session.press("?", "c")  # the help is open: c closes it
-        assert session.stage == scm.WAITING and sides_of(session) == before
+        session.press("?")
+        assert session.dialog == scm.Dialog.HELP
+        session.press("c")  # the help is open: c closes it
+        assert session.stage == scm.WAITING and sides_of(session) == before and session.dialog == scm.Dialog.NONE
+        session.press("q", "?")  # the help lies over the question
+        assert session.dialog == scm.Dialog.HELP
+        session.press("esc")
+        assert session.dialog == scm.Dialog.QUESTION
 
 
 def marked(marks):
@@ -523,6 +530,9 @@ def check_merges():
         assert scm.marked_bytes(base, ours, theirs, marks) == b"<<<<<<<\n%s%s%s>>>>>>>\nc\nd" % tuple(versions)
         labelled = b"<<<<<<< main\n%s|||||||\na\nb\n%s>>>>>>> to\xffpic\nc\nd" % (versions[0], versions[2])
         assert scm.marked_bytes(base, ours, theirs, marks, ours_label="main", base_label="b\nc", theirs_label=b"to\xffpic") == labelled
+        longer = [marker * 9 for marker in (b"<", b"|", b"=", b">")]
+        asked = b"%s\na\nO\n%s\na\nb\n%s\nA\nT\xff\n%s\nc\nd" % tuple(longer)
+        assert scm.marked_bytes(base, ours, theirs, marks, marker_length=9) == asked
         # from the file to the section of theirs, whose two lines are marked at once
         session.press("l", "pagedown", "pagedown", "space", "c")
         marks = session.marks(0)
@@ -531,6 +541,14 @@ def check_merges():
         assert scm.marked_bytes(base, ours, theirs, marks) == theirs
     long = b"x" * 10000
     assert scm.marked_bytes("", "o", "t", [False, True, False], long, long, long).count(long) == 3
+    open_one = "", "o\n", "t\n", [False, True, False]
+    assert scm.marked_bytes(*open_one, marker_length=1) == b"<\no\n|\n=\nt\n>\n"
+    for length in (-1, 2**64):
+        try:
+            scm.marked_bytes(*open_one, marker_length=length)
+        except ValueError:
+            continue
+        raise AssertionError("a length of %d is taken" % length)
     for call in (scm.merged_bytes, scm.marked_bytes, scm.open_conflicts):
         assert refused(call, base, ours, theirs, marks[1:]) == "no_item"
 
@@ -628,6 +646,7 @@ def main():
         session.click(23, 79)
         assert session.selected.file == 0 and session.end == "not_ended"
         assert len(session.paint()) < len(every_row)
+        assert session.paint() == b""
         session.repaint()
         assert session.paint() == every_row
         read_answers(session)

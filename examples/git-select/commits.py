@@ -10,7 +10,7 @@ from choosing.signals import status_of
 from choosing.waiting import counted
 from choosing.words import HalfDone, Stop, shown, words_of
 from sides import changed_between
-from ways import Stage
+from ways import USES, Stage
 
 # the front end takes no longer message
 LONGEST_MESSAGE = 1_000_000
@@ -23,7 +23,7 @@ def can_be_shown(message):
 
 
 class Commit(Stage):
-    writes = "the commit", "the index"
+    use = USES["Commit"]
     done, nothing, no_change = "committed", "nothing was committed", "there is nothing to commit"
     words, does, too_long = ("git-select", "--commit"), "commits what is marked", "git shows it in its editor"
     accepts = "commits"
@@ -75,7 +75,7 @@ class Commit(Stage):
 
     def write(self, choices, scratch, accepted, lock):
         """Commits the index with `choices`, which the index then has. What git and the hooks say is noted."""
-        self.repository.update(self.stored(self.all_of(choices), self.now), GIT_INDEX_FILE=lock.copy)
+        self.repository.update(self.stored(self.all_of(choices), self.use.now), GIT_INDEX_FILE=lock.copy)
         asked, before = self.tree_of(lock), self.repository.last_commit()
         with step("committing"):
             status = status_of(lambda: self.commit("".join(accepted.messages), lock.copy))
@@ -157,6 +157,7 @@ class Commit(Stage):
 
 
 class Amend(Commit):
+    use = USES["Amend"]
     words, does, too_long = ("git-select", "--amend"), "adds what is marked to the last commit", "it stays"
     accepts = "amends"
 
@@ -188,6 +189,7 @@ class Amend(Commit):
 
 
 class Fixup(Commit):
+    use = USES["Fixup"]
     accepts = "commits a fixup"
 
     words = "git-select", "--fixup"
@@ -209,11 +211,10 @@ class Fixup(Commit):
 
 
 class Split(Stage):
-    writes = "HEAD",
+    use = USES["Split"]
     done, nothing, no_change = "first", "nothing was split", "there is nothing to split: the last commit changes nothing"
     words, does = ("git-select", "--split"), "makes two commits of the last one: what is marked comes first"
     accepts = "splits the commit"
-    has_new = True
 
     def check(self):
         self.repository.check_identity()
@@ -248,7 +249,7 @@ class Split(Stage):
         first, second = accepted.messages
         if not first.strip() or not second.strip():
             raise Stop("a commit has no message")
-        tree = self.repository.tree_with(self.tree_before(), self.stored(self.all_of(choices), self.now), self.folder)
+        tree = self.repository.tree_with(self.tree_before(), self.stored(self.all_of(choices), self.use.now), self.folder)
         if tree == self.tree:
             raise Stop("all of it is marked, so nothing is left for the second commit")
         author, signing = self.repository.author_of(self.last), self.repository.signing()

@@ -6,7 +6,7 @@ from choosing.signals import signals_wait
 from choosing.waiting import counted, waits
 from choosing.words import Stop, shown
 from sides import changed_in_tree
-from ways import Way
+from ways import USES, Way
 
 NOT_REGULAR = ABSENT, LINK
 
@@ -21,11 +21,10 @@ def wanted_of(choice, now, made):
 
 
 class Restore(Way):
-    writes = "the files",
+    use = USES["Restore"]
     done, nothing, no_change = "restored", "nothing was restored", "there is nothing to restore"
     words, does = ("git-select", "--restore"), "takes back what is marked"
     accepts = "restores"
-    side, now, goal = "unselected", "new", "old"
 
     def read(self, scratch, only=None):
         return changed_in_tree(self, scratch, only, is_new_shown=False)

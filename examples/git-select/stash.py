@@ -10,7 +10,7 @@ from choosing.waiting import waits
 from choosing.words import HalfDone, Stop, printable, shown
 from restore import Restore
 from scratch import NO_HOOKS
-from ways import Stage
+from ways import USES, Stage
 
 
 def write_out(top, entries):
@@ -61,7 +61,7 @@ class Trial(Git):
 
 
 class Stash(Restore):
-    writes = "the stash", "the files"
+    use = USES["Stash"]
     done, nothing, no_change = "stashed", "nothing was stashed", "there is nothing to stash"
     words, does = ("git-select", "--stash"), "stashes what is marked"
     accepts = "stashes"
@@ -76,7 +76,7 @@ class Stash(Restore):
         entries = self.entries(self.all_of(choices), scratch)
         kept = self.kept(entries)
         staged = Stage(self.repository, self.options, self.start, self.folder)
-        stashed = self.stored(staged.all_of(choices_in(accepted, staged.side, staged.now)), staged.now)
+        stashed = self.stored(staged.all_of(choices_in(accepted, staged.use.side, staged.use.now)), staged.use.now)
         stash = self.repository.store_stash(stashed, self.options.message, self.folder, lock.copy)
         try:
             self.notes += self.files.change(entries)
@@ -85,7 +85,7 @@ class Stash(Restore):
         except BaseException:
             self.repository.drop_stash(stash)
             raise
-        self.written += self.writes
+        self.written += self.use.writes
         return [*self.reports(entries), *self.way_back(stash, entries, kept, scratch, lock)], False
 
     def kept(self, entries):

@@ -1,8 +1,9 @@
 """What git-select does with a choice in the index: stages it, or takes it out."""
+import collections
 import os
 
 from choosing.change import ABSENT, Renamed, Side, Unread
-from choosing.decided import ABSENT as NOTHING, CHOSEN, GOAL, KEPT, NOW, Row, decide
+from choosing.decided import ABSENT as NOTHING, KEPT, Row, decide, row_of
 from choosing.waiting import counted, waits
 from choosing.words import Stop, shown
 from lock import Lock
@@ -11,6 +12,20 @@ from repository import FALSE
 from sides import changed_in_index, changed_in_tree
 
 
+# What an option does with a choice: the side of each change that is put in place, the version that is there `now`, the one that is there once
+# everything is marked (`goal`), where the new versions lie, and what is written, in this order. docs/WRITES.md says what that is.
+Use = collections.namedtuple("Use", "side now goal new_in writes")
+REPOSITORY, WORKING_TREE = "the repository", "the working tree"
+USES = {
+    "Stage": Use("selected", "old", "new", WORKING_TREE, ["the index"]),
+    "Unstage": Use("unselected", "new", "old", REPOSITORY, ["the index"]),
+    "Restore": Use("unselected", "new", "old", WORKING_TREE, ["the files"]),
+    "Stash": Use("unselected", "new", "old", WORKING_TREE, ["the stash", "the files"]),
+    "Commit": Use("selected", "old", "new", WORKING_TREE, ["the commit", "the index"]),
+    "Amend": Use("selected", "old", "new", WORKING_TREE, ["the commit", "the index"]),
+    "Fixup": Use("selected", "old", "new", WORKING_TREE, ["the commit", "the index"]),
+    "Split": Use("selected", "old", "new", REPOSITORY, ["HEAD"]),
+}
 # how many files are named when something is done
 MOST_NAMED = 20
 # more bytes than files have
@@ -22,20 +37,19 @@ def file_of(change):
     return change.whole or change
 
 
+def version_in(change, word):
+    """Returns the version of a change that `word` names, `old` or `new`: its mode and its bytes."""
+    return getattr(change, word).mode, getattr(change, word + "_data")
+
+
 def name_of(change):
     """Returns what a change is called in a message."""
     return "%s => %s" % (shown(change.gone.path), shown(change.path)) if isinstance(change, Renamed) else shown(change.path)
 
 
 class Way:
-    """A way to use a choice. `side` is the side of a change that is put in place, `now` the one that is there, and `goal`
-    the one that is there once everything is marked. `writes` has what is written, in this order: docs/WRITES.md says what that is.
-    Nothing is said from the first of these to the last."""
+    """A way to use a choice. `use` says what it does. Nothing is said from the first of its `writes` to the last."""
 
-    side, now, goal = "selected", "old", "new"
-    writes = "the index",
-    # whether the repository has the new versions, and not the working tree
-    has_new = False
     # the paths of the files that are not read, once these are known
     unread = None
 
@@ -90,7 +104,7 @@ class Way:
     def unread_sides(self, choices, scratch):
         """Stores the new versions of chosen files that were not read, as `git add` does. Returns their sides, by change."""
         changes = {choice.change.path: choice.change for choice in choices if isinstance(choice.change.new_data, Unread)}
-        if self.has_new or not changes:
+        if self.has_new() or not changes:
             return {}
         given = b"".join(os.fsencode(path) + b"\0" for path in changes)
         words = "-c", "core.splitIndex=false", "update-index", "-z", "--add", "--replace", "--stdin"
@@ -106,16 +120,19 @@ class Way:
             stored = iter(self.repository.store([choice.data for choice in missing], [choice.name() for choice in missing]))
         return [(choice.change.path, Side(choice.mode, name or next(stored))) for choice, name in zip(choices, names)]
 
+    def has_new(self):
+        """Whether the repository has the new versions."""
+        return self.use.new_in == REPOSITORY
+
     def is_now(self, choice):
         """Whether all is already as a choice has it."""
-        now = getattr(choice.change, self.now)
-        return (choice.mode, choice.data) == (now.mode, getattr(choice.change, self.now + "_data"))
+        return (choice.mode, choice.data) == version_in(choice.change, self.use.now)
 
     def name_of(self, choice):
         """Returns the name of the object that has the bytes of a choice, if a version has them that the repository has."""
         change = choice.change
         sides = [(change.old, change.old_data)]
-        if self.has_new or isinstance(change.new_data, Unread):
+        if self.has_new() or isinstance(change.new_data, Unread):
             sides.append((change.new, change.new_data))
         return next((side.name for side, data in sides if data == choice.data), None)
 
@@ -131,14 +148,8 @@ class Way:
 
     def row(self, change, choice, file):
         """Returns the row of a path of a shown file: without a choice its marks ask for what is there now."""
-        now, goal = (getattr(change, side).mode != ABSENT for side in (self.now, self.goal))
-        wanted = (NOW if now else NOTHING) if not choice else NOTHING if choice.mode == ABSENT else self.version_of(choice)
-        return Row(change.path, now, goal, wanted, file)
-
-    def version_of(self, choice):
-        """Returns which version of its path a choice is that leaves a file there."""
-        goal = getattr(choice.change, self.goal).mode, getattr(choice.change, self.goal + "_data")
-        return GOAL if (choice.mode, choice.data) == goal else CHOSEN
+        now, goal = (version_in(change, side) for side in (self.use.now, self.use.goal))
+        return row_of(change.path, now, goal, (choice.mode, choice.data) if choice else now, file)
 
     def rows(self, choices):
         """Returns the rows of the files of `choices`, and if a path of these comes also those of the paths beside them."""
@@ -175,6 +186,7 @@ class Way:
 
 
 class Stage(Way):
+    use = USES["Stage"]
     done, nothing, no_change = "staged", "nothing was staged", "there is nothing to stage"
     words, does = ("git-select",), "stages what is marked"
     accepts = "stages"
@@ -188,7 +200,7 @@ class Stage(Way):
         """Puts `choices` in place, under the `lock` of the index. Returns what to report, and whether something was left."""
         taken = self.without_blocked(choices)
         if taken:
-            self.put(self.stored(taken, self.now), lock.copy)
+            self.put(self.stored(taken, self.use.now), lock.copy)
             lock.keep()
             self.written.append("the index")
         return self.reports(taken), len(taken) < len(choices)
@@ -204,16 +216,15 @@ class Stage(Way):
 
     def is_emptied(self, change, mode, data):
         """Whether a choice leaves an empty file where the goal is none, or one with lines."""
-        goal, goal_data = getattr(change, self.goal), getattr(change, self.goal + "_data")
-        return mode != ABSENT and not data and (goal.mode == ABSENT or bool(goal_data))
+        goal_mode, goal_data = version_in(change, self.use.goal)
+        return mode != ABSENT and not data and (goal_mode == ABSENT or bool(goal_data))
 
 
 class Unstage(Stage):
     done, nothing, no_change = "unstaged", "nothing was unstaged", "there is nothing to unstage"
     words, does = ("git-select", "--unstage"), "takes what is marked out of the index"
     accepts = "unstages"
-    side, now, goal = "unselected", "new", "old"
-    has_new = True
+    use = USES["Unstage"]
 
     def tree_before(self):
         return self.repository.last_tree()

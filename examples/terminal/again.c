@@ -82,14 +82,14 @@ kept_marks begin_marks(uint64_t name, uint64_t known, bool has_marks) {
 }
 
 /* Adds a line with the marks of a file to what is kept. */
-static bool add_line(scm_session *session, size_t file, text *into) {
+static bool add_line(gabro_session *session, size_t file, text *into) {
     size_t count = 0;
     char byte;
-    if (scm_marks(session, file, &byte, 0, &count) != SCM_DONE || !make_room(into, into->length + count + 1)) {
+    if (gabro_marks(session, file, &byte, 0, &count) != GABRO_DONE || !make_room(into, into->length + count + 1)) {
         return false;
     }
     char *line = into->bytes + into->length;
-    bool is_read = scm_marks(session, file, line, count, &count) == SCM_DONE;
+    bool is_read = gabro_marks(session, file, line, count, &count) == GABRO_DONE;
     for (size_t i = 0; is_read && i < count; i++) {
         line[i] = line[i] == 1 ? '1' : '0';
     }
@@ -98,9 +98,9 @@ static bool add_line(scm_session *session, size_t file, text *into) {
 }
 
 /* Sets `now` to what is kept of the marks as they are now: nothing if nothing is marked. */
-static bool make_kept(const kept_marks *marks, scm_session *session, text *now) {
+static bool make_kept(const kept_marks *marks, gabro_session *session, text *now) {
     size_t files = 0;
-    bool is_made = scm_files(session, &files) == SCM_DONE && append_words(now, FIRST_LINE, (unsigned long long)marks->known);
+    bool is_made = gabro_files(session, &files) == GABRO_DONE && append_words(now, FIRST_LINE, (unsigned long long)marks->known);
     size_t begun = now->length;
     for (size_t i = 0; is_made && i < files; i++) {
         is_made = add_line(session, i, now);
@@ -115,9 +115,9 @@ static bool write_kept(int file, const text *now) {
     return lseek(file, 0, SEEK_SET) == 0 && write_bytes(file, now->bytes, now->length) && ftruncate(file, (off_t)now->length) == 0;
 }
 
-void keep_now(kept_marks *marks, scm_session *session) {
+void keep_now(kept_marks *marks, gabro_session *session) {
     text now = {0};
-    if (marks->file < 0 || scm_stage(session) != SCM_WAITING || !make_kept(marks, session, &now)) {
+    if (marks->file < 0 || gabro_stage(session) != GABRO_WAITING || !make_kept(marks, session, &now)) {
         free(now.bytes);
         return;
     }

@@ -25,7 +25,7 @@ uint64_t known_by(uint64_t known, piece bytes);
 kept_marks begin_marks(uint64_t name, uint64_t known, bool has_marks);
 
 /* Keeps the marks of all files as they are now. */
-void keep_now(kept_marks *marks, scm_session *session);
+void keep_now(kept_marks *marks, gabro_session *session);
 
 /* Removes the file. */
 void end_marks(kept_marks *marks);

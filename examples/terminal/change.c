@@ -11,15 +11,15 @@ enum { KIND = 0170000, LINK = 0120000, TEXT = 0100644 };
 /* A no-break space, which no path has as it is shown, is between a path and what the file is. */
 #define AFTER_PATH "\xc2\xa0"
 
-bool is_link(const version *version) { return version->mode != SCM_ABSENT && (version->mode & KIND) == LINK; }
+bool is_link(const version *version) { return version->mode != GABRO_ABSENT && (version->mode & KIND) == LINK; }
 
-static bool are_equal(piece one, piece other) {
+bool are_equal(piece one, piece other) {
     return one.length == other.length && (one.length == 0 || memcmp(one.bytes, other.bytes, one.length) == 0);
 }
 
 bool is_same(const version *one, const version *other) { return one->mode == other->mode && are_equal(one->bytes, other->bytes); }
 
-static bool is_absent(const version *version) { return version->mode == SCM_ABSENT; }
+static bool is_absent(const version *version) { return version->mode == GABRO_ABSENT; }
 
 /* Returns whether a version is there, and no link. */
 static bool is_file(const version *version) { return !is_absent(version) && !is_link(version); }
@@ -45,25 +45,25 @@ void show_modes(change *change) {
 
 /* Returns a change as the library decides how it is shown, and what a tree has of it. Its contents are one item with the mode if it has words
  * for the new ones, and the mode is no item of its own. */
-static scm_changed changed_of(const change *change) {
+static gabro_changed changed_of(const change *change) {
     bool has_words = !change->has_modes && change->new.words.length > 0;
-    uint32_t shown = change->has_lines ? SCM_BY_LINES : has_words ? SCM_BY_ONE_ITEM : SCM_BY_ITEMS;
-    return (scm_changed){change->old.mode, change->new.mode, shown, change->old_path.length > 0};
+    uint32_t shown = change->has_lines ? GABRO_BY_LINES : has_words ? GABRO_BY_ONE_ITEM : GABRO_BY_ITEMS;
+    return (gabro_changed){change->old.mode, change->new.mode, shown, change->old_path.length > 0};
 }
 
 /* Returns what a state is to be given of a change. */
-static scm_shown shown_as(const change *change) {
-    scm_changed changed = changed_of(change);
-    scm_shown shown;
+static gabro_shown shown_as(const change *change) {
+    gabro_changed changed = changed_of(change);
+    gabro_shown shown;
     /* bytes that were not handed in differ if the words for them do */
     bool is_other = !are_equal(change->old.bytes, change->new.bytes) || !are_equal(change->old.words, change->new.words);
-    scm_tree_shown(&changed, is_other, &shown);
+    gabro_tree_shown(&changed, is_other, &shown);
     return shown;
 }
 
 /* Returns the lines of a version that is shown with this mode: of no file there are none. So no link is ever made of a part of its
  * target. */
-static piece lines_of(const version *version, size_t mode) { return mode == SCM_ABSENT ? (piece){"", 0} : version->bytes; }
+static piece lines_of(const version *version, size_t mode) { return mode == GABRO_ABSENT ? (piece){"", 0} : version->bytes; }
 
 /* ---- What the file is, in words ---- */
 
@@ -158,29 +158,29 @@ static bool count_own_lines(piece old, piece new, size_t *count) {
 
 /* Sets `count` to the number of lines that differ, in a session of its own. */
 static uint32_t compare_lines(piece old, piece new, size_t *count) {
-    scm_session session = {0};
+    gabro_session session = {0};
     char byte;
-    uint32_t code = scm_state_new(&session, true);
-    if (code == SCM_DONE) {
-        code = scm_state_texts(&session, "", 0, "", 0, old.bytes, old.length, TEXT, new.bytes, new.length, TEXT);
+    uint32_t code = gabro_state_new(&session, true);
+    if (code == GABRO_DONE) {
+        code = gabro_state_texts(&session, "", 0, "", 0, old.bytes, old.length, TEXT, new.bytes, new.length, TEXT);
     }
-    if (code == SCM_DONE) {
-        code = scm_marks(&session, 0, &byte, 0, count);
+    if (code == GABRO_DONE) {
+        code = gabro_marks(&session, 0, &byte, 0, count);
     }
-    scm_free(&session);
+    gabro_free(&session);
     return code;
 }
 
 /* Sets `count` to the number of changed lines. */
 static uint32_t count_changed(const change *change, size_t *count) {
-    scm_shown shown = shown_as(change);
+    gabro_shown shown = shown_as(change);
     piece old = lines_of(&change->old, shown.old_mode), new = lines_of(&change->new, shown.new_mode);
     leave_common(&old, &new);
     if (old.length > 0 && new.length > 0) {
-        return count_own_lines(old, new, count) ? SCM_DONE : compare_lines(old, new, count);
+        return count_own_lines(old, new, count) ? GABRO_DONE : compare_lines(old, new, count);
     }
     *count = lines_in(old) + lines_in(new);
-    return SCM_DONE;
+    return GABRO_DONE;
 }
 
 /* Adds words to a note: behind a comma, if there are others. */
@@ -193,15 +193,15 @@ static bool add_word(text *note, bool is_so, const char *word) { return !is_so |
 /* Adds how many lines come and go, if any do. */
 static uint32_t add_counts(text *note, const change *change) {
     size_t changed = 0;
-    scm_shown shown = shown_as(change);
+    gabro_shown shown = shown_as(change);
     size_t old = lines_in(lines_of(&change->old, shown.old_mode)), new = lines_in(lines_of(&change->new, shown.new_mode));
-    uint32_t code = change->has_lines ? count_changed(change, &changed) : SCM_DONE;
-    if (code != SCM_DONE || changed == 0) {
+    uint32_t code = change->has_lines ? count_changed(change, &changed) : GABRO_DONE;
+    if (code != GABRO_DONE || changed == 0) {
         return code;
     }
     size_t added = (changed + new - old) / 2;
     bool is_added = append(note, ", ", note->length > 0 ? 2 : 0) && append_words(note, "+%zu -%zu", added, changed - added);
-    return is_added ? SCM_DONE : SCM_NO_MEMORY;
+    return is_added ? GABRO_DONE : GABRO_NO_MEMORY;
 }
 
 /* Adds the path that the file had. */
@@ -234,17 +234,17 @@ static uint32_t make_note(text *note, const change *change) {
     bool is_made = add_rename(note, change) && add_word(note, is_new, "new") && add_word(note, is_gone, "deleted")
                    && add_word(note, has_other_mode, "mode") && add_target(note, change) && add_binary(note, change)
                    && add_words(note, change->note.bytes, change->note.length);
-    return is_made ? add_counts(note, change) : SCM_NO_MEMORY;
+    return is_made ? add_counts(note, change) : GABRO_NO_MEMORY;
 }
 
 /* Sets `title` to the path of a change, and what the file is. */
 static uint32_t make_title(text *title, const change *change) {
     text note = {0};
     uint32_t code = make_note(&note, change);
-    if (code == SCM_DONE) {
+    if (code == GABRO_DONE) {
         bool is_made = append(title, change->path.bytes, change->path.length)
                        && (note.length == 0 || append_words(title, AFTER_PATH "(%s)", note.bytes));
-        code = is_made ? SCM_DONE : SCM_NO_MEMORY;
+        code = is_made ? GABRO_DONE : GABRO_NO_MEMORY;
     }
     free(note.bytes);
     return code;
@@ -253,31 +253,31 @@ static uint32_t make_title(text *title, const change *change) {
 /* ---- To a state ---- */
 
 /* Adds a file whose contents are not shown by lines. */
-static uint32_t add_items(scm_session *session, piece title, const change *change) {
+static uint32_t add_items(gabro_session *session, piece title, const change *change) {
     piece old = change->old.words, new = change->new.words, old_path = change->old_path;
-    scm_shown shown = shown_as(change);
-    uint32_t code = scm_state_file(session, title.bytes, title.length, old_path.bytes, old_path.length, shown.old_mode);
-    if (code == SCM_DONE && shown.has_mode) {
-        code = scm_state_mode(session, false, shown.new_mode);
+    gabro_shown shown = shown_as(change);
+    uint32_t code = gabro_state_file(session, title.bytes, title.length, old_path.bytes, old_path.length, shown.old_mode);
+    if (code == GABRO_DONE && shown.has_mode) {
+        code = gabro_state_mode(session, false, shown.new_mode);
     }
-    if (code == SCM_DONE && shown.has_contents) {
-        code = scm_state_binary(session, false, old.bytes, old.length, new.bytes, new.length);
+    if (code == GABRO_DONE && shown.has_contents) {
+        code = gabro_state_binary(session, false, old.bytes, old.length, new.bytes, new.length);
     }
     return code;
 }
 
 /* Adds a file by its two versions. */
-static uint32_t add_texts(scm_session *session, piece path, const change *change) {
-    scm_shown shown = shown_as(change);
+static uint32_t add_texts(gabro_session *session, piece path, const change *change) {
+    gabro_shown shown = shown_as(change);
     piece old = lines_of(&change->old, shown.old_mode), new = lines_of(&change->new, shown.new_mode);
-    return scm_state_texts(session, path.bytes, path.length, change->old_path.bytes, change->old_path.length, old.bytes, old.length,
+    return gabro_state_texts(session, path.bytes, path.length, change->old_path.bytes, change->old_path.length, old.bytes, old.length,
                            shown.old_mode, new.bytes, new.length, shown.new_mode);
 }
 
-static uint32_t add_titled(scm_session *session, const change *change) {
+static uint32_t add_titled(gabro_session *session, const change *change) {
     text title = {0};
     uint32_t code = make_title(&title, change);
-    if (code == SCM_DONE) {
+    if (code == GABRO_DONE) {
         piece path = {title.bytes, title.length};
         code = change->has_lines ? add_texts(session, path, change) : add_items(session, path, change);
     }
@@ -285,42 +285,76 @@ static uint32_t add_titled(scm_session *session, const change *change) {
     return code;
 }
 
-uint32_t add_change(scm_session *session, change *change) {
+uint32_t add_change(gabro_session *session, change *change) {
     uint32_t code = add_titled(session, change);
-    if (code == SCM_TOO_LONG && change->has_lines) {
+    if (code == GABRO_TOO_LONG && change->has_lines) {
         change->has_lines = false;
         code = add_titled(session, change);
     }
     return code;
 }
 
-/* ---- From a state ---- */
+/* ---- Beside a state ---- */
 
-static uint32_t read_bytes(scm_session *session, size_t file, bool is_selected, text *into) {
-    size_t length = 0;
-    uint32_t code = SCM_DONE;
-    do {
-        if (!make_room(into, length)) {
-            return SCM_NO_MEMORY;
+/* Adds where a renamed file comes from, and the mode that it gets if that is another one. */
+static bool add_origin(text *words, const change *change) {
+    bool has_other_mode = change->old.mode != change->new.mode;
+    return add_rename(words, change) && (!has_other_mode || append_words(words, ", mode %06zo", change->new.mode));
+}
+
+/* Returns the index of the section of a file that stands for its path, or GABRO_NO_INDEX if there is none. */
+static size_t section_of_path(const gabro_session *session, size_t file) {
+    gabro_key key = {.file = file, .section = GABRO_NO_INDEX, .line = GABRO_NO_INDEX};
+    size_t sections = 0, parts;
+    uint32_t kind = GABRO_FILE;
+    uint32_t code = gabro_item(session, &key, &kind, &sections);
+    for (key.section = 0; code == GABRO_DONE && key.section < sections; key.section++) {
+        code = gabro_item(session, &key, &kind, &parts);
+        if (code == GABRO_DONE && kind == GABRO_MODE) {
+            return key.section;
         }
-        code = scm_side_bytes(session, file, is_selected, into->bytes, into->room, &length);
-    } while (code == SCM_DONE && length > into->room);
-    end_at(into, code == SCM_DONE ? length : 0);
+    }
+    return GABRO_NO_INDEX;
+}
+
+uint32_t label_rename(gabro_session *session, size_t file, const change *change) {
+    size_t section = change->old_path.length > 0 ? section_of_path(session, file) : GABRO_NO_INDEX;
+    if (section == GABRO_NO_INDEX) {
+        return GABRO_DONE;
+    }
+    text words = {0};
+    uint32_t code = add_origin(&words, change) ? gabro_label(session, file, section, words.bytes, words.length) : GABRO_NO_MEMORY;
+    free(words.bytes);
     return code;
 }
 
-uint32_t read_side(scm_session *session, size_t file, const change *change, bool is_selected, text *into, side *side) {
-    scm_changed changed = changed_of(change);
-    scm_side_info info;
-    scm_in_tree found;
+/* ---- From a state ---- */
+
+static uint32_t read_bytes(gabro_session *session, size_t file, bool is_selected, text *into) {
+    size_t length = 0;
+    uint32_t code = GABRO_DONE;
+    do {
+        if (!make_room(into, length)) {
+            return GABRO_NO_MEMORY;
+        }
+        code = gabro_side_bytes(session, file, is_selected, into->bytes, into->room, &length);
+    } while (code == GABRO_DONE && length > into->room);
+    end_at(into, code == GABRO_DONE ? length : 0);
+    return code;
+}
+
+uint32_t read_side(gabro_session *session, size_t file, const change *change, bool is_selected, text *into, side *side) {
+    gabro_changed changed = changed_of(change);
+    gabro_side_info info;
+    gabro_in_tree found;
     char byte;
-    uint32_t code = scm_side(session, file, is_selected, &byte, 0, &info);
-    if (code != SCM_DONE) {
+    uint32_t code = gabro_side(session, file, is_selected, &byte, 0, &info);
+    if (code != GABRO_DONE) {
         return code;
     }
-    scm_tree_side(&changed, is_selected, &info, &found);
-    const version *version = found.contents == SCM_OF_NEW ? &change->new : &change->old;
-    *side = (struct side){found.mode, found.old_path_mode, version->bytes, found.contents == SCM_OF_SIDE, found.contents == SCM_OF_NEW};
+    gabro_tree_side(&changed, is_selected, &info, &found);
+    const version *version = found.contents == GABRO_OF_NEW ? &change->new : &change->old;
+    *side = (struct side){found.mode, found.old_path_mode, version->bytes, found.contents == GABRO_OF_SIDE, found.contents == GABRO_OF_NEW};
     if (side->has_lines) {
         code = read_bytes(session, file, is_selected, into);
         side->bytes = (piece){into->bytes, into->length};

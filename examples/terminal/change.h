@@ -4,7 +4,7 @@
 
 #include "files.h"
 
-/* A version of a file. If it does not exist, its mode is SCM_ABSENT, and it has no bytes. */
+/* A version of a file. If it does not exist, its mode is GABRO_ABSENT, and it has no bytes. */
 typedef struct version {
     size_t mode;
     piece bytes;
@@ -24,12 +24,15 @@ typedef struct change {
 /* A side of a changed file, as a tree has it. Its contents are lines if `has_lines`. Else they are those of the new version if `is_new`,
  * or of the old one. */
 typedef struct side {
-    size_t mode;          /* at the file's path, or SCM_ABSENT */
-    size_t old_path_mode; /* at the path before a rename, or SCM_ABSENT */
+    size_t mode;          /* at the file's path, or GABRO_ABSENT */
+    size_t old_path_mode; /* at the path before a rename, or GABRO_ABSENT */
     piece bytes;
     bool has_lines;
     bool is_new;
 } side;
+
+/* Returns whether two pieces have the same bytes. */
+bool are_equal(piece one, piece other);
 
 /* Returns whether a version is a link. */
 bool is_link(const version *version);
@@ -45,10 +48,14 @@ void show_modes(change *change);
 
 /* Adds a change to the state of `session`. Behind its path it says what the file is, and how many lines come and go. If a line is
  * too long, the contents are one item, and `change->has_lines` says so. Returns the code of the call. */
-uint32_t add_change(scm_session *session, change *change);
+uint32_t add_change(gabro_session *session, change *change);
+
+/* Has the layer say of file `file`, counted from 0, which shows `change`, where it comes from: on the row of its path, in place of a mode
+ * that does not change. Without a rename it does nothing. Returns the code of the call that failed, or GABRO_DONE. */
+uint32_t label_rename(gabro_session *session, size_t file, const change *change);
 
 /* Sets `side` to a side of file `file`, counted from 0, which shows `change`: to the selected one if `is_selected`. Its bytes lie
  * in `into`, or are those of a version of the change. Returns the code of the call. */
-uint32_t read_side(scm_session *session, size_t file, const change *change, bool is_selected, text *into, side *side);
+uint32_t read_side(gabro_session *session, size_t file, const change *change, bool is_selected, text *into, side *side);
 
 #endif

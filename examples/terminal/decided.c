@@ -10,15 +10,15 @@ bool add_row(text *rows, const char head[4], const char *path) {
 
 uint32_t decide(const text *rows, text *into) {
     size_t length = FIRST_ROOM;
-    uint32_t code = SCM_NO_MEMORY;
+    uint32_t code = GABRO_NO_MEMORY;
     end_at(into, 0);
     do {
         if (!make_room(into, length)) {
-            return SCM_NO_MEMORY;
+            return GABRO_NO_MEMORY;
         }
-        code = scm_decide_rows(rows->bytes, rows->length, into->bytes, into->room, &length);
-    } while (code == SCM_DONE && length > into->room);
-    end_at(into, code == SCM_DONE ? length : 0);
+        code = gabro_decide_rows(rows->bytes, rows->length, into->bytes, into->room, &length);
+    } while (code == GABRO_DONE && length > into->room);
+    end_at(into, code == GABRO_DONE ? length : 0);
     return code;
 }
 

@@ -4,10 +4,10 @@
 
 #include "files.h"
 
-/* Adds a row of scm_decide_rows: its four bytes and the path. Returns false if memory for it fails. */
+/* Adds a row of gabro_decide_rows: its four bytes and the path. Returns false if memory for it fails. */
 bool add_row(text *rows, const char head[4], const char *path);
 
-/* Sets `into` to what scm_decide_rows writes of `rows`. Returns its code; `into` is empty after any code but SCM_DONE. */
+/* Sets `into` to what gabro_decide_rows writes of `rows`. Returns its code; `into` is empty after any code but GABRO_DONE. */
 uint32_t decide(const text *rows, text *into);
 
 /* Returns the first record of what was decided that says that a file is left out, or that nothing is decided, or NULL. */

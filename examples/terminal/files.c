@@ -199,8 +199,15 @@ static bool is_own_or_same(const struct stat *now, const struct stat *before) {
     return now->st_uid == geteuid() || (now->st_dev == before->st_dev && now->st_ino == before->st_ino);
 }
 
+/* Returns whether a file has the permissions and the group of another one, or is that one. */
+static bool is_used_as(const struct stat *now, const struct stat *before) {
+    bool is_same = now->st_dev == before->st_dev && now->st_ino == before->st_ino;
+    return is_same || (now->st_mode == before->st_mode && now->st_gid == before->st_gid);
+}
+
 /* Looks at a target again. Returns false with errno set if that fails: to ESTALE if what is there is of another kind by now, or is another
- * user's, who put it there since. A file that came where nothing was gives nothing to the one that takes its place. */
+ * user's, who put it there since. A file that came where nothing was, or that others may use in another way than what was there, gives nothing
+ * to the one that takes its place. */
 static bool look_again(target *target) {
     struct stat now;
     bool is_there = fstatat(target->folder, target->name, &now, AT_SYMLINK_NOFOLLOW) == 0;
@@ -211,7 +218,7 @@ static bool look_again(target *target) {
     bool is_of_that_kind = is_nothing_or_file(before) ? is_nothing_or_file(mode) : (mode & S_IFMT) == (before & S_IFMT);
     bool is_well = is_of_that_kind && (!is_there || is_own_or_same(&now, &target->status));
     if (is_well) {
-        target->status = is_there && before != 0 ? now : (struct stat){0};
+        target->status = is_there && before != 0 && is_used_as(&now, &target->status) ? now : (struct stat){0};
     }
     errno = is_well ? errno : ESTALE;
     return is_well;

@@ -205,7 +205,7 @@ static bool read_both(folders *folders, differing *file, bool *is_file) {
 
 /* Returns whether a file is that of jj, which puts it beside those of the right folder for whoever reads them. */
 static bool is_of_jj(const differing *file) {
-    return !strcmp(file->path, "JJ-INSTRUCTIONS") && file->old.version.mode == SCM_ABSENT;
+    return !strcmp(file->path, "JJ-INSTRUCTIONS") && file->old.version.mode == GABRO_ABSENT;
 }
 
 /* Adds a file if it differs. */

@@ -20,7 +20,7 @@ static bool add_size(text *into, size_t size) {
 
 /* Sets the mode and the bytes of a version that was read, and the words for it. */
 static bool describe(found *found, size_t mode) {
-    bool is_there = mode != SCM_ABSENT;
+    bool is_there = mode != GABRO_ABSENT;
     bool has_target = mode == LINK_MODE;
     bool is_made = append(&found->bytes, "", 0) && append(&found->words, "", 0);
     is_made = is_made && (!has_target || (append(&found->words, "link to ", 8) && add_shown(&found->words, found->bytes.bytes)));
@@ -95,7 +95,7 @@ bool read_found(below *below, const char *path, found *found, bool *is_file) {
     if (!look_at(below, path, &at, &found->status)) {
         return false;
     }
-    return found->status.st_mode == 0 ? describe(found, SCM_ABSENT) : read_place(at, found, is_file);
+    return found->status.st_mode == 0 ? describe(found, GABRO_ABSENT) : read_place(at, found, is_file);
 }
 
 int open_found(below *below, const char *path, const found *found) {

@@ -1,7 +1,6 @@
 /* Changes that another program hands in as records, and what it gets back. No proof covers this file. */
 #define _GNU_SOURCE
 #include "handed.h"
-#include "marks.h"
 #include "shown.h"
 
 #include <stdio.h>
@@ -65,7 +64,7 @@ static bool take_record(piece *rest, record *record) {
 /* Begins a changed file with its path. Returns false if there is no memory for it. */
 static bool begin_change(handed *handed, piece path) {
     static const piece none = {"", 0};
-    static const version absent = {SCM_ABSENT, {"", 0}, {"", 0}};
+    static const version absent = {GABRO_ABSENT, {"", 0}, {"", 0}};
     if (handed->count == handed->room) {
         size_t room = handed->room > 0 ? 2 * handed->room : FIRST_CHANGES;
         handed_change *larger = realloc(handed->changes, room * sizeof *larger);
@@ -149,30 +148,33 @@ void free_handed(handed *handed) {
 
 /* ---- To a session ---- */
 
-uint32_t open_commits(scm_session *session, const handed *handed) {
-    uint32_t code = scm_state_new(session, handed->is_read_only);
-    for (size_t i = 0; i < handed->commits && code == SCM_DONE; i++) {
-        code = scm_state_message(session, handed->messages[i].bytes, handed->messages[i].length);
+uint32_t open_commits(gabro_session *session, const handed *handed) {
+    uint32_t code = gabro_state_new(session, handed->is_read_only);
+    for (size_t i = 0; i < handed->commits && code == GABRO_DONE; i++) {
+        code = gabro_state_message(session, handed->messages[i].bytes, handed->messages[i].length);
     }
     return code;
 }
 
-/* Returns how many files there are up to the last one with marks. */
-static size_t count_marked(const handed *handed) {
-    size_t count = handed->count;
-    while (count > 0 && handed->changes[count - 1].marks.length == 0) {
-        count--;
+/* Gives file `file` the marks that were handed in: '1' for each item that is marked. Returns whether they fit its items. */
+static bool set_marks(gabro_session *session, size_t file, piece marks) {
+    text bytes = {0};
+    bool is_copied = append(&bytes, marks.bytes, marks.length);
+    for (size_t i = 0; i < bytes.length; i++) {
+        bytes.bytes[i] = bytes.bytes[i] == '1';
     }
-    return count;
+    bool is_set = is_copied && gabro_state_marks(session, file, bytes.bytes, bytes.length) == GABRO_DONE;
+    free(bytes.bytes);
+    return is_set;
 }
 
 /* Returns what is said of marks of file `file` that do not fit its items. */
-static const char *wrong_marks(scm_session *session, size_t file, const handed_change *handed) {
+static const char *wrong_marks(gabro_session *session, size_t file, const handed_change *handed) {
     static char words[LONGEST_WORDS];
     size_t count = 0;
     char none;
     piece path = handed->change.path;
-    if (scm_marks(session, file, &none, 0, &count) == SCM_DONE) {
+    if (gabro_marks(session, file, &none, 0, &count) == GABRO_DONE) {
         snprintf(words, sizeof words, "its %zu marks for %.*s do not fit the %zu items of that file", handed->marks.length, (int)path.length,
                  path.bytes, count);
     } else {
@@ -181,21 +183,12 @@ static const char *wrong_marks(scm_session *session, size_t file, const handed_c
     return words;
 }
 
-const char *mark_handed(scm_session *session, const handed *handed) {
-    size_t count = count_marked(handed);
+const char *mark_handed(gabro_session *session, const handed *handed) {
     const char *why = NULL;
-    for (size_t i = 0; i < count; i++) {
+    for (size_t i = 0; i < handed->count && !why; i++) {
         const handed_change *change = &handed->changes[i];
-        if (change->marks.length > 0 && !set_marks(session, i, change->marks) && !why) {
-            why = wrong_marks(session, i, change);
-        }
-        select_next(session);
-    }
-    for (size_t i = 0; i < count; i++) {
-        select_previous(session);
-    }
-    if (handed->is_all_marked) {
-        mark_all(session);
+        bool is_fit = change->marks.length == 0 || set_marks(session, i, change->marks);
+        why = is_fit ? NULL : wrong_marks(session, i, change);
     }
     return why;
 }
@@ -209,104 +202,99 @@ static bool add_record(text *into, const char *word, piece bytes) {
 /* Adds the mode of a side, unless the file does not exist on it. */
 static bool add_mode(text *into, const char *word, size_t mode) {
     text digits = {0};
-    bool is_added = mode == SCM_ABSENT
+    bool is_added = mode == GABRO_ABSENT
                     || (append_words(&digits, "%zo", mode) && add_record(into, word, (piece){digits.bytes, digits.length}));
     free(digits.bytes);
     return is_added;
 }
 
-/* Returns whether a side is a version, at the path of that and nowhere else. */
-static bool is_version(const change *change, const side *side, bool is_new) {
-    const version *version = is_new ? &change->new : &change->old;
-    bool is_moved_back = change->old_path.length > 0 && !is_new;
-    size_t mode = is_moved_back ? side->old_path_mode : side->mode, other_mode = is_moved_back ? side->mode : side->old_path_mode;
-    struct version found = {mode, side->bytes, {"", 0}};
-    bool is_it = side->has_lines ? is_same(&found, version) : side->is_new == is_new && mode == version->mode;
-    return is_it && other_mode == SCM_ABSENT;
+/* Returns which version has the bytes of a side, or NULL if none has. Bytes that were not handed in are those of one. */
+static const char *word_for_contents(const change *change, const side *side) {
+    bool is_new = side->has_lines ? are_equal(side->bytes, change->new.bytes) : side->is_new;
+    bool is_old = side->has_lines ? are_equal(side->bytes, change->old.bytes) : !side->is_new;
+    return is_new ? "new" : is_old ? "old" : NULL;
 }
 
-/* Adds a side that is no version: its mode at each of its paths, and its bytes, or which version has them if they were not handed in. */
-static bool add_made_side(const side *side, bool is_selected, text *into) {
-    static const piece old = {"old", 3}, new = {"new", 3};
-    return add_mode(into, is_selected ? "selected-mode" : "unselected-mode", side->mode)
-           && add_mode(into, is_selected ? "selected-old-path" : "unselected-old-path", side->old_path_mode)
-           && (side->has_lines ? add_record(into, is_selected ? "selected" : "unselected", side->bytes)
-                               : add_record(into, is_selected ? "selected-is" : "unselected-is", side->is_new ? new : old));
+/* Adds the contents of a side: the version that has them, or its bytes. */
+static bool add_contents(const change *change, const side *side, bool is_selected, text *into) {
+    const char *word = word_for_contents(change, side);
+    return word ? add_record(into, is_selected ? "selected-is" : "unselected-is", (piece){word, strlen(word)})
+                : add_record(into, is_selected ? "selected" : "unselected", side->bytes);
 }
 
-/* Adds a side of file `file`, which may be a version. */
-static uint32_t add_side(scm_session *session, const change *change, size_t file, bool is_selected, text *into) {
+/* Adds a side of file `file`: its mode at each of its paths, and its contents. */
+static uint32_t add_side(gabro_session *session, const change *change, size_t file, bool is_selected, text *into) {
     text bytes = {0};
     side side;
     uint32_t code = read_side(session, file, change, is_selected, &bytes, &side);
-    if (code == SCM_DONE) {
-        bool is_new = is_version(change, &side, true), is_one = is_new || is_version(change, &side, false);
-        const char *word = is_selected ? "selected-version" : "unselected-version";
-        bool is_added = is_one ? add_record(into, word, (piece){is_new ? "new" : "old", 3}) : add_made_side(&side, is_selected, into);
-        code = is_added ? SCM_DONE : SCM_NO_MEMORY;
+    if (code == GABRO_DONE) {
+        bool is_added = add_mode(into, is_selected ? "selected-mode" : "unselected-mode", side.mode)
+                        && add_mode(into, is_selected ? "selected-old-path" : "unselected-old-path", side.old_path_mode)
+                        && add_contents(change, &side, is_selected, into);
+        code = is_added ? GABRO_DONE : GABRO_NO_MEMORY;
     }
     free(bytes.bytes);
     return code;
 }
 
 /* Adds the marks of file `file`: '1' for each item that is marked, and else '0'. */
-static uint32_t add_marks(scm_session *session, size_t file, text *into) {
+static uint32_t add_marks(gabro_session *session, size_t file, text *into) {
     size_t count = 0;
     char none;
-    uint32_t code = scm_marks(session, file, &none, 0, &count);
-    if (code != SCM_DONE) {
+    uint32_t code = gabro_marks(session, file, &none, 0, &count);
+    if (code != GABRO_DONE) {
         return code;
     }
     if (!append_words(into, "marks %zu\n", count) || !make_room(into, into->length + count + 1)) {
-        return SCM_NO_MEMORY;
+        return GABRO_NO_MEMORY;
     }
     char *marks = into->bytes + into->length;
-    code = scm_marks(session, file, marks, count + 1, &count);
-    for (size_t i = 0; i < count && code == SCM_DONE; i++) {
+    code = gabro_marks(session, file, marks, count + 1, &count);
+    for (size_t i = 0; i < count && code == GABRO_DONE; i++) {
         marks[i] = marks[i] == 1 ? '1' : '0';
     }
     end_at(into, into->length + count);
-    return code != SCM_DONE ? code : append(into, "\n", 1) ? SCM_DONE : SCM_NO_MEMORY;
+    return code != GABRO_DONE ? code : append(into, "\n", 1) ? GABRO_DONE : GABRO_NO_MEMORY;
 }
 
-static uint32_t add_message(scm_session *session, size_t commit, text *into) {
+static uint32_t add_message(gabro_session *session, size_t commit, text *into) {
     text message = {0};
     size_t length = 0;
-    uint32_t code = SCM_DONE;
+    uint32_t code = GABRO_DONE;
     do {
         bool has_room = make_room(&message, length);
-        code = has_room ? scm_message(session, commit, message.bytes, message.room, &length) : SCM_NO_MEMORY;
-    } while (code == SCM_DONE && length > message.room);
-    if (code == SCM_DONE && !add_record(into, "message", (piece){message.bytes, length})) {
-        code = SCM_NO_MEMORY;
+        code = has_room ? gabro_message(session, commit, message.bytes, message.room, &length) : GABRO_NO_MEMORY;
+    } while (code == GABRO_DONE && length > message.room);
+    if (code == GABRO_DONE && !add_record(into, "message", (piece){message.bytes, length})) {
+        code = GABRO_NO_MEMORY;
     }
     free(message.bytes);
     return code;
 }
 
 /* Begins records with one that has the word `first` and no bytes, and adds the messages. */
-static uint32_t begin_records(scm_session *session, const handed *handed, const char *first, text *into) {
-    uint32_t code = add_record(into, first, (piece){"", 0}) ? SCM_DONE : SCM_NO_MEMORY;
-    for (size_t i = 0; i < handed->commits && code == SCM_DONE; i++) {
+static uint32_t begin_records(gabro_session *session, const handed *handed, const char *first, text *into) {
+    uint32_t code = add_record(into, first, (piece){"", 0}) ? GABRO_DONE : GABRO_NO_MEMORY;
+    for (size_t i = 0; i < handed->commits && code == GABRO_DONE; i++) {
         code = add_message(session, i, into);
     }
     return code;
 }
 
-uint32_t write_marks(scm_session *session, const handed *handed, text *into) {
+uint32_t write_marks(gabro_session *session, const handed *handed, text *into) {
     uint32_t code = begin_records(session, handed, "kept", into);
-    for (size_t i = 0; i < handed->count && code == SCM_DONE; i++) {
+    for (size_t i = 0; i < handed->count && code == GABRO_DONE; i++) {
         code = add_marks(session, i, into);
     }
     return code;
 }
 
-uint32_t write_accepted_sides(scm_session *session, const handed *handed, text *into) {
+uint32_t write_accepted_sides(gabro_session *session, const handed *handed, text *into) {
     uint32_t code = begin_records(session, handed, "accepted", into);
-    for (size_t i = 0; i < handed->count && code == SCM_DONE; i++) {
+    for (size_t i = 0; i < handed->count && code == GABRO_DONE; i++) {
         code = add_marks(session, i, into);
-        code = code == SCM_DONE ? add_side(session, &handed->changes[i].change, i, true, into) : code;
-        code = code == SCM_DONE ? add_side(session, &handed->changes[i].change, i, false, into) : code;
+        code = code == GABRO_DONE ? add_side(session, &handed->changes[i].change, i, true, into) : code;
+        code = code == GABRO_DONE ? add_side(session, &handed->changes[i].change, i, false, into) : code;
     }
     return code;
 }

@@ -34,18 +34,18 @@ const char *read_handed(piece bytes, handed *handed);
 void free_handed(handed *handed);
 
 /* Opens a session over a state that has the messages that were handed in, and no files yet. Returns the code of the call that failed,
- * or SCM_DONE. */
-uint32_t open_commits(scm_session *session, const handed *handed);
+ * or GABRO_DONE. */
+uint32_t open_commits(gabro_session *session, const handed *handed);
 
-/* Sets the marks that were handed in, in a session that has begun. Returns NULL, or which marks do not fit the items of their file. */
-const char *mark_handed(scm_session *session, const handed *handed);
+/* Sets the marks that were handed in, in the state that is made. Returns NULL, or which marks do not fit the items of their file. */
+const char *mark_handed(gabro_session *session, const handed *handed);
 
 /* Sets `into` to what was accepted: messages, and of each change the marks and both sides. Returns the code of the call that failed,
- * or SCM_DONE. */
-uint32_t write_accepted_sides(scm_session *session, const handed *handed, text *into);
+ * or GABRO_DONE. */
+uint32_t write_accepted_sides(gabro_session *session, const handed *handed, text *into);
 
 /* Sets `into` to the messages and the marks of a session that goes on: what is kept of it if the program is killed. Returns the code of the call
- * that failed, or SCM_DONE. */
-uint32_t write_marks(scm_session *session, const handed *handed, text *into);
+ * that failed, or GABRO_DONE. */
+uint32_t write_marks(gabro_session *session, const handed *handed, text *into);
 
 #endif

@@ -1,9 +1,9 @@
 /* Runs a session at a terminal while all that is no error comes in its way: signals of the program whose handlers have no SA_RESTART, an
  * open file that never waits, and a user who reads nothing for a while. It prints nothing, and stops at the first thing that is not as
- * scm.h says. */
+ * gabrosty.h says. */
 #undef NDEBUG
 #define _GNU_SOURCE
-#include "scm.h"
+#include "gabrosty.h"
 
 #include <assert.h>
 #include <fcntl.h>
@@ -37,16 +37,16 @@ static void wait_for(long milliseconds) {
 }
 
 /* Opens a session over many lines that differ, so a frame has more bytes than a terminal takes at once. */
-static void open_session(scm_session *session) {
+static void open_session(gabro_session *session) {
     static char new_lines[LINES * WIDTH];
     memset(new_lines, 'n', sizeof new_lines);
     for (size_t end = WIDTH - 1; end < sizeof new_lines; end += WIDTH) {
         new_lines[end] = '\n';
     }
-    assert(scm_state_new(session, false) == SCM_DONE);
-    assert(scm_state_texts(session, "f", 1, "", 0, "", 0, 0100644, new_lines, sizeof new_lines, 0100644) == SCM_DONE);
-    assert(scm_begin_layer(session, WIDTH, HEIGHT) == SCM_DONE);
-    assert(scm_press(session, "shift-F", 7) == SCM_DONE);
+    assert(gabro_state_new(session, false) == GABRO_DONE);
+    assert(gabro_state_texts(session, "f", 1, "", 0, "", 0, 0100644, new_lines, sizeof new_lines, 0100644) == GABRO_DONE);
+    assert(gabro_begin_layer(session, WIDTH, HEIGHT) == GABRO_DONE);
+    assert(gabro_press(session, "shift-F", 7) == GABRO_DONE);
 }
 
 /* Reads what is shown until nothing comes for a while, or the terminal is closed. */
@@ -91,19 +91,19 @@ static pthread_t begin_user(int *user) {
 }
 
 static void run_interrupted(int flags) {
-    scm_session session = {0};
+    gabro_session session = {0};
     int user = posix_openpt(O_RDWR | O_NOCTTY), terminal = open_terminal(user, flags);
     char marks[LINES];
     size_t count = 0;
     open_session(&session);
     pthread_t thread = begin_user(&user);
-    assert(scm_run(&session, terminal, NULL) == 0);
-    assert(scm_stage(&session) == SCM_ACCEPTED && alarms > 0);
-    assert(scm_marks(&session, 0, marks, sizeof marks, &count) == SCM_DONE && count == LINES && memchr(marks, 0, LINES) == NULL);
+    assert(gabro_run(&session, terminal, NULL) == 0);
+    assert(gabro_stage(&session) == GABRO_ACCEPTED && alarms > 0);
+    assert(gabro_marks(&session, 0, marks, sizeof marks, &count) == GABRO_DONE && count == LINES && memchr(marks, 0, LINES) == NULL);
     close(terminal);
     assert(pthread_join(thread, NULL) == 0);
     close(user);
-    scm_free(&session);
+    gabro_free(&session);
 }
 
 int main(void) {

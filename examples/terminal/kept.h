@@ -15,7 +15,7 @@ typedef struct keeper {
 keeper begin_keeping(const char *path, const handed *handed);
 
 /* Keeps the marks as they are now. `keeper` leads to a keeper: a run calls this where the user rests. */
-void keep_on(void *keeper, scm_session *session);
+void keep_on(void *keeper, gabro_session *session);
 
 /* Empties the file again, and closes it. */
 void end_keeping(keeper *keeper);

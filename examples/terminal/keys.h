@@ -19,7 +19,8 @@
     "  c                         accepts what is marked\n" \
     "  q                         gives up; asks first if something is marked or a\n" \
     "                            message is not empty (then Enter quits, and q goes\n" \
-    "                            back)\n" \
+    "                            back); with the layer the programs do not ask where\n" \
+    "                            no mark and no message was changed\n" \
     "  ?                         opens or closes the help, which names the keys\n" \
     "  /                         searches for a text, downwards\n" \
     "  n, N                      searches for it again, downwards or upwards\n" \

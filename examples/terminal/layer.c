@@ -2,6 +2,8 @@
 #define _GNU_SOURCE
 #include "layer.h"
 #include "characters.h"
+#include "files.h"
+#include "target.h"
 
 #include <ctype.h>
 #include <limits.h>
@@ -40,8 +42,8 @@ const char *read_layer(layer *layer, const char **values) {
                       *const starts[] = {"as-is", "folded", "open", "fit", NULL};
     const char *no_colour = getenv("NO_COLOR"), *accept = getenv("SELECT_ACCEPT");
     uint32_t is_off = 0;
-    layer->theme = no_colour && *no_colour ? SCM_NO_COLOURS : SCM_DARK;
-    layer->folds = SCM_AS_IT_IS;
+    layer->theme = no_colour && *no_colour ? GABRO_NO_COLOURS : GABRO_DARK;
+    layer->folds = GABRO_AS_IT_IS;
     layer->accept = accept ? accept : "c accepts";
     struct { const char *name, *values; const char *const *words; uint32_t *number; } choices[] = {
         {"SELECT_LAYER", "on or off", switches, &is_off},
@@ -59,37 +61,37 @@ const char *read_layer(layer *layer, const char **values) {
     return is_utf8(layer->accept) ? NULL : "SELECT_ACCEPT";
 }
 
-uint32_t begin_layer(scm_session *session, const layer *layer, uint16_t width, uint16_t height) {
-    return layer->is_on ? scm_begin_layer(session, width, height) : scm_begin(session, width, height);
+uint32_t begin_layer(gabro_session *session, const layer *layer, uint16_t width, uint16_t height) {
+    return layer->is_on ? gabro_begin_layer(session, width, height) : gabro_begin(session, width, height);
 }
 
-uint32_t open_layer(scm_session *session, const layer *layer, const text *json, uint16_t width, uint16_t height) {
-    return layer->is_on ? scm_new_layer(session, json->bytes, json->length, width, height)
-                        : scm_new(session, json->bytes, json->length, width, height);
+uint32_t open_layer(gabro_session *session, const layer *layer, const text *json, uint16_t width, uint16_t height) {
+    return layer->is_on ? gabro_new_layer(session, json->bytes, json->length, width, height)
+                        : gabro_new(session, json->bytes, json->length, width, height);
 }
 
 /* Shows the session on the size of the terminal, if that is known. */
-static uint32_t take_size(scm_session *session, int terminal) {
+static uint32_t take_size(gabro_session *session, int terminal) {
     struct winsize size = {0};
     if (ioctl(terminal, TIOCGWINSZ, &size) != 0 || size.ws_col == 0 || size.ws_row == 0) {
-        return SCM_DONE;
+        return GABRO_DONE;
     }
-    return scm_resize(session, size.ws_col, size.ws_row);
+    return gabro_resize(session, size.ws_col, size.ws_row);
 }
 
-uint32_t start_layer(scm_session *session, const layer *layer, int terminal) {
-    static const scm_key nothing = {SCM_NO_INDEX, SCM_NO_INDEX, SCM_NO_INDEX, SCM_NO_INDEX};
-    if (!layer->is_on || scm_stage(session) != SCM_WAITING) {
-        return SCM_DONE;
+uint32_t start_layer(gabro_session *session, const layer *layer, int terminal) {
+    static const gabro_key nothing = {GABRO_NO_INDEX, GABRO_NO_INDEX, GABRO_NO_INDEX, GABRO_NO_INDEX};
+    if (!layer->is_on || gabro_stage(session) != GABRO_WAITING) {
+        return GABRO_DONE;
     }
-    uint32_t code = scm_theme(session, layer->theme);
-    if (code == SCM_DONE) {
-        code = scm_accept_text(session, layer->accept, strlen(layer->accept));
+    uint32_t code = gabro_theme(session, layer->theme);
+    if (code == GABRO_DONE) {
+        code = gabro_accept_text(session, layer->accept, strlen(layer->accept));
     }
-    if (code == SCM_DONE) {
+    if (code == GABRO_DONE) {
         code = take_size(session, terminal);
     }
-    return code == SCM_DONE ? scm_start(session, layer->folds, &nothing) : code;
+    return code == GABRO_DONE ? gabro_start(session, layer->folds, &nothing) : code;
 }
 
 /* ---- Keys of the user's own ---- */
@@ -157,37 +159,37 @@ static bool add_piece(text *pieces, const key_line *line) {
     return true;
 }
 
-/* Adds the key of a line to `pieces`, and looks whether the library knows it. Returns the code of that, SCM_NO_KEY for a line of another
+/* Adds the key of a line to `pieces`, and looks whether the library knows it. Returns the code of that, GABRO_NO_KEY for a line of another
  * form. */
-static uint32_t take_line(scm_session *session, const char *at, const char *end, text *pieces) {
+static uint32_t take_line(gabro_session *session, const char *at, const char *end, text *pieces) {
     key_line line;
     size_t before = pieces->length;
     if (!read_line(at, end, &line)) {
-        return SCM_NO_KEY;
+        return GABRO_NO_KEY;
     }
     if (line.key == line.key_end) {
-        return SCM_DONE;
+        return GABRO_DONE;
     }
-    return add_piece(pieces, &line) ? scm_keys(session, pieces->bytes + before, pieces->length - before) : SCM_NO_MEMORY;
+    return add_piece(pieces, &line) ? gabro_keys(session, pieces->bytes + before, pieces->length - before) : GABRO_NO_MEMORY;
 }
 
 /* Takes the lines of `file` one by one, and then all keys. Returns the code of the call that failed, and sets `number` to the line
- * and `at` to its beginning; or returns SCM_DONE. */
-static uint32_t take_lines(scm_session *session, const text *file, size_t *number, const char **at) {
+ * and `at` to its beginning; or returns GABRO_DONE. */
+static uint32_t take_lines(gabro_session *session, const text *file, size_t *number, const char **at) {
     text pieces = {0};
     const char *end = file->bytes + file->length;
-    uint32_t code = SCM_DONE;
+    uint32_t code = GABRO_DONE;
     *at = file->bytes;
     for (*number = 1; *at < end; ++*number) {
         const char *found = memchr(*at, '\n', (size_t)(end - *at));
         code = take_line(session, *at, found ? found : end, &pieces);
-        if (code != SCM_DONE) {
+        if (code != GABRO_DONE) {
             break;
         }
         *at = found ? found + 1 : end;
     }
-    if (code == SCM_DONE && pieces.length > 0) {
-        code = scm_keys(session, pieces.bytes, pieces.length);
+    if (code == GABRO_DONE && pieces.length > 0) {
+        code = gabro_keys(session, pieces.bytes, pieces.length);
     }
     free(pieces.bytes);
     return code;
@@ -197,7 +199,7 @@ static uint32_t take_lines(scm_session *session, const text *file, size_t *numbe
 static const char *wrong_line(const char *path, size_t number, const char *at, uint32_t code) {
     static char words[PATH_MAX + 256];
     int length = (int)strcspn(at, "\r\n");
-    if (code == SCM_NO_KEY) {
+    if (code == GABRO_NO_KEY) {
         snprintf(words, sizeof words, "%s, line %zu: \"%.*s\" is no key with what it does: write it as \"ctrl-n j\" or \"x undo\"", path, number,
                  length < 80 ? length : 80, at);
     } else {
@@ -206,21 +208,33 @@ static const char *wrong_line(const char *path, size_t number, const char *at, u
     return words;
 }
 
-const char *take_keys(scm_session *session, const layer *layer) {
+/* Opens the file of keys. One that the user does not name has to be this user's or root's: HOME may be another user's. */
+static int open_keys(const char *path, bool is_named) {
+    struct stat found;
+    int file = open_named_file(path);
+    if (file >= 0 && !is_named && (fstat(file, &found) != 0 || (found.st_uid != 0 && found.st_uid != geteuid()))) {
+        close(file);
+        file = -1;
+        errno = EPERM;
+    }
+    return file;
+}
+
+const char *take_keys(gabro_session *session, const layer *layer) {
     char path[PATH_MAX];
     bool is_named;
     text file = {0};
-    if (!layer->is_on || scm_stage(session) != SCM_WAITING || !path_of_keys(path, sizeof path, &is_named)) {
+    if (!layer->is_on || gabro_stage(session) != GABRO_WAITING || !path_of_keys(path, sizeof path, &is_named)) {
         return NULL;
     }
     const char *why = NULL, *at;
     size_t number;
-    if (read_file(path, &file)) {
+    if (read_and_close(open_keys(path, is_named), &file)) {
         uint32_t code = take_lines(session, &file, &number, &at);
-        why = code == SCM_DONE ? NULL : wrong_line(path, number, at, code);
+        why = code == GABRO_DONE ? NULL : wrong_line(path, number, at, code);
     } else if (is_named || (errno != ENOENT && errno != ENOTDIR)) {
         static char words[PATH_MAX + 64];
-        snprintf(words, sizeof words, "%s: %s", path, strerror(errno));
+        snprintf(words, sizeof words, "%s: %s", path, reason());
         why = words;
     }
     free(file.bytes);

@@ -2,6 +2,7 @@
  * writes the merge. No proof covers this file, nor those beside it, of which it is made. */
 #define _GNU_SOURCE
 #include "again.h"
+#include "chosen.h"
 #include "keys.h"
 #include "merging.h"
 #include "program.h"
@@ -22,6 +23,7 @@ static const char HELP[] =
     "                         what is shown of a version, as the name of its branch\n"
     "  --marks FILE           take up the marks of a run that was cut off: it says where they are\n"
     "  --markers              write the merge also if conflicts are open, with conflict markers around these; the status is 1\n"
+    "  --marker-length NUMBER how many signs a marker has, if it is not 7; it has more if a line begins so\n"
     "  --version, --help      print the version, or this text\n\n"
     "The status is 0 if the merge was written, 1 if you left it or conflicts are open, and 2 for an error. Unless it is 0, OUTPUT stays,\n"
     "but for --markers.\n\n"
@@ -35,6 +37,9 @@ static const char HELP[] =
 /* The keys that go to another open conflict, and how many open conflicts are named. */
 enum { NEXT_OPEN = ']', PREVIOUS_OPEN = '[', MOST_NAMED = 10 };
 
+/* How many signs git gives a conflict marker, and how many may be asked for: more than a line that is shown begins with. */
+enum { USUAL_SIGNS = 7, MOST_SIGNS = 9999999 };
+
 /* What the arguments ask for, and what was read for it. */
 typedef struct task {
     const char *base, *ours, *theirs, *output; /* paths */
@@ -42,12 +47,15 @@ typedef struct task {
     target target;                             /* OUTPUT, in a folder that is open */
     mode_t permissions;                        /* that all files have that were read */
     bool has_markers;                          /* the merge is written also if conflicts are open */
+    size_t marker_length;                      /* how many signs a conflict marker has at least */
     const char *marks;                         /* the file with marks that are taken up, or NULL */
     kept_marks kept;                           /* where marks are kept while the user chooses */
     labels labels;
     layer layer;
     merge merge;
     size_t open; /* how many conflicts the marks leave open */
+    chosen chosen; /* in the first session: after that the marks are the user's work */
+    bool has_run;
 } task;
 
 /* ---- What is read ---- */
@@ -109,41 +117,41 @@ static bool add_count(text *into, const task *task) {
 }
 
 /* Has the status row say how many conflicts are open, before what accepting does. */
-static void show_open(scm_session *session, const task *task) {
+static void show_open(gabro_session *session, const task *task) {
     text words = {0};
     const char *next = task->open > 0 ? "  ]: next" : "";
     if (append_words(&words, "open: %zu/%zu%s  %s", task->open, task->merge.conflicts, next, task->layer.accept)) {
-        scm_accept_text(session, words.bytes, words.length);
+        gabro_accept_text(session, words.bytes, words.length);
     }
     free(words.bytes);
 }
 
 /* Begins a session that shows the merge, with the first open conflict selected. */
-static void begin(scm_session *session, const task *task, int terminal) {
+static void begin(gabro_session *session, const task *task, int terminal) {
     text title = {0};
     bool is_made = add_shown(&title, task->path) && append(&title, AFTER_PATH "(", 3) && add_count(&title, task) && append(&title, ")", 1);
     check(is_made, "the merge cannot be shown", NULL);
     uint32_t code = show_merge(session, (piece){title.bytes, title.length}, &task->merge);
-    check(code != SCM_TOO_LONG, task->path, "a line is too long to be shown: nothing was written");
+    check(code != GABRO_TOO_LONG, task->path, "a line is too long to be shown: nothing was written");
     check_code(code, "the merge cannot be shown");
     code = begin_layer(session, &task->layer, WIDTH, HEIGHT);
-    check(code != SCM_NOT_ACCEPTED, task->path, "it has too many lines to be shown: nothing was written");
+    check(code != GABRO_NOT_ACCEPTED, task->path, "it has too many lines to be shown: nothing was written");
     check_code(code, "the merge cannot be shown");
     free(title.bytes);
     prepare(session, &task->layer, terminal);
     if (task->layer.is_on) {
         check_code(label_conflicts(session, &task->merge, &task->labels), "the merge cannot be shown");
-        scm_key first = next_open(&task->merge, SCM_NO_INDEX, true);
-        check_code(scm_start(session, SCM_AS_IT_IS, &first), "cannot go on");
+        gabro_key first = next_open(&task->merge, GABRO_NO_INDEX, true);
+        check_code(gabro_start(session, GABRO_AS_IT_IS, &first), "cannot go on");
         show_open(session, task);
     }
 }
 
 /* Follows the marks: keeps them, and says in the status row how many conflicts they leave open. Nothing fails if there is no memory for it: the
  * row then says what it did. */
-static void follow_marks(void *context, scm_session *session) {
+static void follow_marks(void *context, gabro_session *session) {
     task *task = context;
-    if (scm_stage(session) == SCM_WAITING && keep_marks(session, &task->merge) == SCM_DONE) {
+    if (gabro_stage(session) == GABRO_WAITING && keep_marks(session, &task->merge) == GABRO_DONE) {
         size_t open = open_by_marks(&task->merge);
         bool is_other = open != task->open;
         task->open = open;
@@ -154,31 +162,41 @@ static void follow_marks(void *context, scm_session *session) {
 }
 
 /* Keeps the marks where the user rests. */
-static void keep_here(void *context, scm_session *session) {
+static void keep_here(void *context, gabro_session *session) {
     task *task = context;
     keep_now(&task->kept, session);
 }
 
+/* Follows what was typed. Nothing is asked about what nobody changed. */
+static void follow(void *context, gabro_session *session) {
+    task *task = context;
+    follow_marks(task, session);
+    quit_if_unchanged(&task->chosen, session);
+}
+
 /* Goes to the next open conflict, or to the previous one. */
-static void press_key(void *context, scm_session *session, uint32_t key) {
+static void press_key(void *context, gabro_session *session, uint32_t key) {
     const task *task = context;
-    scm_key selected;
+    gabro_key selected;
     if (key == NEXT_OPEN || key == PREVIOUS_OPEN) {
         follow_marks(context, session);
-        size_t section = scm_selected(session, &selected) == SCM_DONE ? selected.section : SCM_NO_INDEX;
-        scm_key next = next_open(&task->merge, section, key == NEXT_OPEN);
-        scm_select(session, &next);
+        size_t section = gabro_selected(session, &selected) == GABRO_DONE ? selected.section : GABRO_NO_INDEX;
+        gabro_key next = next_open(&task->merge, section, key == NEXT_OPEN);
+        gabro_select(session, &next);
     }
 }
 
 /* Runs the session, under a title that says how many conflicts there are. Returns whether the terminal is still there. */
-static bool run(scm_session *session, task *task, int terminal) {
+static bool run(gabro_session *session, task *task, int terminal) {
     text title = {0};
     const char *asked = getenv("SELECT_TITLE");
     bool is_on = task->layer.is_on;
-    const scm_hooks hooks = {task, is_on ? follow_marks : NULL, keep_here, is_on ? press_key : NULL};
+    const gabro_hooks hooks = {task, is_on ? follow : NULL, keep_here, is_on ? press_key : NULL};
     check(append_words(&title, NAME ": ") && add_count(&title, task), "cannot go on", NULL);
+    task->chosen = is_on && !task->has_run ? begin_chosen(session) : (chosen){0};
+    task->has_run = true;
     bool is_there = run_in_terminal(session, terminal, asked ? asked : title.bytes, &hooks);
+    free(task->chosen.first.bytes);
     free(title.bytes);
     return is_there;
 }
@@ -226,7 +244,8 @@ static bool leaves_open(int letter) { return letter < 0 || letter == 'l' || lett
 static void write_output(task *task) {
     text merged = {0};
     bool is_marked = task->open > 0;
-    check_code(is_marked ? read_with_markers(&task->merge, &task->labels, &merged) : read_merged(&task->merge, &merged), "cannot go on");
+    check_code(is_marked ? read_with_markers(&task->merge, &task->labels, task->marker_length, &merged) : read_merged(&task->merge, &merged),
+               "cannot go on");
     signal(SIGXFSZ, SIG_IGN);
     check(replace_target(&task->target, (piece){merged.bytes, merged.length}, task->permissions), task->output, NULL);
     free(merged.bytes);
@@ -234,16 +253,16 @@ static void write_output(task *task) {
 
 /* Has the user choose once. Returns whether that was accepted, and else sets `status`. */
 static bool choose(task *task, int terminal, int *status) {
-    scm_session session = {0};
+    gabro_session session = {0};
     begin(&session, task, terminal);
-    bool is_there = run(&session, task, terminal), is_accepted = scm_stage(&session) == SCM_ACCEPTED;
+    bool is_there = run(&session, task, terminal), is_accepted = gabro_stage(&session) == GABRO_ACCEPTED;
     if (is_accepted) {
         check_code(keep_marks(&session, &task->merge), "cannot go on");
         check_code(count_open(&task->merge, &task->open), "cannot go on");
     } else {
         *status = give_up(&session, is_there);
     }
-    scm_free(&session);
+    gabro_free(&session);
     return is_accepted;
 }
 
@@ -275,6 +294,18 @@ static int settle(task *task) {
 
 /* ---- The arguments ---- */
 
+/* Returns the length of conflict markers that an argument asks for. */
+static size_t read_length(const char *digits) {
+    size_t length = 0;
+    bool is_right = *digits != '\0';
+    for (const char *at = digits; *at && is_right; at++) {
+        is_right = '0' <= *at && *at <= '9' && length <= MOST_SIGNS;
+        length = 10 * length + (size_t)(*at - '0');
+    }
+    check(is_right && 0 < length && length <= MOST_SIGNS, "--marker-length", "it takes a number from 1 to 9,999,999");
+    return length;
+}
+
 /* Reads the options into `task`. Returns the letter of one that asks for a text, or 0. */
 static int read_options(int argc, char **argv, task *task) {
     static const struct option options[] = {
@@ -282,7 +313,7 @@ static int read_options(int argc, char **argv, task *task) {
         {"ours-label", required_argument, NULL, 'O'}, {"theirs-label", required_argument, NULL, 'T'},
         {"markers", no_argument, NULL, 'm'},          {"help", no_argument, NULL, 'h'},
         {"version", no_argument, NULL, 'v'},          {"marks", required_argument, NULL, 'k'},
-        {0},
+        {"marker-length", required_argument, NULL, 'l'}, {0},
     };
     int letter;
     opterr = 0;
@@ -295,6 +326,7 @@ static int read_options(int argc, char **argv, task *task) {
         case 'O': task->labels.ours = (piece){optarg, strlen(optarg)}; break;
         case 'T': task->labels.theirs = (piece){optarg, strlen(optarg)}; break;
         case 'm': task->has_markers = true; break;
+        case 'l': task->marker_length = read_length(optarg); break;
         case 'k': task->marks = optarg; break;
         default: return letter;
         }
@@ -316,15 +348,15 @@ static void read_paths(int count, char **paths, task *task) {
 static void read_looks(layer *layer) {
     const char *start = getenv("SELECT_START");
     read_environment(layer);
-    layer->folds = start && *start ? layer->folds : SCM_ALL_OPEN;
+    layer->folds = start && *start ? layer->folds : GABRO_ALL_OPEN;
     layer->accept = getenv("SELECT_ACCEPT") ? layer->accept : "c writes the merge";
 }
 
 int main(int argc, char **argv) {
-    task task = {.permissions = ~(mode_t)0};
+    task task = {.permissions = ~(mode_t)0, .marker_length = USUAL_SIGNS};
     int asked = read_options(argc, argv, &task);
     if (asked) {
-        return print(asked == 'v' ? NAME " " SCM_VERSION_TEXT "\n" BUILD : HELP);
+        return print(asked == 'v' ? NAME " " GABRO_VERSION_TEXT "\n" BUILD : HELP);
     }
     read_paths(argc - optind, argv + optind, &task);
     fill_standard_files();

@@ -33,7 +33,7 @@ typedef struct records {
 } records;
 
 static records records_of(const merge *merge) {
-    return (records){.rest = {merge->lines.bytes, merge->lines.length}, .last = {.section = SCM_NO_INDEX}};
+    return (records){.rest = {merge->lines.bytes, merge->lines.length}, .last = {.section = GABRO_NO_INDEX}};
 }
 
 /* Takes the next record. Returns false if none is left. */
@@ -83,15 +83,15 @@ static size_t room_for_records(const merge *merge) {
 static uint32_t read_lines(merge *merge) {
     const text *base = &merge->base, *ours = &merge->ours, *theirs = &merge->theirs;
     size_t length = room_for_records(merge);
-    uint32_t code = SCM_NO_MEMORY;
+    uint32_t code = GABRO_NO_MEMORY;
     do {
         if (!make_room(&merge->lines, length)) {
-            return SCM_NO_MEMORY;
+            return GABRO_NO_MEMORY;
         }
-        code = scm_merge_texts(base->bytes, base->length, ours->bytes, ours->length, theirs->bytes, theirs->length,
+        code = gabro_merge_texts(base->bytes, base->length, ours->bytes, ours->length, theirs->bytes, theirs->length,
                                merge->lines.bytes, merge->lines.room, &length);
-    } while (code == SCM_DONE && length > merge->lines.room);
-    end_at(&merge->lines, code == SCM_DONE ? length : 0);
+    } while (code == GABRO_DONE && length > merge->lines.room);
+    end_at(&merge->lines, code == GABRO_DONE ? length : 0);
     return code;
 }
 
@@ -128,8 +128,8 @@ uint32_t find_conflicts(merge *merge) {
     uint32_t code = read_lines(merge);
     records records = records_of(merge);
     line line;
-    while (code == SCM_DONE && take_line(&records, &line)) {
-        code = line.letter == AGREED || add_item(merge, &line) ? SCM_DONE : SCM_NO_MEMORY;
+    while (code == GABRO_DONE && take_line(&records, &line)) {
+        code = line.letter == AGREED || add_item(merge, &line) ? GABRO_DONE : GABRO_NO_MEMORY;
     }
     return code;
 }
@@ -144,7 +144,7 @@ void free_merge(merge *merge) {
 
 uint32_t count_open(const merge *merge, size_t *open) {
     const text *base = &merge->base, *ours = &merge->ours, *theirs = &merge->theirs;
-    return scm_open_conflicts(base->bytes, base->length, ours->bytes, ours->length, theirs->bytes, theirs->length,
+    return gabro_open_conflicts(base->bytes, base->length, ours->bytes, ours->length, theirs->bytes, theirs->length,
                               merge->marks.bytes, merge->marks.length, open);
 }
 
@@ -152,51 +152,51 @@ uint32_t read_merged(const merge *merge, text *into) {
     const text *base = &merge->base, *ours = &merge->ours, *theirs = &merge->theirs;
     size_t length = 0;
     if (!make_room(into, base->length + ours->length + theirs->length + LINE_ENDS)) {
-        return SCM_NO_MEMORY;
+        return GABRO_NO_MEMORY;
     }
-    uint32_t code = scm_merged_bytes(base->bytes, base->length, ours->bytes, ours->length, theirs->bytes, theirs->length,
+    uint32_t code = gabro_merged_bytes(base->bytes, base->length, ours->bytes, ours->length, theirs->bytes, theirs->length,
                                      merge->marks.bytes, merge->marks.length, into->bytes, into->room, &length);
-    end_at(into, code == SCM_DONE ? length : 0);
+    end_at(into, code == GABRO_DONE ? length : 0);
     return code;
 }
 
-uint32_t read_with_markers(const merge *merge, const labels *labels, text *into) {
+uint32_t read_with_markers(const merge *merge, const labels *labels, size_t marker_length, text *into) {
     const text *base = &merge->base, *ours = &merge->ours, *theirs = &merge->theirs;
     size_t length = base->length + ours->length + theirs->length + FIRST_ROOM;
-    uint32_t code = SCM_NO_MEMORY;
+    uint32_t code = GABRO_NO_MEMORY;
     do {
         if (!make_room(into, length)) {
-            return SCM_NO_MEMORY;
+            return GABRO_NO_MEMORY;
         }
-        code = scm_marked_bytes(base->bytes, base->length, ours->bytes, ours->length, theirs->bytes, theirs->length, merge->marks.bytes,
+        code = gabro_marked_bytes(base->bytes, base->length, ours->bytes, ours->length, theirs->bytes, theirs->length, merge->marks.bytes,
                                 merge->marks.length, labels->base.bytes, labels->base.length, labels->ours.bytes, labels->ours.length,
-                                labels->theirs.bytes, labels->theirs.length, into->bytes, into->room, &length);
-    } while (code == SCM_DONE && length > into->room);
-    end_at(into, code == SCM_DONE ? length : 0);
+                                labels->theirs.bytes, labels->theirs.length, marker_length, into->bytes, into->room, &length);
+    } while (code == GABRO_DONE && length > into->room);
+    end_at(into, code == GABRO_DONE ? length : 0);
     return code;
 }
 
 /* ---- The session ---- */
 
 /* Adds a line to the state, after the line `before`. */
-static uint32_t show_line(scm_session *session, const line *line, char before, const merge *merge) {
+static uint32_t show_line(gabro_session *session, const line *line, char before, const merge *merge) {
     bool is_changed = line->letter != AGREED, is_split = is_changed && line->begins && before != AGREED && before != 0;
-    uint32_t code = is_split ? scm_state_section(session, true) : SCM_DONE;
-    if (code == SCM_DONE) {
+    uint32_t code = is_split ? gabro_state_section(session, true) : GABRO_DONE;
+    if (code == GABRO_DONE) {
         bool is_checked = is_changed && merge->marks.bytes[line->item];
-        code = scm_state_line(session, is_changed, line->letter != BASE, is_checked, line->text.bytes, line->text.length);
+        code = gabro_state_line(session, is_changed, line->letter != BASE, is_checked, line->text.bytes, line->text.length);
     }
     return code;
 }
 
-uint32_t show_merge(scm_session *session, piece title, const merge *merge) {
-    uint32_t code = scm_state_new(session, false);
-    if (code == SCM_DONE) {
-        code = scm_state_file(session, title.bytes, title.length, "", 0, FILE_MODE);
+uint32_t show_merge(gabro_session *session, piece title, const merge *merge) {
+    uint32_t code = gabro_state_new(session, false);
+    if (code == GABRO_DONE) {
+        code = gabro_state_file(session, title.bytes, title.length, "", 0, FILE_MODE);
     }
     records records = records_of(merge);
     line line;
-    for (char before = 0; code == SCM_DONE && take_line(&records, &line); before = line.letter) {
+    for (char before = 0; code == GABRO_DONE && take_line(&records, &line); before = line.letter) {
         code = show_line(session, &line, before, merge);
     }
     return code;
@@ -222,18 +222,18 @@ static bool add_words_for(text *into, size_t conflict, size_t all, char letter, 
     return is_added;
 }
 
-uint32_t label_conflicts(scm_session *session, const merge *merge, const labels *labels) {
-    uint32_t code = SCM_DONE;
+uint32_t label_conflicts(gabro_session *session, const merge *merge, const labels *labels) {
+    uint32_t code = GABRO_DONE;
     size_t conflict = 0; /* counted from 1 */
     text words = {0};
     records records = records_of(merge);
     line line;
-    while (code == SCM_DONE && take_line(&records, &line)) {
+    while (code == GABRO_DONE && take_line(&records, &line)) {
         conflict += line.begins && line.letter == OURS;
         if (line.begins && line.letter != AGREED) {
             words.length = 0;
             bool is_made = add_words_for(&words, conflict, merge->conflicts, line.letter, label_of(line.letter, labels));
-            code = is_made ? scm_label(session, 0, line.section, words.bytes, words.length) : SCM_NO_MEMORY;
+            code = is_made ? gabro_label(session, 0, line.section, words.bytes, words.length) : GABRO_NO_MEMORY;
         }
     }
     free(words.bytes);
@@ -260,10 +260,10 @@ size_t open_by_marks(const merge *merge) {
 
 /* Returns whether a conflict is behind a section, or before it. */
 static bool is_beyond(const conflict *conflict, size_t section, bool is_forward) {
-    return is_forward ? section != SCM_NO_INDEX && conflict->section > section : conflict->section + VERSIONS - 1 < section;
+    return is_forward ? section != GABRO_NO_INDEX && conflict->section > section : conflict->section + VERSIONS - 1 < section;
 }
 
-scm_key next_open(const merge *merge, size_t section, bool is_forward) {
+gabro_key next_open(const merge *merge, size_t section, bool is_forward) {
     const conflict *next = NULL;
     bool is_next_beyond = false;
     for (size_t i = 0; i < merge->conflicts; i++) {
@@ -274,12 +274,12 @@ scm_key next_open(const merge *merge, size_t section, bool is_forward) {
             is_next_beyond = beyond;
         }
     }
-    return next ? (scm_key){0, 0, next->section, SCM_NO_INDEX} : (scm_key){SCM_NO_INDEX, SCM_NO_INDEX, SCM_NO_INDEX, SCM_NO_INDEX};
+    return next ? (gabro_key){0, 0, next->section, GABRO_NO_INDEX} : (gabro_key){GABRO_NO_INDEX, GABRO_NO_INDEX, GABRO_NO_INDEX, GABRO_NO_INDEX};
 }
 
-uint32_t keep_marks(scm_session *session, merge *merge) {
+uint32_t keep_marks(gabro_session *session, merge *merge) {
     size_t count = 0;
-    uint32_t code = scm_marks(session, 0, merge->marks.bytes, merge->marks.length, &count);
+    uint32_t code = gabro_marks(session, 0, merge->marks.bytes, merge->marks.length, &count);
     /* the session shows the items of the merge and no others */
-    return code == SCM_DONE && count != merge->marks.length ? SCM_NO_ITEM : code;
+    return code == GABRO_DONE && count != merge->marks.length ? GABRO_NO_ITEM : code;
 }

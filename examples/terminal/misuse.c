@@ -1,8 +1,8 @@
 /* Meets each refusal that the library for C has a code for, and looks each time that the session is as before then, and
- * goes on. It does nothing that scm.h forbids. It prints nothing, and stops at the first thing that is otherwise. */
+ * goes on. It does nothing that gabrosty.h forbids. It prints nothing, and stops at the first thing that is otherwise. */
 #undef NDEBUG
 #define _GNU_SOURCE
-#include "scm.h"
+#include "gabrosty.h"
 
 #include <assert.h>
 #include <errno.h>
@@ -12,7 +12,7 @@
 #include <string.h>
 #include <unistd.h>
 
-enum { WIDTH = 24, HEIGHT = 4, LONGEST_MESSAGE = 1000000, EMPTY_UPDATE = 8 + 4 + 8 };
+enum { WIDTH = 24, HEIGHT = 4, LONGEST_MESSAGE = 1000000 };
 
 static const char STATE[] =
     "{\"is_read_only\":false,\"commits\":[{\"message\":\"hello\"},{\"message\":null}],\"files\":[{\"old_path\":null,"
@@ -26,12 +26,12 @@ typedef struct {
     uint32_t stage;
     uint32_t end;
     uint32_t owners[HEIGHT][WIDTH];
-    scm_key keys[HEIGHT][WIDTH];
+    gabro_key keys[HEIGHT][WIDTH];
     size_t length;
     char text[512];
 } standing;
 
-static scm_session session;
+static gabro_session session;
 static standing before;
 
 /* Memory is refused where the C library's own functions have these names beside those that a program may replace. */
@@ -46,14 +46,14 @@ void *realloc(void *block, size_t size) { return is_granted() ? __libc_realloc(b
 #endif
 
 static standing look(void) {
-    standing now = {.stage = scm_stage(&session), .end = scm_end(&session)};
+    standing now = {.stage = gabro_stage(&session), .end = gabro_end(&session)};
     for (uint16_t row = 0; row < HEIGHT; row++) {
         for (uint16_t column = 0; column < WIDTH; column++) {
-            now.owners[row][column] = scm_owner(&session, row, column, &now.keys[row][column]);
+            now.owners[row][column] = gabro_owner(&session, row, column, &now.keys[row][column]);
         }
     }
-    uint32_t code = scm_text(&session, now.text, sizeof now.text, &now.length);
-    assert(code == (now.stage == SCM_NONE ? SCM_CLOSED : SCM_DONE));
+    uint32_t code = gabro_text(&session, now.text, sizeof now.text, &now.length);
+    assert(code == (now.stage == GABRO_NONE ? GABRO_CLOSED : GABRO_DONE));
     return now;
 }
 
@@ -65,10 +65,10 @@ static bool is_same(const standing *one, const standing *other) {
 
 /* Looks that a call was done, and led to this stage. */
 static void done(uint32_t code, uint32_t stage) {
-    assert(code == SCM_DONE);
+    assert(code == GABRO_DONE);
     before = look();
     assert(before.stage == stage);
-    assert((before.end == SCM_NOT_ENDED) == (stage != SCM_ACCEPTED && stage != SCM_ENDED));
+    assert((before.end == GABRO_NOT_ENDED) == (stage != GABRO_ACCEPTED && stage != GABRO_ENDED));
 }
 
 /* Looks that a call was refused with this code, and left all as it was. */
@@ -82,29 +82,29 @@ static bool reads(const char *text) {
     return before.length == strlen(text) && memcmp(before.text, text, before.length) == 0;
 }
 
-static uint32_t begin(const char *json) { return scm_new(&session, json, strlen(json), WIDTH, HEIGHT); }
+static uint32_t begin(const char *json) { return gabro_new(&session, json, strlen(json), WIDTH, HEIGHT); }
 
-static uint32_t press(const char *word) { return scm_press(&session, word, strlen(word)); }
+static uint32_t press(const char *word) { return gabro_press(&session, word, strlen(word)); }
 
-static uint32_t press_all(const char *words) { return scm_press_all(&session, words, strlen(words)); }
+static uint32_t press_all(const char *words) { return gabro_press_all(&session, words, strlen(words)); }
 
-static uint32_t type(const char *bytes) { return scm_type(&session, bytes, strlen(bytes)); }
+static uint32_t type(const char *bytes) { return gabro_type(&session, bytes, strlen(bytes)); }
 
 /* Asks for the selected item, and looks that a refused call wrote nothing. */
-static uint32_t ask_selected(scm_key *key) {
-    scm_key given = {77, 77, 77, 77};
+static uint32_t ask_selected(gabro_key *key) {
+    gabro_key given = {77, 77, 77, 77};
     *key = given;
-    uint32_t code = scm_selected(&session, key);
-    assert(code == SCM_DONE || memcmp(key, &given, sizeof given) == 0);
+    uint32_t code = gabro_selected(&session, key);
+    assert(code == GABRO_DONE || memcmp(key, &given, sizeof given) == 0);
     return code;
 }
 
-static uint32_t answer(const char *message) { return scm_answer(&session, message, strlen(message)); }
+static uint32_t answer(const char *message) { return gabro_answer(&session, message, strlen(message)); }
 
 /* Paints, which has to be done, and returns the length of the update. */
 static size_t paint(char *out, size_t length) {
     size_t written = 0;
-    assert(scm_paint(&session, out, length, &written) == SCM_DONE);
+    assert(gabro_paint(&session, out, length, &written) == GABRO_DONE);
     return written;
 }
 
@@ -112,44 +112,44 @@ static size_t paint(char *out, size_t length) {
 static void refuse_paint(uint32_t code_of_repaint) {
     char out[] = "............";
     size_t written = 77;
-    refused(scm_paint(&session, out, sizeof out, &written), code_of_repaint == SCM_CLOSED ? SCM_CLOSED : SCM_NOT_NOW);
+    refused(gabro_paint(&session, out, sizeof out, &written), code_of_repaint == GABRO_CLOSED ? GABRO_CLOSED : GABRO_NOT_NOW);
     assert(written == 77 && strcmp(out, "............") == 0);
-    scm_cell cell = {77, 77, 77, 77, 77, 77}, given = cell;
-    scm_screen_info info = {77, 77, 77};
-    refused(scm_cells(&session, &cell, 1, out, sizeof out, &info), code_of_repaint == SCM_CLOSED ? SCM_CLOSED : SCM_NOT_NOW);
+    gabro_cell cell = {77, 77, 77, 77, 77, 77}, given = cell;
+    gabro_screen_info info = {77, 77, 77};
+    refused(gabro_cells(&session, &cell, 1, out, sizeof out, &info), code_of_repaint == GABRO_CLOSED ? GABRO_CLOSED : GABRO_NOT_NOW);
     bool is_unwritten = cell.start == given.start && cell.length == 77 && cell.columns == 77 && cell.foreground == 77 && cell.background == 77 && cell.flags == 77;
     assert(is_unwritten && info.columns == 77 && info.rows == 77 && info.length == 77 && strcmp(out, "............") == 0);
-    refused(scm_repaint(&session), code_of_repaint);
+    refused(gabro_repaint(&session), code_of_repaint);
 }
 
 /* Every call that changes a session, where it waits for none of them. */
 static void refuse_calls(uint32_t code) {
     refused(press("j"), code);
-    scm_key key;
+    gabro_key key;
     refused(type("j"), code);
     refused(ask_selected(&key), code);
     size_t taken = 77;
     uint32_t own_key = 77;
-    refused(scm_type_to_key(&session, "j", 1, &taken, &own_key), code);
+    refused(gabro_type_to_key(&session, "j", 1, &taken, &own_key), code);
     assert(taken == 77 && own_key == 77);
-    refused(scm_idle(&session), code);
-    refused(scm_click(&session, 1, 1), code);
+    refused(gabro_idle(&session), code);
+    refused(gabro_click(&session, 1, 1), code);
     refused(answer("bye"), code);
-    scm_key first = {0, 0, SCM_NO_INDEX, SCM_NO_INDEX};
-    refused(scm_select(&session, &first), code);
-    refused(scm_resize(&session, WIDTH, HEIGHT), code);
-    refused(press("no word"), SCM_NO_WORD);
+    gabro_key first = {0, 0, GABRO_NO_INDEX, GABRO_NO_INDEX};
+    refused(gabro_select(&session, &first), code);
+    refused(gabro_resize(&session, WIDTH, HEIGHT), code);
+    refused(press("no word"), GABRO_NO_WORD);
     refused(press_all("j k"), code);
     refused(press_all(""), code);
-    refused(press_all("j no"), SCM_NO_WORD);
-    refuse_paint(code == SCM_CLOSED ? SCM_CLOSED : SCM_DONE);
+    refused(press_all("j no"), GABRO_NO_WORD);
+    refuse_paint(code == GABRO_CLOSED ? GABRO_CLOSED : GABRO_DONE);
 }
 
 /* The log of the calls beneath a layer, where there is none. */
 static void refuse_logged(uint32_t code) {
     char out[] = "........";
     size_t length = 77;
-    refused(scm_logged(&session, out, sizeof out, &length), code);
+    refused(gabro_logged(&session, out, sizeof out, &length), code);
     assert(length == 77 && strcmp(out, "........") == 0);
 }
 
@@ -157,69 +157,71 @@ static void refuse_logged(uint32_t code) {
 static void check_logged(const char *calls) {
     char log[2048];
     size_t length = 77, wanted = strlen(calls);
-    refused(scm_logged(&session, log, 3, &length), SCM_DONE);
+    refused(gabro_logged(&session, log, 3, &length), GABRO_DONE);
     assert(length >= wanted && memcmp(log, calls, 3) == 0);
-    refused(scm_logged(&session, log, sizeof log, &length), SCM_DONE);
+    refused(gabro_logged(&session, log, sizeof log, &length), GABRO_DONE);
     assert(length < sizeof log && memcmp(log, calls, wanted) == 0);
 }
 
 /* Every call of a layer, where there is none. */
 static void refuse_layer(uint32_t code) {
-    scm_key key = {SCM_NO_INDEX, SCM_NO_INDEX, SCM_NO_INDEX, SCM_NO_INDEX};
-    refused(scm_theme(&session, SCM_LIGHT), code);
-    refused(scm_theme(&session, SCM_NO_COLOURS + 1), SCM_NO_NUMBER);
-    refused(scm_accept_text(&session, "c stages", 8), code);
-    refused(scm_accept_text(&session, "\xff", 1), SCM_NOT_TEXT);
-    refused(scm_label(&session, 0, 0, "ours", 4), code);
-    refused(scm_label(&session, 0, 0, "\xff", 1), SCM_NOT_TEXT);
-    refused(scm_start(&session, SCM_ALL_OPEN, &key), code);
-    refused(scm_start(&session, SCM_OPEN_IF_IT_FITS + 1, &key), SCM_NO_NUMBER);
-    refused(scm_keys(&session, "x=undo", 6), code);
-    refused(scm_keys(&session, "x", 1), SCM_NO_KEY);
-    refused(scm_log(&session), code);
-    refused(scm_begin_layer(&session, WIDTH, HEIGHT), code);
+    gabro_key key = {GABRO_NO_INDEX, GABRO_NO_INDEX, GABRO_NO_INDEX, GABRO_NO_INDEX};
+    refused(gabro_theme(&session, GABRO_LIGHT), code);
+    refused(gabro_theme(&session, GABRO_NO_COLOURS + 1), GABRO_NO_NUMBER);
+    refused(gabro_accept_text(&session, "c stages", 8), code);
+    refused(gabro_accept_text(&session, "\xff", 1), GABRO_NOT_TEXT);
+    refused(gabro_label(&session, 0, 0, "ours", 4), code);
+    refused(gabro_label(&session, 0, 0, "\xff", 1), GABRO_NOT_TEXT);
+    refused(gabro_start(&session, GABRO_ALL_OPEN, &key), code);
+    refused(gabro_start(&session, GABRO_OPEN_IF_IT_FITS + 1, &key), GABRO_NO_NUMBER);
+    refused(gabro_keys(&session, "x=undo", 6), code);
+    refused(gabro_keys(&session, "x", 1), GABRO_NO_KEY);
+    refused(gabro_log(&session), code);
+    refused(gabro_begin_layer(&session, WIDTH, HEIGHT), code);
 }
 
 static void close_session(void) {
-    scm_free(&session);
+    gabro_free(&session);
     before = look();
-    assert(before.stage == SCM_NONE && reads(""));
+    assert(before.stage == GABRO_NONE && reads(""));
 }
 
 /* Bytes are words at any stage of an open session, and nothing is handled. Where there is no room, nothing is heard. */
 static void decode(void) {
     char out[] = "............";
     size_t written = 77;
-    refused(scm_decode(&session, "j", 1, out, sizeof out, &written), before.stage == SCM_NONE ? SCM_CLOSED : SCM_DONE);
-    if (before.stage == SCM_NONE) {
-        refused(scm_decode_idle(&session, out, sizeof out, &written), SCM_CLOSED);
+    refused(gabro_decode(&session, "j", 1, out, sizeof out, &written), before.stage == GABRO_NONE ? GABRO_CLOSED : GABRO_DONE);
+    if (before.stage == GABRO_NONE) {
+        refused(gabro_decode_idle(&session, out, sizeof out, &written), GABRO_CLOSED);
         assert(written == 77 && strcmp(out, "............") == 0);
         return;
     }
     assert(written == 2 && memcmp(out, "j ..", 4) == 0);
-    refused(scm_decode(&session, "\x1b", 1, out, 0, &written), SCM_DONE);
+    refused(gabro_decode(&session, "\x1b", 1, out, 0, &written), GABRO_DONE);
     assert(written == 0);
-    refused(scm_decode_idle(&session, out, 3, &written), SCM_DONE);
+    refused(gabro_decode_idle(&session, out, 3, &written), GABRO_DONE);
     assert(written == 4 && memcmp(out, "j ..", 4) == 0);
-    refused(scm_decode(&session, "[B", 2, out, 1, &written), SCM_DONE);
+    refused(gabro_decode(&session, "[B", 2, out, 1, &written), GABRO_DONE);
     assert(written == 2 && memcmp(out, "j ..", 4) == 0);
-    refused(scm_decode(&session, "[A", 2, out, 2, &written), SCM_DONE);
+    refused(gabro_decode(&session, "[A", 2, out, 2, &written), GABRO_DONE);
     assert(written == 2 && memcmp(out, "k ..", 4) == 0);
 }
 
 static void refuse_where_closed(void) {
     close_session();
-    refuse_calls(SCM_CLOSED);
-    refuse_layer(SCM_CLOSED);
-    refuse_logged(SCM_CLOSED);
+    refuse_calls(GABRO_CLOSED);
+    refuse_layer(GABRO_CLOSED);
+    refuse_logged(GABRO_CLOSED);
     decode();
-    done(begin(STATE), SCM_WAITING);
-    refuse_layer(SCM_NOT_NOW);
-    refuse_logged(SCM_NOT_NOW);
+    done(begin(STATE), GABRO_WAITING);
+    refuse_layer(GABRO_NOT_NOW);
+    refuse_logged(GABRO_NOT_NOW);
     decode();
+    gabro_free(NULL);
+    assert(gabro_stage(&session) == GABRO_WAITING);
     close_session();
     close_session();
-    refuse_calls(SCM_CLOSED);
+    refuse_calls(GABRO_CLOSED);
 }
 
 /* A state that is refused leaves the session closed, also where one was open. */
@@ -228,48 +230,48 @@ static void refuse_states(void) {
         const char *json;
         uint32_t code;
     } states[] = {
-        {"", SCM_BAD_STATE}, {"{\"is_read_only\":", SCM_BAD_STATE}, {"[]", SCM_BAD_STATE},
-        {"\xff", SCM_NOT_TEXT}, {THREE_COMMITS, SCM_NOT_ACCEPTED},
+        {"", GABRO_BAD_STATE}, {"{\"is_read_only\":", GABRO_BAD_STATE}, {"[]", GABRO_BAD_STATE},
+        {"\xff", GABRO_NOT_TEXT}, {THREE_COMMITS, GABRO_NOT_ACCEPTED},
     };
     for (size_t i = 0; i < sizeof states / sizeof *states; i++) {
         refused(begin(states[i].json), states[i].code);
-        assert(begin(STATE) == SCM_DONE);
+        assert(begin(STATE) == GABRO_DONE);
         refused(begin(states[i].json), states[i].code);
-        refused(press("j"), SCM_CLOSED);
+        refused(press("j"), GABRO_CLOSED);
     }
-    refused(scm_new(&session, STATE, sizeof STATE, WIDTH, HEIGHT), SCM_BAD_STATE); /* with the zero behind it */
+    refused(gabro_new(&session, STATE, sizeof STATE, WIDTH, HEIGHT), GABRO_BAD_STATE); /* with the zero behind it */
 #ifdef __GLIBC__
     is_refused = true;
     uint32_t code = begin(STATE);
     is_refused = false;
-    refused(code, SCM_NO_MEMORY);
+    refused(code, GABRO_NO_MEMORY);
 #endif
 }
 
 static void refuse_words(void) {
     const char *words[] = {"",       "\xff",      "shot",       "jj",            "j ",         "ctrl-",
                            "click:", "click:1:x", "click:-1:1", "click:1:65536", "ctrl-ctrl-c"};
-    done(begin(STATE), SCM_WAITING);
+    done(begin(STATE), GABRO_WAITING);
     for (size_t i = 0; i < sizeof words / sizeof *words; i++) {
-        refused(press(words[i]), SCM_NO_WORD);
+        refused(press(words[i]), GABRO_NO_WORD);
     }
-    refused(scm_press(&session, "j", 2), SCM_NO_WORD); /* with the zero behind it */
-    refused(press_all("j shot"), SCM_NO_WORD);
-    refused(press_all("j\xff"), SCM_NO_WORD);
-    refused(answer("bye"), SCM_NOT_NOW);
+    refused(gabro_press(&session, "j", 2), GABRO_NO_WORD); /* with the zero behind it */
+    refused(press_all("j shot"), GABRO_NO_WORD);
+    refused(press_all("j\xff"), GABRO_NO_WORD);
+    refused(answer("bye"), GABRO_NOT_NOW);
     standing begun = before;
-    done(press("l"), SCM_WAITING);
+    done(press("l"), GABRO_WAITING);
     assert(!is_same(&begun, &before));
 }
 
 typedef struct {
     uint32_t code;
-    scm_key key;
+    gabro_key key;
 } owned;
 
 static owned owner(uint16_t row, uint16_t column) {
     owned found;
-    found.code = scm_owner(&session, row, column, &found.key);
+    found.code = gabro_owner(&session, row, column, &found.key);
     return found;
 }
 
@@ -282,175 +284,179 @@ static bool is_owner(uint16_t row, uint16_t column, uint32_t code, size_t commit
 /* No size is refused while there is memory, and no place. */
 static void take_any_size(void) {
     standing begun = before;
-    done(scm_resize(&session, 0, 0), SCM_WAITING);
+    done(gabro_resize(&session, 0, 0), GABRO_WAITING);
     assert(reads(""));
-    done(scm_click(&session, 0, 0), SCM_WAITING);
-    done(scm_resize(&session, WIDTH, HEIGHT), SCM_WAITING);
+    done(gabro_click(&session, 0, 0), GABRO_WAITING);
+    done(gabro_resize(&session, WIDTH, HEIGHT), GABRO_WAITING);
 #ifdef __GLIBC__
     is_refused = true;
-    uint32_t code = scm_resize(&session, UINT16_MAX, UINT16_MAX);
+    uint32_t code = gabro_resize(&session, UINT16_MAX, UINT16_MAX);
     is_refused = false;
-    refused(code, SCM_NO_MEMORY);
+    refused(code, GABRO_NO_MEMORY);
 #endif
-    done(scm_click(&session, HEIGHT, 0), SCM_WAITING);
-    done(scm_click(&session, UINT16_MAX, UINT16_MAX), SCM_WAITING);
+    done(gabro_click(&session, HEIGHT, 0), GABRO_WAITING);
+    done(gabro_click(&session, UINT16_MAX, UINT16_MAX), GABRO_WAITING);
     assert(is_same(&begun, &before));
-    assert(owner(HEIGHT, 0).code == SCM_NOBODY && owner(UINT16_MAX, UINT16_MAX).code == SCM_NOBODY);
+    assert(owner(HEIGHT, 0).code == GABRO_NOBODY && owner(UINT16_MAX, UINT16_MAX).code == GABRO_NOBODY);
 }
 
 /* The owners of places, and what they belong to. */
 static void tell_owners(void) {
-    done(begin(STATE), SCM_WAITING);
-    assert(is_owner(0, 1, SCM_MENU, SCM_NO_INDEX, SCM_NO_INDEX, SCM_NO_INDEX, SCM_NO_INDEX));
-    assert(is_owner(2, 1, SCM_BUTTON, 0, SCM_NO_INDEX, SCM_NO_INDEX, SCM_NO_INDEX));
-    done(scm_resize(&session, WIDTH, 2 * HEIGHT), SCM_WAITING);
-    done(press("shift-F"), SCM_WAITING);
-    assert(is_owner(4, 1, SCM_MARK, 0, 0, SCM_NO_INDEX, SCM_NO_INDEX));
-    assert(is_owner(4, 8, SCM_FILE, 0, 0, SCM_NO_INDEX, SCM_NO_INDEX));
-    assert(is_owner(5, 1, SCM_SECTION, 0, 0, 0, SCM_NO_INDEX));
-    assert(is_owner(5, WIDTH - 2, SCM_FOLD, 0, 0, 0, SCM_NO_INDEX));
-    assert(is_owner(6, 5, SCM_MARK, 0, 0, 0, 0));
-    assert(is_owner(6, 10, SCM_ADDED, 0, 0, 0, 0));
+    done(begin(STATE), GABRO_WAITING);
+    assert(is_owner(0, 1, GABRO_MENU, GABRO_NO_INDEX, GABRO_NO_INDEX, GABRO_NO_INDEX, GABRO_NO_INDEX));
+    assert(is_owner(2, 1, GABRO_BUTTON, 0, GABRO_NO_INDEX, GABRO_NO_INDEX, GABRO_NO_INDEX));
+    done(gabro_resize(&session, WIDTH, 2 * HEIGHT), GABRO_WAITING);
+    done(press("shift-F"), GABRO_WAITING);
+    assert(is_owner(4, 1, GABRO_MARK, 0, 0, GABRO_NO_INDEX, GABRO_NO_INDEX));
+    assert(is_owner(4, 8, GABRO_FILE, 0, 0, GABRO_NO_INDEX, GABRO_NO_INDEX));
+    assert(is_owner(5, 1, GABRO_SECTION, 0, 0, 0, GABRO_NO_INDEX));
+    assert(is_owner(5, WIDTH - 2, GABRO_FOLD, 0, 0, 0, GABRO_NO_INDEX));
+    assert(is_owner(6, 5, GABRO_MARK, 0, 0, 0, 0));
+    assert(is_owner(6, 10, GABRO_ADDED, 0, 0, 0, 0));
 }
 
 /* Bytes mean what their words do, in any pieces; an ESC is a key once the terminal is silent. */
 static void take_bytes(void) {
-    done(begin(STATE), SCM_WAITING);
-    done(press("right"), SCM_WAITING);
+    done(begin(STATE), GABRO_WAITING);
+    done(press("right"), GABRO_WAITING);
     standing pressed = before;
-    done(begin(STATE), SCM_WAITING);
+    done(begin(STATE), GABRO_WAITING);
     for (const char *byte = "\x1b[C"; *byte; byte++) {
-        done(scm_type(&session, byte, 1), SCM_WAITING);
+        done(gabro_type(&session, byte, 1), GABRO_WAITING);
     }
     assert(is_same(&pressed, &before));
-    done(type("\x1b[200~ jq\x03\x03\x1b[201~"), SCM_WAITING);
-    done(scm_type(&session, "", 0), SCM_WAITING);
+    done(type("\x1b[200~ jq\x03\x03\x1b[201~"), GABRO_WAITING);
+    done(gabro_type(&session, "", 0), GABRO_WAITING);
     assert(is_same(&pressed, &before));
-    done(type("ejj"), SCM_EDITING); /* what is typed ahead is lost */
-    done(answer("hello"), SCM_WAITING);
+    done(type("ejj"), GABRO_EDITING); /* what is typed ahead is lost */
+    done(answer("hello"), GABRO_WAITING);
     pressed = before;
-    done(type("?\x1b"), SCM_WAITING);
-    assert(!is_same(&pressed, &before));
-    done(scm_idle(&session), SCM_WAITING);
+    done(type("?\x1b"), GABRO_WAITING);
+    assert(!is_same(&pressed, &before) && gabro_dialog(&session) == GABRO_HELP);
+    done(gabro_idle(&session), GABRO_WAITING);
     assert(is_same(&pressed, &before)); /* the help was open, and is closed */
-    done(scm_idle(&session), SCM_WAITING);
-    done(type("\x03\x03"), SCM_ENDED);
-    assert(reads("cancelled by user"));
+    assert(gabro_dialog(&session) == GABRO_NO_DIALOG);
+    done(press("q"), GABRO_WAITING);
+    assert(gabro_dialog(&session) == GABRO_QUESTION);
+    done(press("esc"), GABRO_WAITING);
+    done(gabro_idle(&session), GABRO_WAITING);
+    done(type("\x03\x03"), GABRO_ENDED);
+    assert(reads("cancelled by user") && gabro_dialog(&session) == GABRO_NO_DIALOG);
 }
 
 /* With a layer, keys, clicks and places are those of the terminal, whose last row is the status row. */
 static void take_layer(void) {
-    scm_key key = {0, 0, 0, 0};
+    gabro_key key = {0, 0, 0, 0};
     char out[2048];
     size_t length = strlen(STATE);
-    done(scm_new_layer(&session, STATE, length, WIDTH, HEIGHT + 1), SCM_WAITING);
-    assert(is_owner(2, 1, SCM_BUTTON, 0, SCM_NO_INDEX, SCM_NO_INDEX, SCM_NO_INDEX));
-    assert(owner(HEIGHT, 0).code == SCM_NOBODY && scm_symbol(&session, HEIGHT, 0, out, sizeof out) == 0);
-    refuse_logged(SCM_NOT_NOW);
-    refused(scm_log(&session), SCM_DONE);
+    done(gabro_new_layer(&session, STATE, length, WIDTH, HEIGHT + 1), GABRO_WAITING);
+    assert(is_owner(2, 1, GABRO_BUTTON, 0, GABRO_NO_INDEX, GABRO_NO_INDEX, GABRO_NO_INDEX));
+    assert(owner(HEIGHT, 0).code == GABRO_NOBODY && gabro_symbol(&session, HEIGHT, 0, out, sizeof out) == 0);
+    refuse_logged(GABRO_NOT_NOW);
+    refused(gabro_log(&session), GABRO_DONE);
     check_logged("size 24 4\n");
-    refused(scm_begin_layer(&session, WIDTH, HEIGHT), SCM_NOT_NOW);
-    refused(scm_theme(&session, SCM_NO_COLOURS + 1), SCM_NO_NUMBER);
-    refused(scm_accept_text(&session, "\xff", 1), SCM_NOT_TEXT);
-    refused(scm_start(&session, SCM_OPEN_IF_IT_FITS + 1, &key), SCM_NO_NUMBER);
-    refused(scm_keys(&session, "x=undo x", 8), SCM_NO_KEY);
-    refused(scm_keys(&session, "=j", 2), SCM_NO_KEY);
-    refused(scm_theme(&session, SCM_NO_COLOURS), SCM_DONE);
-    refused(scm_accept_text(&session, "c stages", 8), SCM_DONE);
-    refused(scm_keys(&session, "ctrl-x=j  x=undo", 16), SCM_DONE);
-    done(scm_start(&session, SCM_ALL_OPEN, &key), SCM_WAITING);
-    assert(ask_selected(&key) == SCM_DONE && key.file == 0 && key.section == 0 && key.line == 0);
+    refused(gabro_begin_layer(&session, WIDTH, HEIGHT), GABRO_NOT_NOW);
+    refused(gabro_theme(&session, GABRO_NO_COLOURS + 1), GABRO_NO_NUMBER);
+    refused(gabro_accept_text(&session, "\xff", 1), GABRO_NOT_TEXT);
+    refused(gabro_start(&session, GABRO_OPEN_IF_IT_FITS + 1, &key), GABRO_NO_NUMBER);
+    refused(gabro_keys(&session, "x=undo x", 8), GABRO_NO_KEY);
+    refused(gabro_keys(&session, "=j", 2), GABRO_NO_KEY);
+    refused(gabro_theme(&session, GABRO_NO_COLOURS), GABRO_DONE);
+    refused(gabro_accept_text(&session, "c stages", 8), GABRO_DONE);
+    refused(gabro_keys(&session, "ctrl-x=j  x=undo", 16), GABRO_DONE);
+    done(gabro_start(&session, GABRO_ALL_OPEN, &key), GABRO_WAITING);
+    assert(ask_selected(&key) == GABRO_DONE && key.file == 0 && key.section == 0 && key.line == 0);
     length = paint(out, sizeof out);
     assert(length < sizeof out && memmem(out, length, "lines: 1", 8) != NULL);
     assert(paint(out, sizeof out) < length);
-    refused(scm_label(&session, 0, 0, "\xff", 1), SCM_NOT_TEXT);
-    refused(scm_label(&session, 0, 0, "ours", 4), SCM_DONE);
+    refused(gabro_label(&session, 0, 0, "\xff", 1), GABRO_NOT_TEXT);
+    refused(gabro_label(&session, 0, 0, "ours", 4), GABRO_DONE);
     size_t labelled = paint(out, sizeof out);
     assert(labelled < length && memmem(out, labelled, "ours", 4) != NULL);
-    refused(scm_label(&session, SIZE_MAX, SIZE_MAX, "", 0), SCM_DONE);
-    done(scm_repaint(&session), SCM_WAITING);
+    refused(gabro_label(&session, SIZE_MAX, SIZE_MAX, "", 0), GABRO_DONE);
+    done(gabro_repaint(&session), GABRO_WAITING);
     assert(paint(out, sizeof out) >= length);
     uint32_t mark = 77;
-    done(type(" "), SCM_WAITING);
-    assert(scm_mark(&session, &key, &mark) == SCM_DONE && mark == SCM_UNCHECKED);
-    done(type("x"), SCM_WAITING);
-    assert(scm_mark(&session, &key, &mark) == SCM_DONE && mark == SCM_CHECKED);
+    done(type(" "), GABRO_WAITING);
+    assert(gabro_mark(&session, &key, &mark) == GABRO_DONE && mark == GABRO_UNCHECKED);
+    done(type("x"), GABRO_WAITING);
+    assert(gabro_mark(&session, &key, &mark) == GABRO_DONE && mark == GABRO_CHECKED);
     uint32_t own_key = 77;
     size_t taken = 77;
-    done(type("/"), SCM_WAITING);
-    done(scm_type_to_key(&session, "\tF", 2, &taken, &own_key), SCM_WAITING);
+    done(type("/"), GABRO_WAITING);
+    done(gabro_type_to_key(&session, "\tF", 2, &taken, &own_key), GABRO_WAITING);
     assert(taken == 1 && own_key == 0);
-    done(type("F\r"), SCM_WAITING);
-    assert(ask_selected(&key) == SCM_DONE && key.line == 0);
-    done(scm_type_to_key(&session, "\tj", 2, &taken, &own_key), SCM_WAITING);
+    done(type("F\r"), GABRO_WAITING);
+    assert(ask_selected(&key) == GABRO_DONE && key.line == 0);
+    done(gabro_type_to_key(&session, "\tj", 2, &taken, &own_key), GABRO_WAITING);
     assert(taken == 1 && own_key == 9);
-    done(press_all("k k j"), SCM_WAITING);
-    done(scm_resize(&session, WIDTH + 4, HEIGHT + 3), SCM_WAITING);
-    done(type("e"), SCM_EDITING);
-    refused(scm_theme(&session, SCM_DARK), SCM_DONE);
-    refused(scm_keys(&session, "x=undo", 6), SCM_NOT_NOW);
+    done(press_all("k k j"), GABRO_WAITING);
+    done(gabro_resize(&session, WIDTH + 4, HEIGHT + 3), GABRO_WAITING);
+    done(type("e"), GABRO_EDITING);
+    refused(gabro_theme(&session, GABRO_DARK), GABRO_DONE);
+    refused(gabro_keys(&session, "x=undo", 6), GABRO_NOT_NOW);
     check_logged("size 24 4\nbatch shift-F \nselect 0 0 0\nbatch space \n");
-    refused(scm_log(&session), SCM_NOT_NOW);
-    done(answer("bye"), SCM_WAITING);
+    refused(gabro_log(&session), GABRO_NOT_NOW);
+    done(answer("bye"), GABRO_WAITING);
     check_logged("size 24 4\nbatch shift-F \nselect 0 0 0\nbatch space \n");
-    done(press("c"), SCM_ACCEPTED);
-    refuse_layer(SCM_NOT_NOW);
+    done(press("c"), GABRO_ACCEPTED);
+    refuse_layer(GABRO_NOT_NOW);
     check_logged("size 24 4\nbatch shift-F \nselect 0 0 0\nbatch space \n");
-    done(scm_state_new(&session, false), SCM_BUILDING);
-    refused(scm_theme(&session, SCM_DARK), SCM_NOT_NOW);
-    done(scm_begin_layer(&session, WIDTH, HEIGHT), SCM_WAITING);
-    refused(scm_log(&session), SCM_DONE);
+    done(gabro_state_new(&session, false), GABRO_BUILDING);
+    refused(gabro_theme(&session, GABRO_DARK), GABRO_NOT_NOW);
+    done(gabro_begin_layer(&session, WIDTH, HEIGHT), GABRO_WAITING);
+    refused(gabro_log(&session), GABRO_DONE);
 #ifdef __GLIBC__
     is_refused = true;
-    uint32_t code_of_logged = scm_logged(&session, out, sizeof out, &length);
-    uint32_t code_of_size = scm_resize(&session, UINT16_MAX, UINT16_MAX), code_of_keys = scm_keys(&session, "x=undo", 6);
-    uint32_t code_of_words = scm_accept_text(&session, "c", 1), code_of_label = scm_label(&session, 0, 0, "c", 1), code_of_paint = scm_paint(&session, out, sizeof out, &length);
+    uint32_t code_of_logged = gabro_logged(&session, out, sizeof out, &length);
+    uint32_t code_of_size = gabro_resize(&session, UINT16_MAX, UINT16_MAX), code_of_keys = gabro_keys(&session, "x=undo", 6);
+    uint32_t code_of_words = gabro_accept_text(&session, "c", 1), code_of_label = gabro_label(&session, 0, 0, "c", 1), code_of_paint = gabro_paint(&session, out, sizeof out, &length);
     is_refused = false;
-    refused(code_of_size, SCM_NO_MEMORY);
-    refused(code_of_keys, SCM_NO_MEMORY);
-    refused(code_of_words, SCM_NO_MEMORY);
-    refused(code_of_label, SCM_NO_MEMORY);
-    refused(code_of_paint, SCM_NO_MEMORY);
-    refused(code_of_logged, SCM_NO_MEMORY);
+    refused(code_of_size, GABRO_NO_MEMORY);
+    refused(code_of_keys, GABRO_NO_MEMORY);
+    refused(code_of_words, GABRO_NO_MEMORY);
+    refused(code_of_label, GABRO_NO_MEMORY);
+    refused(code_of_paint, GABRO_NO_MEMORY);
+    refused(code_of_logged, GABRO_NO_MEMORY);
 #endif
-    done(type("q"), SCM_ENDED);
+    done(type("q"), GABRO_ENDED);
 }
 
 /* A line is as it is handed in, and is read again; marks are those of the file, in its order. */
 static void tell_lines(void) {
     char text[8] = ".......", marks[8] = ".......";
     size_t length = 77;
-    scm_key key = {SCM_NO_INDEX, 0, 1, 1}, nowhere = {SCM_NO_INDEX, 0, 0, 2}, header = {SCM_NO_INDEX, 0, 0, SCM_NO_INDEX};
-    done(scm_state_new(&session, false), SCM_BUILDING);
-    refused(scm_state_line(&session, true, true, true, "a", 1), SCM_NO_ITEM);
-    refused(scm_marks(&session, 0, marks, sizeof marks, &length), SCM_NO_ITEM);
-    done(scm_state_file(&session, "f", 1, "", 0, 0100644), SCM_BUILDING);
-    refused(scm_state_line(&session, false, false, false, "\xff", 1), SCM_NOT_TEXT);
-    done(scm_state_line(&session, false, false, false, "", 0), SCM_BUILDING);
-    done(scm_state_line(&session, false, false, false, "a", 1), SCM_BUILDING);
-    done(scm_state_line(&session, true, false, false, "a\n", 2), SCM_BUILDING);
-    done(scm_state_line(&session, true, true, true, "b\nc", 3), SCM_BUILDING);
-    done(scm_state_mode(&session, true, 0100755), SCM_BUILDING);
-    refused(scm_line(&session, &nowhere, text, sizeof text, &length), SCM_NO_ITEM);
-    refused(scm_line(&session, &header, text, sizeof text, &length), SCM_NO_ITEM);
-    refused(scm_marks(&session, 1, marks, sizeof marks, &length), SCM_NO_ITEM);
+    gabro_key key = {GABRO_NO_INDEX, 0, 1, 1}, nowhere = {GABRO_NO_INDEX, 0, 0, 2}, header = {GABRO_NO_INDEX, 0, 0, GABRO_NO_INDEX};
+    done(gabro_state_new(&session, false), GABRO_BUILDING);
+    refused(gabro_state_line(&session, true, true, true, "a", 1), GABRO_NO_ITEM);
+    refused(gabro_marks(&session, 0, marks, sizeof marks, &length), GABRO_NO_ITEM);
+    done(gabro_state_file(&session, "f", 1, "", 0, 0100644), GABRO_BUILDING);
+    refused(gabro_state_line(&session, false, false, false, "\xff", 1), GABRO_NOT_TEXT);
+    done(gabro_state_line(&session, false, false, false, "", 0), GABRO_BUILDING);
+    done(gabro_state_line(&session, false, false, false, "a", 1), GABRO_BUILDING);
+    done(gabro_state_line(&session, true, false, false, "a\n", 2), GABRO_BUILDING);
+    done(gabro_state_line(&session, true, true, true, "b\nc", 3), GABRO_BUILDING);
+    done(gabro_state_mode(&session, true, 0100755), GABRO_BUILDING);
+    refused(gabro_line(&session, &nowhere, text, sizeof text, &length), GABRO_NO_ITEM);
+    refused(gabro_line(&session, &header, text, sizeof text, &length), GABRO_NO_ITEM);
+    refused(gabro_marks(&session, 1, marks, sizeof marks, &length), GABRO_NO_ITEM);
     assert(length == 77 && strcmp(text, ".......") == 0 && strcmp(marks, ".......") == 0);
-    done(scm_line(&session, &key, text, 2, &length), SCM_BUILDING);
+    done(gabro_line(&session, &key, text, 2, &length), GABRO_BUILDING);
     assert(length == 3 && strcmp(text, "b\n.....") == 0);
-    done(scm_marks(&session, 0, marks, sizeof marks, &length), SCM_BUILDING);
+    done(gabro_marks(&session, 0, marks, sizeof marks, &length), GABRO_BUILDING);
     assert(length == 3 && memcmp(marks, "\0\1\1....", 7) == 0);
 #ifdef __GLIBC__
     is_refused = true;
-    uint32_t code_of_marks = scm_marks(&session, 0, marks, sizeof marks, &length);
-    uint32_t code_of_line = scm_state_line(&session, true, true, true, "d", 1);
+    uint32_t code_of_marks = gabro_marks(&session, 0, marks, sizeof marks, &length);
+    uint32_t code_of_line = gabro_state_line(&session, true, true, true, "d", 1);
     is_refused = false;
-    refused(code_of_marks, SCM_NO_MEMORY);
-    refused(code_of_line, SCM_NO_MEMORY);
+    refused(code_of_marks, GABRO_NO_MEMORY);
+    refused(code_of_line, GABRO_NO_MEMORY);
 #endif
     close_session();
-    refused(scm_state_line(&session, true, true, true, "a", 1), SCM_CLOSED);
-    refused(scm_marks(&session, 0, marks, sizeof marks, &length), SCM_CLOSED);
-    refused(scm_line(&session, &key, text, sizeof text, &length), SCM_CLOSED);
+    refused(gabro_state_line(&session, true, true, true, "a", 1), GABRO_CLOSED);
+    refused(gabro_marks(&session, 0, marks, sizeof marks, &length), GABRO_CLOSED);
+    refused(gabro_line(&session, &key, text, sizeof text, &length), GABRO_CLOSED);
     assert(length == 3);
 }
 
@@ -458,89 +464,90 @@ static void tell_lines(void) {
 static void refuse_texts(void) {
     static char line[LONGEST_MESSAGE + 1];
     memset(line, 'm', sizeof line);
-    refused(scm_state_texts(&session, "\xff", 1, "", 0, "a", 1, 0100644, "b", 1, 0100644), SCM_NOT_TEXT);
-    refused(scm_state_texts(&session, "f", 1, "\xff", 1, "a", 1, 0100644, "b", 1, 0100644), SCM_NOT_TEXT);
-    refused(scm_state_texts(&session, line, sizeof line, "", 0, "a", 1, 0100644, "b", 1, 0100644), SCM_TOO_LONG);
-    refused(scm_state_texts(&session, "f", 1, line, sizeof line, "a", 1, 0100644, "b", 1, 0100644), SCM_TOO_LONG);
-    refused(scm_state_texts(&session, "f", 1, "", 0, line, sizeof line, 0100644, "b", 1, 0100644), SCM_TOO_LONG);
-    refused(scm_state_texts(&session, "f", 1, "", 0, "a", 1, 0100644, line, sizeof line, 0100644), SCM_TOO_LONG);
+    refused(gabro_state_texts(&session, "\xff", 1, "", 0, "a", 1, 0100644, "b", 1, 0100644), GABRO_NOT_TEXT);
+    refused(gabro_state_texts(&session, "f", 1, "\xff", 1, "a", 1, 0100644, "b", 1, 0100644), GABRO_NOT_TEXT);
+    refused(gabro_state_texts(&session, line, sizeof line, "", 0, "a", 1, 0100644, "b", 1, 0100644), GABRO_TOO_LONG);
+    refused(gabro_state_texts(&session, "f", 1, line, sizeof line, "a", 1, 0100644, "b", 1, 0100644), GABRO_TOO_LONG);
+    refused(gabro_state_texts(&session, "f", 1, "", 0, line, sizeof line, 0100644, "b", 1, 0100644), GABRO_TOO_LONG);
+    refused(gabro_state_texts(&session, "f", 1, "", 0, "a", 1, 0100644, line, sizeof line, 0100644), GABRO_TOO_LONG);
     memset(line, 0xff, sizeof line);
-    refused(scm_state_texts(&session, "f", 1, "", 0, "a", 1, 0100644, line, LONGEST_MESSAGE / 4 + 1, 0100644), SCM_TOO_LONG);
+    refused(gabro_state_texts(&session, "f", 1, "", 0, "a", 1, 0100644, line, LONGEST_MESSAGE / 4 + 1, 0100644), GABRO_TOO_LONG);
 }
 
 /* A file by its two versions has the lines that differ, and its sides are the two versions, byte for byte. */
 static void take_texts(void) {
     char text[8] = ".......";
     size_t length = 77;
-    scm_key removed = {SCM_NO_INDEX, 0, 1, 0};
-    done(scm_state_new(&session, false), SCM_BUILDING);
+    gabro_key removed = {GABRO_NO_INDEX, 0, 1, 0};
+    done(gabro_state_new(&session, false), GABRO_BUILDING);
     refuse_texts();
-    refused(scm_side_bytes(&session, 0, true, text, sizeof text, &length), SCM_NO_ITEM);
-    done(scm_state_texts(&session, "f", 1, "e", 1, "a\nb", 3, 0100644, "a\nc\n", 4, 0100644), SCM_BUILDING);
-    done(scm_state_texts(&session, "g", 1, "", 0, "old", 3, SCM_ABSENT, "x\xff\0", 3, 0100644), SCM_BUILDING);
+    refused(gabro_side_bytes(&session, 0, true, text, sizeof text, &length), GABRO_NO_ITEM);
+    done(gabro_state_texts(&session, "f", 1, "e", 1, "a\nb", 3, 0100644, "a\nc\n", 4, 0100644), GABRO_BUILDING);
+    done(gabro_state_texts(&session, "g", 1, "", 0, "old", 3, GABRO_ABSENT, "x\xff\0", 3, 0100644), GABRO_BUILDING);
     // versions that are equal have nothing to mark
-    done(scm_state_texts(&session, "s", 1, "", 0, "same", 4, 0100644, "same", 4, 0100644), SCM_BUILDING);
-    assert(scm_marks(&session, 2, text, sizeof text, &length) == SCM_DONE && length == 0);
-    assert(scm_side_bytes(&session, 2, false, text, sizeof text, &length) == SCM_DONE && length == 4 && memcmp(text, "same", 4) == 0);
+    done(gabro_state_texts(&session, "s", 1, "", 0, "same", 4, 0100644, "same", 4, 0100644), GABRO_BUILDING);
+    assert(gabro_marks(&session, 2, text, sizeof text, &length) == GABRO_DONE && length == 0);
+    assert(gabro_side_bytes(&session, 2, false, text, sizeof text, &length) == GABRO_DONE && length == 4 && memcmp(text, "same", 4) == 0);
     strcpy(text, ".......");
-    done(scm_line(&session, &removed, text, sizeof text, &length), SCM_BUILDING);
+    done(gabro_line(&session, &removed, text, sizeof text, &length), GABRO_BUILDING);
     assert(length == 1 && text[0] == 'b');
 #ifdef __GLIBC__
     is_refused = true;
-    uint32_t code = scm_state_texts(&session, "h", 1, "", 0, "a", 1, 0100644, "b", 1, 0100644);
-    uint32_t code_of_side = scm_side_bytes(&session, 0, true, text, sizeof text, &length);
+    uint32_t code = gabro_state_texts(&session, "h", 1, "", 0, "a", 1, 0100644, "b", 1, 0100644);
+    uint32_t code_of_side = gabro_side_bytes(&session, 0, true, text, sizeof text, &length);
     is_refused = false;
-    refused(code, SCM_NO_MEMORY);
-    refused(code_of_side, SCM_NO_MEMORY);
+    refused(code, GABRO_NO_MEMORY);
+    refused(code_of_side, GABRO_NO_MEMORY);
 #endif
-    done(scm_begin(&session, WIDTH, HEIGHT), SCM_WAITING);
-    refused(scm_state_texts(&session, "h", 1, "", 0, "a", 1, 0100644, "b", 1, 0100644), SCM_NOT_NOW);
-    assert(scm_side_bytes(&session, 0, true, text, sizeof text, &length) == SCM_DONE && length == 3 && memcmp(text, "a\nb", 3) == 0);
-    done(press("a"), SCM_WAITING);
-    assert(scm_side_bytes(&session, 0, true, text, 3, &length) == SCM_DONE && length == 4 && memcmp(text, "a\nc", 3) == 0);
-    assert(scm_side_bytes(&session, 1, true, text, sizeof text, &length) == SCM_DONE && length == 3 && memcmp(text, "x\xff", 3) == 0);
-    assert(scm_side_bytes(&session, 1, false, text, sizeof text, &length) == SCM_DONE && length == 0);
+    done(gabro_begin(&session, WIDTH, HEIGHT), GABRO_WAITING);
+    refused(gabro_state_texts(&session, "h", 1, "", 0, "a", 1, 0100644, "b", 1, 0100644), GABRO_NOT_NOW);
+    assert(gabro_side_bytes(&session, 0, true, text, sizeof text, &length) == GABRO_DONE && length == 3 && memcmp(text, "a\nb", 3) == 0);
+    done(press("a"), GABRO_WAITING);
+    assert(gabro_side_bytes(&session, 0, true, text, 3, &length) == GABRO_DONE && length == 4 && memcmp(text, "a\nc", 3) == 0);
+    assert(gabro_side_bytes(&session, 1, true, text, sizeof text, &length) == GABRO_DONE && length == 3 && memcmp(text, "x\xff", 3) == 0);
+    assert(gabro_side_bytes(&session, 1, false, text, sizeof text, &length) == GABRO_DONE && length == 0);
     close_session();
-    refused(scm_state_texts(&session, "h", 1, "", 0, "a", 1, 0100644, "b", 1, 0100644), SCM_CLOSED);
-    refused(scm_side_bytes(&session, 0, true, text, sizeof text, &length), SCM_CLOSED);
+    refused(gabro_state_texts(&session, "h", 1, "", 0, "a", 1, 0100644, "b", 1, 0100644), GABRO_CLOSED);
+    refused(gabro_side_bytes(&session, 0, true, text, sizeof text, &length), GABRO_CLOSED);
 }
 
 /* Of a window above the limit the screen has the limit. */
 static void cut_window(void) {
-    done(scm_state_new(&session, false), SCM_BUILDING);
-    done(scm_begin(&session, UINT16_MAX, 1), SCM_WAITING);
-    assert(before.length == SCM_MAX_COLUMNS + 3);
-    done(scm_resize(&session, 1, UINT16_MAX), SCM_WAITING);
+    done(gabro_state_new(&session, false), GABRO_BUILDING);
+    done(gabro_begin(&session, UINT16_MAX, 1), GABRO_WAITING);
+    assert(before.length == GABRO_MAX_COLUMNS + 3);
+    done(gabro_resize(&session, 1, UINT16_MAX), GABRO_WAITING);
     char symbol[4];
-    assert(scm_symbol(&session, SCM_MAX_ROWS - 1, 0, symbol, sizeof symbol) == 1);
-    assert(scm_symbol(&session, SCM_MAX_ROWS, 0, symbol, sizeof symbol) == 0);
+    assert(gabro_symbol(&session, GABRO_MAX_ROWS - 1, 0, symbol, sizeof symbol) == 1);
+    assert(gabro_symbol(&session, GABRO_MAX_ROWS, 0, symbol, sizeof symbol) == 0);
     close_session();
 }
 
 /* A paint writes every row, or nothing, or what changed; without room it writes nothing, and every row then. */
 static void paint_rows(void) {
     static char all[1 << 14], again[1 << 14];
-    done(begin(STATE), SCM_WAITING);
+    done(begin(STATE), GABRO_WAITING);
     size_t length = paint(all, sizeof all);
     assert(length > WIDTH * HEIGHT && length < sizeof all);
     assert(memcmp(all, "\x1b[?2026h\x1b[?7l", 13) == 0 && memcmp(all + length - 17, "\x1b[?7h\x1b[0m\x1b[?2026l", 17) == 0);
-    assert(paint(again, sizeof again) == EMPTY_UPDATE);
-    assert(scm_repaint(&session) == SCM_DONE);
-    assert(paint(again, length - 1) == length && again[EMPTY_UPDATE] == 0);
+    again[0] = 7;
+    assert(paint(again, sizeof again) == 0 && again[0] == 7);
+    assert(gabro_repaint(&session) == GABRO_DONE);
+    assert(paint(again, length - 1) == length && again[0] == 7);
     assert(paint(again, length) == length && memcmp(all, again, length) == 0);
-    done(press("j"), SCM_WAITING);
+    done(press("j"), GABRO_WAITING);
     size_t changed = paint(again, sizeof again);
     again[changed] = 0;
-    assert(changed > EMPTY_UPDATE && !strstr(again, "\x1b[1;1H") && strstr(again, "\x1b[4;1H")); /* the menus stay, the file is selected */
-    done(scm_resize(&session, WIDTH, HEIGHT + 1), SCM_WAITING);
+    assert(changed > 0 && !strstr(again, "\x1b[1;1H") && strstr(again, "\x1b[4;1H")); /* the menus stay, the file is selected */
+    done(gabro_resize(&session, WIDTH, HEIGHT + 1), GABRO_WAITING);
     assert(paint(again, sizeof again) > length);
 #ifdef __GLIBC__
     is_refused = true;
     size_t nothing = 77, painted = 77;
-    uint32_t code_of_text = scm_text(&session, again, sizeof again, &nothing);
-    uint32_t code_of_paint = scm_paint(&session, again, sizeof again, &painted);
+    uint32_t code_of_text = gabro_text(&session, again, sizeof again, &nothing);
+    uint32_t code_of_paint = gabro_paint(&session, again, sizeof again, &painted);
     is_refused = false;
-    assert(code_of_text == SCM_NO_MEMORY && code_of_paint == SCM_NO_MEMORY && nothing == 77 && painted == 77);
+    assert(code_of_text == GABRO_NO_MEMORY && code_of_paint == GABRO_NO_MEMORY && nothing == 77 && painted == 77);
     assert(paint(again, sizeof again) > length);
 #endif
 }
@@ -549,34 +556,34 @@ static void paint_rows(void) {
 static void cut_text(void) {
     char text[] = "............";
     size_t length = 0;
-    assert(scm_text(&session, text, 0, &length) == SCM_DONE && length == before.length && strcmp(text, "............") == 0);
+    assert(gabro_text(&session, text, 0, &length) == GABRO_DONE && length == before.length && strcmp(text, "............") == 0);
     length = 0;
-    assert(scm_text(&session, text, 7, &length) == SCM_DONE && length == before.length && strcmp(text, "\"[File]" ".....") == 0);
+    assert(gabro_text(&session, text, 7, &length) == GABRO_DONE && length == before.length && strcmp(text, "\"[File]" ".....") == 0);
 }
 
 static void refuse_messages(void) {
     static char message[LONGEST_MESSAGE + 1];
     memset(message, 'm', sizeof message);
-    done(press("e"), SCM_EDITING);
+    done(press("e"), GABRO_EDITING);
     assert(reads("hello"));
-    refused(press("j"), SCM_NOT_NOW);
-    refused(type("j"), SCM_NOT_NOW);
-    refused(scm_idle(&session), SCM_NOT_NOW);
-    refuse_paint(SCM_DONE);
-    refused(scm_click(&session, 1, 1), SCM_NOT_NOW);
-    refused(scm_resize(&session, WIDTH, HEIGHT), SCM_NOT_NOW);
-    refused(answer("\xe6\x97"), SCM_NOT_TEXT);
-    refused(scm_answer(&session, message, LONGEST_MESSAGE + 1), SCM_TOO_LONG);
+    refused(press("j"), GABRO_NOT_NOW);
+    refused(type("j"), GABRO_NOT_NOW);
+    refused(gabro_idle(&session), GABRO_NOT_NOW);
+    refuse_paint(GABRO_DONE);
+    refused(gabro_click(&session, 1, 1), GABRO_NOT_NOW);
+    refused(gabro_resize(&session, WIDTH, HEIGHT), GABRO_NOT_NOW);
+    refused(answer("\xe6\x97"), GABRO_NOT_TEXT);
+    refused(gabro_answer(&session, message, LONGEST_MESSAGE + 1), GABRO_TOO_LONG);
 #ifdef __GLIBC__
     is_refused = true;
     uint32_t code = answer("bye");
     is_refused = false;
-    refused(code, SCM_NO_MEMORY);
+    refused(code, GABRO_NO_MEMORY);
 #endif
-    done(scm_answer(&session, message, LONGEST_MESSAGE), SCM_WAITING);
-    done(press("e"), SCM_EDITING);
+    done(gabro_answer(&session, message, LONGEST_MESSAGE), GABRO_WAITING);
+    done(press("e"), GABRO_EDITING);
     assert(before.length == LONGEST_MESSAGE && before.text[0] == 'm');
-    done(answer(""), SCM_WAITING);
+    done(answer(""), GABRO_WAITING);
 }
 
 /* A state that is made by calls stays as it was where a call is refused, and grows no more once the session has begun. */
@@ -584,57 +591,57 @@ static void refuse_additions(void) {
     static char line[LONGEST_MESSAGE + 1];
     size_t count = 77;
     memset(line, 'm', sizeof line);
-    done(scm_state_new(&session, false), SCM_BUILDING);
-    refused(scm_state_context(&session, "a", 1), SCM_NO_ITEM);
-    done(scm_state_file(&session, "f", 1, "", 0, 0100644), SCM_BUILDING);
-    refused(scm_state_context(&session, "\xff", 1), SCM_NOT_TEXT);
-    refused(scm_state_changes(&session, true, true, line, sizeof line), SCM_TOO_LONG);
-    done(scm_state_commit(&session), SCM_BUILDING);
-    done(scm_state_message(&session, line, LONGEST_MESSAGE), SCM_BUILDING);
-    refused(scm_state_commit(&session), SCM_NOT_ACCEPTED);
-    refuse_calls(SCM_NOT_NOW);
+    done(gabro_state_new(&session, false), GABRO_BUILDING);
+    refused(gabro_state_context(&session, "a", 1), GABRO_NO_ITEM);
+    done(gabro_state_file(&session, "f", 1, "", 0, 0100644), GABRO_BUILDING);
+    refused(gabro_state_context(&session, "\xff", 1), GABRO_NOT_TEXT);
+    refused(gabro_state_changes(&session, true, true, line, sizeof line), GABRO_TOO_LONG);
+    done(gabro_state_commit(&session), GABRO_BUILDING);
+    done(gabro_state_message(&session, line, LONGEST_MESSAGE), GABRO_BUILDING);
+    refused(gabro_state_commit(&session), GABRO_NOT_ACCEPTED);
+    refuse_calls(GABRO_NOT_NOW);
 #ifdef __GLIBC__
     is_refused = true;
-    uint32_t code = scm_state_file(&session, "g", 1, "", 0, 0100644);
+    uint32_t code = gabro_state_file(&session, "g", 1, "", 0, 0100644);
     is_refused = false;
-    refused(code, SCM_NO_MEMORY);
+    refused(code, GABRO_NO_MEMORY);
 #endif
-    assert(scm_files(&session, &count) == SCM_DONE && count == 1);
-    done(scm_begin(&session, WIDTH, HEIGHT), SCM_WAITING);
-    refused(scm_begin(&session, WIDTH, HEIGHT), SCM_NOT_NOW);
-    refused(scm_state_context(&session, "a", 1), SCM_NOT_NOW);
+    assert(gabro_files(&session, &count) == GABRO_DONE && count == 1);
+    done(gabro_begin(&session, WIDTH, HEIGHT), GABRO_WAITING);
+    refused(gabro_begin(&session, WIDTH, HEIGHT), GABRO_NOT_NOW);
+    refused(gabro_state_context(&session, "a", 1), GABRO_NOT_NOW);
     close_session();
-    refused(scm_state_context(&session, "a", 1), SCM_CLOSED);
-    refused(scm_begin(&session, WIDTH, HEIGHT), SCM_CLOSED);
-    refused(scm_files(&session, &count), SCM_CLOSED);
+    refused(gabro_state_context(&session, "a", 1), GABRO_CLOSED);
+    refused(gabro_begin(&session, WIDTH, HEIGHT), GABRO_CLOSED);
+    refused(gabro_files(&session, &count), GABRO_CLOSED);
 #ifdef __GLIBC__
-    done(scm_state_new(&session, false), SCM_BUILDING);
+    done(gabro_state_new(&session, false), GABRO_BUILDING);
     is_refused = true;
-    code = scm_begin(&session, WIDTH, HEIGHT);
+    code = gabro_begin(&session, WIDTH, HEIGHT);
     is_refused = false;
-    assert(code == SCM_NO_MEMORY && scm_stage(&session) == SCM_ENDED);
+    assert(code == GABRO_NO_MEMORY && gabro_stage(&session) == GABRO_ENDED);
     close_session();
 #endif
 }
 
 /* Once it has ended a session stays so until it is closed. */
 static void refuse_after_the_end(void) {
-    done(press("c"), SCM_ACCEPTED);
-    assert(before.end == SCM_END_ACCEPTED);
+    done(press("c"), GABRO_ACCEPTED);
+    assert(before.end == GABRO_END_ACCEPTED);
     assert(before.length > 9 && memcmp(before.text, "accepted\n", 9) == 0);
-    refuse_calls(SCM_NOT_NOW);
-    done(begin(STATE), SCM_WAITING);
-    done(press("ctrl-c"), SCM_WAITING);
-    done(press("ctrl-c"), SCM_ENDED);
-    assert(before.end == SCM_END_CANCELLED && reads("cancelled by user"));
-    refuse_calls(SCM_NOT_NOW);
+    refuse_calls(GABRO_NOT_NOW);
+    done(begin(STATE), GABRO_WAITING);
+    done(press("ctrl-c"), GABRO_WAITING);
+    done(press("ctrl-c"), GABRO_ENDED);
+    assert(before.end == GABRO_END_CANCELLED && reads("cancelled by user"));
+    refuse_calls(GABRO_NOT_NOW);
 #ifdef __GLIBC__
-    done(begin(STATE), SCM_WAITING);
+    done(begin(STATE), GABRO_WAITING);
     is_refused = true;
     uint32_t code = press("shift-F");
     is_refused = false;
-    done(code, SCM_ENDED);
-    assert(before.end == SCM_END_NO_MEMORY && reads("out of memory"));
+    done(code, GABRO_ENDED);
+    assert(before.end == GABRO_END_NO_MEMORY && reads("out of memory"));
 #endif
     close_session();
 }
@@ -645,24 +652,24 @@ static void refuse_after_the_end(void) {
 static uint32_t type_to_key(const char *bytes) {
     size_t taken;
     uint32_t key;
-    return scm_type_to_key(&session, bytes, strlen(bytes), &taken, &key);
+    return gabro_type_to_key(&session, bytes, strlen(bytes), &taken, &key);
 }
 
-/* Refuses one allocation after another of a call that unfolds all. A call of input does not say SCM_NO_MEMORY for what it handles: it is
+/* Refuses one allocation after another of a call that unfolds all. A call of input does not say GABRO_NO_MEMORY for what it handles: it is
  * done, and the session has ended. Returns whether that was seen. */
 static bool ends_by_memory(uint32_t call(const char *input), const char *input) {
     bool has_ended = false;
     for (long count = 0; count < 50; count++) {
-        done(begin(STATE), SCM_WAITING);
+        done(begin(STATE), GABRO_WAITING);
         granted = count;
         is_refused = true;
         uint32_t code = call(input);
         is_refused = false;
         granted = 0;
-        uint32_t stage = scm_stage(&session);
-        assert(code == SCM_DONE ? stage == SCM_WAITING || stage == SCM_ENDED : code == SCM_NO_MEMORY && stage == SCM_WAITING);
-        assert(stage == SCM_WAITING || scm_end(&session) == SCM_END_NO_MEMORY);
-        has_ended = has_ended || stage == SCM_ENDED;
+        uint32_t stage = gabro_stage(&session);
+        assert(code == GABRO_DONE ? stage == GABRO_WAITING || stage == GABRO_ENDED : code == GABRO_NO_MEMORY && stage == GABRO_WAITING);
+        assert(stage == GABRO_WAITING || gabro_end(&session) == GABRO_END_NO_MEMORY);
+        has_ended = has_ended || stage == GABRO_ENDED;
         close_session();
     }
     return has_ended;
@@ -682,29 +689,29 @@ static void end_by_memory(void) {}
 
 static void take_null(void) {
     size_t length = 77;
-    scm_side_info side;
-    done(scm_state_new(&session, false), SCM_BUILDING);
-    done(scm_state_message(&session, NULL, 0), SCM_BUILDING);
-    done(scm_state_texts(&session, "f", 1, NULL, 0, NULL, 0, SCM_ABSENT, "1\n", 2, 0100644), SCM_BUILDING);
-    done(scm_state_file(&session, "g", 1, NULL, 0, 0100644), SCM_BUILDING);
-    done(scm_state_context(&session, NULL, 0), SCM_BUILDING);
-    done(scm_state_changes(&session, true, false, NULL, 0), SCM_BUILDING);
-    done(scm_state_line(&session, true, true, false, NULL, 0), SCM_BUILDING);
-    done(scm_state_binary(&session, false, NULL, 0, NULL, 0), SCM_BUILDING);
-    done(scm_begin(&session, WIDTH, HEIGHT), SCM_WAITING);
-    done(scm_type(&session, NULL, 0), SCM_WAITING);
-    done(scm_press_all(&session, NULL, 0), SCM_WAITING);
-    refused(scm_press(&session, NULL, 0), SCM_NO_WORD);
-    done(scm_text(&session, NULL, 0, &length), SCM_WAITING);
-    assert(length == before.length && scm_words(SCM_DONE, NULL, 0) > 0 && scm_symbol(&session, 0, 0, NULL, 0) > 0);
-    done(scm_side(&session, 0, false, NULL, 0, &side), SCM_WAITING);
-    assert(side.contents == SCM_SIDE_TEXT && side.length == 2);
-    done(scm_marks(&session, 0, NULL, 0, &length), SCM_WAITING);
+    gabro_side_info side;
+    done(gabro_state_new(&session, false), GABRO_BUILDING);
+    done(gabro_state_message(&session, NULL, 0), GABRO_BUILDING);
+    done(gabro_state_texts(&session, "f", 1, NULL, 0, NULL, 0, GABRO_ABSENT, "1\n", 2, 0100644), GABRO_BUILDING);
+    done(gabro_state_file(&session, "g", 1, NULL, 0, 0100644), GABRO_BUILDING);
+    done(gabro_state_context(&session, NULL, 0), GABRO_BUILDING);
+    done(gabro_state_changes(&session, true, false, NULL, 0), GABRO_BUILDING);
+    done(gabro_state_line(&session, true, true, false, NULL, 0), GABRO_BUILDING);
+    done(gabro_state_binary(&session, false, NULL, 0, NULL, 0), GABRO_BUILDING);
+    done(gabro_begin(&session, WIDTH, HEIGHT), GABRO_WAITING);
+    done(gabro_type(&session, NULL, 0), GABRO_WAITING);
+    done(gabro_press_all(&session, NULL, 0), GABRO_WAITING);
+    refused(gabro_press(&session, NULL, 0), GABRO_NO_WORD);
+    done(gabro_text(&session, NULL, 0, &length), GABRO_WAITING);
+    assert(length == before.length && gabro_words(GABRO_DONE, NULL, 0) > 0 && gabro_symbol(&session, 0, 0, NULL, 0) > 0);
+    done(gabro_side(&session, 0, false, NULL, 0, &side), GABRO_WAITING);
+    assert(side.contents == GABRO_SIDE_TEXT && side.length == 2);
+    done(gabro_marks(&session, 0, NULL, 0, &length), GABRO_WAITING);
     assert(length == 2);
-    done(scm_paint(&session, NULL, 0, &length), SCM_WAITING);
-    assert(length > EMPTY_UPDATE);
-    done(press("e"), SCM_EDITING);
-    done(scm_answer(&session, NULL, 0), SCM_WAITING);
+    done(gabro_paint(&session, NULL, 0, &length), GABRO_WAITING);
+    assert(length > 0);
+    done(press("e"), GABRO_EDITING);
+    done(gabro_answer(&session, NULL, 0), GABRO_WAITING);
     close_session();
 }
 
@@ -715,10 +722,10 @@ static void decides(const char *rows, size_t count, const char *wanted, size_t l
     char out[256];
     size_t written = 77;
     memset(out, 'z', sizeof out);
-    assert(scm_decide_rows(rows, count, out, sizeof out, &written) == SCM_DONE);
+    assert(gabro_decide_rows(rows, count, out, sizeof out, &written) == GABRO_DONE);
     assert(written == length && memcmp(out, wanted, length) == 0 && out[length] == 'z');
     memset(out, 'z', sizeof out);
-    assert(scm_decide_rows(rows, count, out, 1, &written) == SCM_DONE && written == length && out[1] == 'z');
+    assert(gabro_decide_rows(rows, count, out, 1, &written) == GABRO_DONE && written == length && out[1] == 'z');
 }
 
 /* The bytes of a literal, also the zero behind it, which ends its last record. */
@@ -739,24 +746,24 @@ static void decide_paths(void) {
     decides(ALL("o-n a"), ALL("# o-n a"));
     decides(ALL("o--+a"), ALL("# o--+a"));
     decides("onn", 3, ALL("# onn"));
-    assert(scm_decide_rows(NULL, 0, NULL, 0, &written) == SCM_DONE && written == 0);
+    assert(gabro_decide_rows(NULL, 0, NULL, 0, &written) == GABRO_DONE && written == 0);
 }
 
 #ifdef __GLIBC__
 /* Refuses one allocation after another of a decision: it says so, or all is decided. */
 static void decide_without_memory(void) {
     static const char rows[] = "-nn a/b\0o-o a\0o-- d\0-nn+e";
-    uint32_t code = SCM_NO_MEMORY;
-    for (long count = 0; code != SCM_DONE; count++) {
+    uint32_t code = GABRO_NO_MEMORY;
+    for (long count = 0; code != GABRO_DONE; count++) {
         char out[256];
         size_t written = 77;
         granted = count;
         is_refused = true;
-        code = scm_decide_rows(rows, sizeof rows, out, sizeof out, &written);
+        code = gabro_decide_rows(rows, sizeof rows, out, sizeof out, &written);
         is_refused = false;
         granted = 0;
-        assert(code == SCM_DONE || (code == SCM_NO_MEMORY && written == 77));
-        assert(count < 1000 && (count > 0 || code == SCM_NO_MEMORY));
+        assert(code == GABRO_DONE || (code == GABRO_NO_MEMORY && written == 77));
+        assert(count < 1000 && (count > 0 || code == GABRO_NO_MEMORY));
     }
 }
 #else
@@ -768,14 +775,14 @@ static void tell_path_faults(void) {
         const char *path;
         uint32_t fault;
     } paths[] = {
-        {"a/b", SCM_PATH_FINE},       {"", SCM_PATH_EMPTY},           {"/a", SCM_PATH_EMPTY},       {"a//b", SCM_PATH_EMPTY},
-        {"a/./b", SCM_PATH_DOT},      {"../a", SCM_PATH_DOT_DOT},     {".git/a", SCM_PATH_OF_GIT},  {"a/.GIT.", SCM_PATH_OF_GIT},
-        {"git~1", SCM_PATH_OF_GIT},   {"a/.jj", SCM_PATH_OF_JJ},      {".gitignore", SCM_PATH_FINE}, {".g\xe2\x80\x8cit", SCM_PATH_OF_GIT},
+        {"a/b", GABRO_PATH_FINE},       {"", GABRO_PATH_EMPTY},           {"/a", GABRO_PATH_EMPTY},       {"a//b", GABRO_PATH_EMPTY},
+        {"a/./b", GABRO_PATH_DOT},      {"../a", GABRO_PATH_DOT_DOT},     {".git/a", GABRO_PATH_OF_GIT},  {"a/.GIT.", GABRO_PATH_OF_GIT},
+        {"git~1", GABRO_PATH_OF_GIT},   {"a/.jj", GABRO_PATH_OF_JJ},      {".gitignore", GABRO_PATH_FINE}, {".g\xe2\x80\x8cit", GABRO_PATH_OF_GIT},
     };
     for (size_t i = 0; i < sizeof paths / sizeof *paths; i++) {
-        assert(scm_path_fault(paths[i].path, strlen(paths[i].path)) == paths[i].fault);
+        assert(gabro_path_fault(paths[i].path, strlen(paths[i].path)) == paths[i].fault);
     }
-    assert(scm_path_fault("a\0b", 3) == SCM_PATH_WITH_NUL && scm_path_fault(NULL, 0) == SCM_PATH_EMPTY);
+    assert(gabro_path_fault("a\0b", 3) == GABRO_PATH_WITH_NUL && gabro_path_fault(NULL, 0) == GABRO_PATH_EMPTY);
 }
 
 enum { TEXT_MODE = 0100644, RUN_MODE = 0100755, OF_LINK = 0120000, NO_KIND = 0644, BARE = 0755 };
@@ -784,39 +791,39 @@ enum { TEXT_MODE = 0100644, RUN_MODE = 0100755, OF_LINK = 0120000, NO_KIND = 064
  * is, and that a renamed file is at one of its paths. Contents that are items are those of a version. */
 static void tell_sides(void) {
     static const struct {
-        scm_changed changed;
+        gabro_changed changed;
         bool is_selected;
-        scm_side_info side;
-        scm_in_tree found;
+        gabro_side_info side;
+        gabro_in_tree found;
     } sides[] = {
-        {{TEXT_MODE, RUN_MODE, SCM_BY_LINES, false}, true, {SCM_SIDE_TEXT, RUN_MODE, 1}, {RUN_MODE, SCM_ABSENT, SCM_OF_SIDE}},
-        {{TEXT_MODE, SCM_ABSENT, SCM_BY_LINES, false}, true, {SCM_SIDE_TEXT, SCM_ABSENT, 1}, {SCM_ABSENT, SCM_ABSENT, SCM_OF_SIDE}},
-        {{TEXT_MODE, SCM_ABSENT, SCM_BY_LINES, false}, false, {SCM_SIDE_TEXT, SCM_ABSENT, 1}, {TEXT_MODE, SCM_ABSENT, SCM_OF_SIDE}},
-        {{SCM_ABSENT, RUN_MODE, SCM_BY_LINES, false}, false, {SCM_SIDE_TEXT, SCM_ABSENT, 1}, {RUN_MODE, SCM_ABSENT, SCM_OF_SIDE}},
-        {{TEXT_MODE, SCM_ABSENT, SCM_BY_LINES, false}, false, {SCM_SIDE_UNCHANGED, SCM_ABSENT, 0}, {SCM_ABSENT, SCM_ABSENT, SCM_OF_SIDE}},
+        {{TEXT_MODE, RUN_MODE, GABRO_BY_LINES, false}, true, {GABRO_SIDE_TEXT, RUN_MODE, 1}, {RUN_MODE, GABRO_ABSENT, GABRO_OF_SIDE}},
+        {{TEXT_MODE, GABRO_ABSENT, GABRO_BY_LINES, false}, true, {GABRO_SIDE_TEXT, GABRO_ABSENT, 1}, {GABRO_ABSENT, GABRO_ABSENT, GABRO_OF_SIDE}},
+        {{TEXT_MODE, GABRO_ABSENT, GABRO_BY_LINES, false}, false, {GABRO_SIDE_TEXT, GABRO_ABSENT, 1}, {TEXT_MODE, GABRO_ABSENT, GABRO_OF_SIDE}},
+        {{GABRO_ABSENT, RUN_MODE, GABRO_BY_LINES, false}, false, {GABRO_SIDE_TEXT, GABRO_ABSENT, 1}, {RUN_MODE, GABRO_ABSENT, GABRO_OF_SIDE}},
+        {{TEXT_MODE, GABRO_ABSENT, GABRO_BY_LINES, false}, false, {GABRO_SIDE_UNCHANGED, GABRO_ABSENT, 0}, {GABRO_ABSENT, GABRO_ABSENT, GABRO_OF_SIDE}},
         /* a link beside lines */
-        {{OF_LINK, TEXT_MODE, SCM_BY_LINES, false}, true, {SCM_SIDE_UNCHANGED, SCM_ABSENT, 0}, {OF_LINK, SCM_ABSENT, SCM_OF_OLD}},
-        {{OF_LINK, TEXT_MODE, SCM_BY_LINES, false}, true, {SCM_SIDE_TEXT, TEXT_MODE, 0}, {TEXT_MODE, SCM_ABSENT, SCM_OF_SIDE}},
-        {{RUN_MODE, OF_LINK, SCM_BY_LINES, false}, false, {SCM_SIDE_UNCHANGED, SCM_ABSENT, 0}, {OF_LINK, SCM_ABSENT, SCM_OF_NEW}},
-        {{RUN_MODE, OF_LINK, SCM_BY_LINES, false}, false, {SCM_SIDE_TEXT, SCM_ABSENT, 1}, {RUN_MODE, SCM_ABSENT, SCM_OF_SIDE}},
-        {{OF_LINK, OF_LINK, SCM_BY_LINES, false}, true, {SCM_SIDE_TEXT, OF_LINK, 1}, {OF_LINK, SCM_ABSENT, SCM_OF_SIDE}},
+        {{OF_LINK, TEXT_MODE, GABRO_BY_LINES, false}, true, {GABRO_SIDE_UNCHANGED, GABRO_ABSENT, 0}, {OF_LINK, GABRO_ABSENT, GABRO_OF_OLD}},
+        {{OF_LINK, TEXT_MODE, GABRO_BY_LINES, false}, true, {GABRO_SIDE_TEXT, TEXT_MODE, 0}, {TEXT_MODE, GABRO_ABSENT, GABRO_OF_SIDE}},
+        {{RUN_MODE, OF_LINK, GABRO_BY_LINES, false}, false, {GABRO_SIDE_UNCHANGED, GABRO_ABSENT, 0}, {OF_LINK, GABRO_ABSENT, GABRO_OF_NEW}},
+        {{RUN_MODE, OF_LINK, GABRO_BY_LINES, false}, false, {GABRO_SIDE_TEXT, GABRO_ABSENT, 1}, {RUN_MODE, GABRO_ABSENT, GABRO_OF_SIDE}},
+        {{OF_LINK, OF_LINK, GABRO_BY_LINES, false}, true, {GABRO_SIDE_TEXT, OF_LINK, 1}, {OF_LINK, GABRO_ABSENT, GABRO_OF_SIDE}},
         /* items: the contents apart from the mode, or along with it */
-        {{TEXT_MODE, RUN_MODE, SCM_BY_ITEMS, false}, true, {SCM_SIDE_UNCHANGED, RUN_MODE, 0}, {RUN_MODE, SCM_ABSENT, SCM_OF_OLD}},
-        {{TEXT_MODE, RUN_MODE, SCM_BY_ITEMS, false}, true, {SCM_SIDE_BINARY, TEXT_MODE, 0}, {TEXT_MODE, SCM_ABSENT, SCM_OF_NEW}},
-        {{OF_LINK, RUN_MODE, SCM_BY_ITEMS, false}, true, {SCM_SIDE_UNCHANGED, RUN_MODE, 0}, {RUN_MODE, SCM_ABSENT, SCM_OF_NEW}},
-        {{OF_LINK, RUN_MODE, SCM_BY_ITEMS, false}, false, {SCM_SIDE_UNCHANGED, OF_LINK, 0}, {OF_LINK, SCM_ABSENT, SCM_OF_OLD}},
-        {{TEXT_MODE, SCM_ABSENT, SCM_BY_ITEMS, false}, true, {SCM_SIDE_UNCHANGED, SCM_ABSENT, 0}, {SCM_ABSENT, SCM_ABSENT, SCM_OF_NEW}},
+        {{TEXT_MODE, RUN_MODE, GABRO_BY_ITEMS, false}, true, {GABRO_SIDE_UNCHANGED, RUN_MODE, 0}, {RUN_MODE, GABRO_ABSENT, GABRO_OF_OLD}},
+        {{TEXT_MODE, RUN_MODE, GABRO_BY_ITEMS, false}, true, {GABRO_SIDE_BINARY, TEXT_MODE, 0}, {TEXT_MODE, GABRO_ABSENT, GABRO_OF_NEW}},
+        {{OF_LINK, RUN_MODE, GABRO_BY_ITEMS, false}, true, {GABRO_SIDE_UNCHANGED, RUN_MODE, 0}, {RUN_MODE, GABRO_ABSENT, GABRO_OF_NEW}},
+        {{OF_LINK, RUN_MODE, GABRO_BY_ITEMS, false}, false, {GABRO_SIDE_UNCHANGED, OF_LINK, 0}, {OF_LINK, GABRO_ABSENT, GABRO_OF_OLD}},
+        {{TEXT_MODE, GABRO_ABSENT, GABRO_BY_ITEMS, false}, true, {GABRO_SIDE_UNCHANGED, GABRO_ABSENT, 0}, {GABRO_ABSENT, GABRO_ABSENT, GABRO_OF_NEW}},
         /* one item for all of the file */
-        {{SCM_ABSENT, RUN_MODE, SCM_BY_ONE_ITEM, false}, true, {SCM_SIDE_UNCHANGED, RUN_MODE, 0}, {SCM_ABSENT, SCM_ABSENT, SCM_OF_OLD}},
-        {{SCM_ABSENT, RUN_MODE, SCM_BY_ONE_ITEM, false}, true, {SCM_SIDE_BINARY, RUN_MODE, 0}, {RUN_MODE, SCM_ABSENT, SCM_OF_NEW}},
+        {{GABRO_ABSENT, RUN_MODE, GABRO_BY_ONE_ITEM, false}, true, {GABRO_SIDE_UNCHANGED, RUN_MODE, 0}, {GABRO_ABSENT, GABRO_ABSENT, GABRO_OF_OLD}},
+        {{GABRO_ABSENT, RUN_MODE, GABRO_BY_ONE_ITEM, false}, true, {GABRO_SIDE_BINARY, RUN_MODE, 0}, {RUN_MODE, GABRO_ABSENT, GABRO_OF_NEW}},
         /* a renamed file */
-        {{TEXT_MODE, RUN_MODE, SCM_BY_LINES, true}, true, {SCM_SIDE_TEXT, RUN_MODE, 1}, {RUN_MODE, SCM_ABSENT, SCM_OF_SIDE}},
-        {{TEXT_MODE, RUN_MODE, SCM_BY_LINES, true}, true, {SCM_SIDE_TEXT, NO_KIND, 1}, {SCM_ABSENT, TEXT_MODE, SCM_OF_SIDE}},
-        {{TEXT_MODE, RUN_MODE, SCM_BY_ITEMS, true}, false, {SCM_SIDE_BINARY, SCM_ABSENT, 0}, {SCM_ABSENT, TEXT_MODE, SCM_OF_NEW}},
+        {{TEXT_MODE, RUN_MODE, GABRO_BY_LINES, true}, true, {GABRO_SIDE_TEXT, RUN_MODE, 1}, {RUN_MODE, GABRO_ABSENT, GABRO_OF_SIDE}},
+        {{TEXT_MODE, RUN_MODE, GABRO_BY_LINES, true}, true, {GABRO_SIDE_TEXT, NO_KIND, 1}, {GABRO_ABSENT, TEXT_MODE, GABRO_OF_SIDE}},
+        {{TEXT_MODE, RUN_MODE, GABRO_BY_ITEMS, true}, false, {GABRO_SIDE_BINARY, GABRO_ABSENT, 0}, {GABRO_ABSENT, TEXT_MODE, GABRO_OF_NEW}},
     };
     for (size_t i = 0; i < sizeof sides / sizeof *sides; i++) {
-        scm_in_tree found = {0}, wanted = sides[i].found;
-        scm_tree_side(&sides[i].changed, sides[i].is_selected, &sides[i].side, &found);
+        gabro_in_tree found = {0}, wanted = sides[i].found;
+        gabro_tree_side(&sides[i].changed, sides[i].is_selected, &sides[i].side, &found);
         assert(found.mode == wanted.mode && found.old_path_mode == wanted.old_path_mode && found.contents == wanted.contents);
     }
 }
@@ -824,25 +831,25 @@ static void tell_sides(void) {
 /* What a state is given of a changed file. */
 static void tell_shown(void) {
     static const struct {
-        scm_changed changed;
+        gabro_changed changed;
         bool is_other;
-        scm_shown shown;
+        gabro_shown shown;
     } files[] = {
-        {{TEXT_MODE, RUN_MODE, SCM_BY_LINES, false}, true, {TEXT_MODE, RUN_MODE, true, false}},
-        {{OF_LINK, TEXT_MODE, SCM_BY_LINES, false}, true, {SCM_ABSENT, TEXT_MODE, true, false}},
-        {{TEXT_MODE, OF_LINK, SCM_BY_LINES, false}, true, {TEXT_MODE, SCM_ABSENT, true, false}},
-        {{TEXT_MODE, TEXT_MODE, SCM_BY_ITEMS, false}, true, {TEXT_MODE, TEXT_MODE, false, true}},
-        {{TEXT_MODE, RUN_MODE, SCM_BY_ITEMS, false}, false, {TEXT_MODE, RUN_MODE, true, false}},
-        {{OF_LINK, TEXT_MODE, SCM_BY_ITEMS, false}, true, {OF_LINK, TEXT_MODE, true, false}},
-        {{OF_LINK, TEXT_MODE, SCM_BY_ONE_ITEM, false}, true, {TEXT_MODE, TEXT_MODE, false, true}},
-        {{SCM_ABSENT, TEXT_MODE, SCM_BY_ONE_ITEM, false}, false, {TEXT_MODE, TEXT_MODE, false, true}},
-        {{TEXT_MODE, SCM_ABSENT, SCM_BY_ONE_ITEM, false}, true, {TEXT_MODE, SCM_ABSENT, true, false}},
-        {{TEXT_MODE, RUN_MODE, SCM_BY_ONE_ITEM, false}, true, {TEXT_MODE, RUN_MODE, true, true}},
-        {{RUN_MODE, TEXT_MODE, SCM_BY_ONE_ITEM, true}, true, {BARE, TEXT_MODE, true, true}},
+        {{TEXT_MODE, RUN_MODE, GABRO_BY_LINES, false}, true, {TEXT_MODE, RUN_MODE, true, false}},
+        {{OF_LINK, TEXT_MODE, GABRO_BY_LINES, false}, true, {GABRO_ABSENT, TEXT_MODE, true, false}},
+        {{TEXT_MODE, OF_LINK, GABRO_BY_LINES, false}, true, {TEXT_MODE, GABRO_ABSENT, true, false}},
+        {{TEXT_MODE, TEXT_MODE, GABRO_BY_ITEMS, false}, true, {TEXT_MODE, TEXT_MODE, false, true}},
+        {{TEXT_MODE, RUN_MODE, GABRO_BY_ITEMS, false}, false, {TEXT_MODE, RUN_MODE, true, false}},
+        {{OF_LINK, TEXT_MODE, GABRO_BY_ITEMS, false}, true, {OF_LINK, TEXT_MODE, true, false}},
+        {{OF_LINK, TEXT_MODE, GABRO_BY_ONE_ITEM, false}, true, {TEXT_MODE, TEXT_MODE, false, true}},
+        {{GABRO_ABSENT, TEXT_MODE, GABRO_BY_ONE_ITEM, false}, false, {TEXT_MODE, TEXT_MODE, false, true}},
+        {{TEXT_MODE, GABRO_ABSENT, GABRO_BY_ONE_ITEM, false}, true, {TEXT_MODE, GABRO_ABSENT, true, false}},
+        {{TEXT_MODE, RUN_MODE, GABRO_BY_ONE_ITEM, false}, true, {TEXT_MODE, RUN_MODE, true, true}},
+        {{RUN_MODE, TEXT_MODE, GABRO_BY_ONE_ITEM, true}, true, {BARE, TEXT_MODE, true, true}},
     };
     for (size_t i = 0; i < sizeof files / sizeof *files; i++) {
-        scm_shown shown = {0}, wanted = files[i].shown;
-        scm_tree_shown(&files[i].changed, files[i].is_other, &shown);
+        gabro_shown shown = {0}, wanted = files[i].shown;
+        gabro_tree_shown(&files[i].changed, files[i].is_other, &shown);
         assert(shown.old_mode == wanted.old_mode && shown.new_mode == wanted.new_mode);
         assert(shown.has_mode == wanted.has_mode && shown.has_contents == wanted.has_contents);
     }
@@ -854,17 +861,18 @@ static void tell_shown(void) {
 #define MERGED "a\nb\n", 4, "a\n", 2, "a\nB\n", 4
 /* Labels of the base, of ours and of theirs. The second one has a line end, so it is left out. */
 #define LABELS "old", 3, "x\ny", 3, "topic", 5
+#define NO_LABELS NULL, 0, NULL, 0, NULL, 0
 
 /* Looks that the merge by marks is `wanted`, also in a buffer that is too short, and how many conflicts are open. */
 static void merges_to(const char *marks, const char *wanted, size_t open) {
     char out[64];
     size_t written = 77, length = strlen(wanted), found = 77;
     memset(out, 'z', sizeof out);
-    assert(scm_merged_bytes(MERGED, marks, 3, out, sizeof out, &written) == SCM_DONE);
+    assert(gabro_merged_bytes(MERGED, marks, 3, out, sizeof out, &written) == GABRO_DONE);
     assert(written == length && memcmp(out, wanted, length) == 0 && out[length] == 'z');
     memset(out, 'z', sizeof out);
-    assert(scm_merged_bytes(MERGED, marks, 3, out, 1, &written) == SCM_DONE && written == length && out[1] == 'z');
-    assert(scm_open_conflicts(MERGED, marks, 3, &found) == SCM_DONE && found == open);
+    assert(gabro_merged_bytes(MERGED, marks, 3, out, 1, &written) == GABRO_DONE && written == length && out[1] == 'z');
+    assert(gabro_open_conflicts(MERGED, marks, 3, &found) == GABRO_DONE && found == open);
 }
 
 /* Looks that the merge by marks with conflict markers is `wanted`, also in a buffer that is too short. */
@@ -872,10 +880,18 @@ static void has_markers(const char *marks, const char *wanted) {
     char out[64];
     size_t written = 77, length = strlen(wanted);
     memset(out, 'z', sizeof out);
-    assert(scm_marked_bytes(MERGED, marks, 3, LABELS, out, sizeof out, &written) == SCM_DONE);
+    assert(gabro_marked_bytes(MERGED, marks, 3, LABELS, 7, out, sizeof out, &written) == GABRO_DONE);
     assert(written == length && memcmp(out, wanted, length) == 0 && out[length] == 'z');
     memset(out, 'z', sizeof out);
-    assert(scm_marked_bytes(MERGED, marks, 3, LABELS, out, 1, &written) == SCM_DONE && written == length && out[1] == 'z');
+    assert(gabro_marked_bytes(MERGED, marks, 3, LABELS, 7, out, 1, &written) == GABRO_DONE && written == length && out[1] == 'z');
+}
+
+/* Looks that the merge with an open conflict is `wanted` where its markers are to have this length. */
+static void has_markers_of(size_t marker_length, const char *wanted) {
+    char out[64];
+    size_t written = 77;
+    assert(gabro_marked_bytes(MERGED, "\0\1\0", 3, NO_LABELS, marker_length, out, sizeof out, &written) == GABRO_DONE);
+    assert(written == strlen(wanted) && memcmp(out, wanted, written) == 0);
 }
 
 /* The lines of a merge as records, and what marks make of it. */
@@ -887,10 +903,10 @@ static void merge_files(void) {
     char out[64];
     size_t written = 77, open = 77;
     memset(out, 'z', sizeof out);
-    assert(scm_merge_texts(MERGED, out, sizeof out, &written) == SCM_DONE && written == sizeof records - 1);
+    assert(gabro_merge_texts(MERGED, out, sizeof out, &written) == GABRO_DONE && written == sizeof records - 1);
     assert(memcmp(out, records, written) == 0 && out[written] == 'z');
     memset(out, 'z', sizeof out);
-    assert(scm_merge_texts(MERGED, out, 1, &written) == SCM_DONE && written == sizeof records - 1 && out[0] == ' ' && out[1] == 'z');
+    assert(gabro_merge_texts(MERGED, out, 1, &written) == GABRO_DONE && written == sizeof records - 1 && out[0] == ' ' && out[1] == 'z');
     merges_to("\0\1\0", "a\n", 1);
     merges_to("\1\1\0", "a\n", 0);
     merges_to("\0\0\0", "a\nb\n", 0);
@@ -898,41 +914,44 @@ static void merge_files(void) {
     merges_to("\0\0\1", "a\nb\nB\n", 0);
     has_markers("\0\1\0", "a\n<<<<<<<\n||||||| old\nb\n=======\nB\n>>>>>>> topic\n");
     has_markers("\0\1\1", "a\nB\n");
+    has_markers_of(9, "a\n<<<<<<<<<\n|||||||||\nb\n=========\nB\n>>>>>>>>>\n");
+    has_markers_of(1, "a\n<\n|\nb\n=\nB\n>\n");
+    assert(gabro_marked_bytes(MERGED, "\0\1\0", 3, NO_LABELS, SIZE_MAX, out, sizeof out, &written) == GABRO_NO_MEMORY);
     for (size_t count = 0; count < 5; count += count == 2 ? 2 : 1) {
         written = open = 77;
-        assert(scm_merged_bytes(MERGED, "\0\0\0\0", count, out, sizeof out, &written) == SCM_NO_ITEM && written == 77);
-        assert(scm_marked_bytes(MERGED, "\0\0\0\0", count, LABELS, out, sizeof out, &written) == SCM_NO_ITEM && written == 77);
-        assert(scm_open_conflicts(MERGED, "\0\0\0\0", count, &open) == SCM_NO_ITEM && open == 77);
+        assert(gabro_merged_bytes(MERGED, "\0\0\0\0", count, out, sizeof out, &written) == GABRO_NO_ITEM && written == 77);
+        assert(gabro_marked_bytes(MERGED, "\0\0\0\0", count, LABELS, 7, out, sizeof out, &written) == GABRO_NO_ITEM && written == 77);
+        assert(gabro_open_conflicts(MERGED, "\0\0\0\0", count, &open) == GABRO_NO_ITEM && open == 77);
     }
-    assert(scm_merge_texts(NULL, 0, NULL, 0, NULL, 0, NULL, 0, &written) == SCM_DONE && written == 0);
-    assert(scm_merged_bytes(NULL, 0, NULL, 0, NULL, 0, NULL, 0, NULL, 0, &written) == SCM_DONE && written == 0);
-    assert(scm_marked_bytes(NULL, 0, NULL, 0, NULL, 0, NULL, 0, NULL, 0, NULL, 0, NULL, 0, NULL, 0, &written) == SCM_DONE && written == 0);
-    assert(scm_open_conflicts(NULL, 0, NULL, 0, NULL, 0, NULL, 0, &open) == SCM_DONE && open == 0);
+    assert(gabro_merge_texts(NULL, 0, NULL, 0, NULL, 0, NULL, 0, &written) == GABRO_DONE && written == 0);
+    assert(gabro_merged_bytes(NULL, 0, NULL, 0, NULL, 0, NULL, 0, NULL, 0, &written) == GABRO_DONE && written == 0);
+    assert(gabro_marked_bytes(NULL, 0, NULL, 0, NULL, 0, NULL, 0, NULL, 0, NULL, 0, NULL, 0, 0, NULL, 0, &written) == GABRO_DONE && written == 0);
+    assert(gabro_open_conflicts(NULL, 0, NULL, 0, NULL, 0, NULL, 0, &open) == GABRO_DONE && open == 0);
 }
 
 #ifdef __GLIBC__
 /* Makes one of the four calls. Returns its code, and leaves `written` as it was unless it was done. */
 static uint32_t merge_by(int which, size_t *written) {
     char out[64];
-    return which == 0   ? scm_merge_texts(MERGED, out, sizeof out, written)
-           : which == 1 ? scm_merged_bytes(MERGED, "\0\0\0", 3, out, sizeof out, written)
-           : which == 2 ? scm_marked_bytes(MERGED, "\0\1\0", 3, LABELS, out, sizeof out, written)
-                        : scm_open_conflicts(MERGED, "\0\0\0", 3, written);
+    return which == 0   ? gabro_merge_texts(MERGED, out, sizeof out, written)
+           : which == 1 ? gabro_merged_bytes(MERGED, "\0\0\0", 3, out, sizeof out, written)
+           : which == 2 ? gabro_marked_bytes(MERGED, "\0\1\0", 3, LABELS, 7, out, sizeof out, written)
+                        : gabro_open_conflicts(MERGED, "\0\0\0", 3, written);
 }
 
 /* Refuses one allocation after another of each call: it says so, or all is done. */
 static void merge_without_memory(void) {
     for (int which = 0; which < 4; which++) {
-        uint32_t code = SCM_NO_MEMORY;
-        for (long count = 0; code != SCM_DONE; count++) {
+        uint32_t code = GABRO_NO_MEMORY;
+        for (long count = 0; code != GABRO_DONE; count++) {
             size_t written = 77;
             granted = count;
             is_refused = true;
             code = merge_by(which, &written);
             is_refused = false;
             granted = 0;
-            assert(code == SCM_DONE || (code == SCM_NO_MEMORY && written == 77));
-            assert(count < 1000 && (count > 5 || code == SCM_NO_MEMORY));
+            assert(code == GABRO_DONE || (code == GABRO_NO_MEMORY && written == 77));
+            assert(count < 1000 && (count > 5 || code == GABRO_NO_MEMORY));
         }
     }
 }
@@ -944,14 +963,14 @@ static void merge_without_memory(void) {}
 
 /* A run on a terminal of its own, by another thread. */
 typedef struct run {
-    scm_session session;
+    gabro_session session;
     int user, terminal; /* the ends of the pseudo terminal */
     int end, error;
 } run;
 
 static void *run_session(void *given) {
     run *run = given;
-    run->end = scm_run(&run->session, run->terminal, NULL);
+    run->end = gabro_run(&run->session, run->terminal, NULL);
     run->error = errno;
     return NULL;
 }
@@ -961,12 +980,12 @@ static run open_run(void) {
     run run = {.user = posix_openpt(O_RDWR | O_NOCTTY)};
     assert(run.user >= 0 && grantpt(run.user) == 0 && unlockpt(run.user) == 0);
     run.terminal = open(ptsname(run.user), O_RDWR | O_NOCTTY);
-    assert(run.terminal >= 0 && scm_new(&run.session, STATE, strlen(STATE), WIDTH, HEIGHT) == SCM_DONE);
+    assert(run.terminal >= 0 && gabro_new(&run.session, STATE, strlen(STATE), WIDTH, HEIGHT) == GABRO_DONE);
     return run;
 }
 
 static void close_run(run *run) {
-    scm_free(&run->session);
+    gabro_free(&run->session);
     close(run->terminal);
     close(run->user);
 }
@@ -993,12 +1012,12 @@ static pthread_t begin_run(run *run) {
 /* Has the user of a run accept, and waits for its end. */
 static void accept_run(run *run, pthread_t thread) {
     assert(write(run->user, "c", 1) == 1 && pthread_join(thread, NULL) == 0);
-    assert(run->end == 0 && scm_stage(&run->session) == SCM_ACCEPTED);
+    assert(run->end == 0 && gabro_stage(&run->session) == GABRO_ACCEPTED);
 }
 
 /* Looks that a run was refused since another one goes on, and changed nothing. */
 static void is_busy(run *run) {
-    assert(run->end == -1 && run->error == EBUSY && scm_stage(&run->session) == SCM_WAITING);
+    assert(run->end == -1 && run->error == EBUSY && gabro_stage(&run->session) == GABRO_WAITING);
     run->end = run->error = 0;
 }
 
@@ -1029,7 +1048,7 @@ int main(void) {
     tell_lines();
     take_texts();
     cut_window();
-    done(begin(STATE), SCM_WAITING);
+    done(begin(STATE), GABRO_WAITING);
     paint_rows();
     refuse_messages();
     refuse_after_the_end();

@@ -9,9 +9,9 @@
  *   ROOM             does nothing, and paints into ROOM bytes first
  *
  * After each line it writes a frame: a line `frame STAGE BYTES TEXT PLACES` with the stage and three lengths, the bytes of
- * scm_paint, the text of the stage, and the places at which a symbol begins, each as `ROW COLUMN LENGTH CODE COMMIT FILE
+ * gabro_paint, the text of the stage, and the places at which a symbol begins, each as `ROW COLUMN LENGTH CODE COMMIT FILE
  * SECTION LINE`, where an index is -1 for none. */
-#include "scm.h"
+#include "gabrosty.h"
 
 #include <stdio.h>
 #include <stdlib.h>
@@ -24,7 +24,7 @@ typedef struct {
     size_t length;
 } text;
 
-static scm_session session;
+static gabro_session session;
 static unsigned width, height;
 
 static void stop(const char *why) {
@@ -50,19 +50,19 @@ static text read_all(FILE *in) {
     return all;
 }
 
-/* scm_text, as a reader. */
-static uint32_t text_of_stage(scm_session *of, char *out, size_t length, size_t *written) { return scm_text(of, out, length, written); }
+/* gabro_text, as a reader. */
+static uint32_t text_of_stage(gabro_session *of, char *out, size_t length, size_t *written) { return gabro_text(of, out, length, written); }
 
-/* Returns what `reader` (scm_paint or text_of_stage) writes into `room` bytes, and into more where that is not enough. */
-static text read_session(uint32_t (*reader)(scm_session *, char *, size_t, size_t *), size_t room) {
+/* Returns what `reader` (gabro_paint or text_of_stage) writes into `room` bytes, and into more where that is not enough. */
+static text read_session(uint32_t (*reader)(gabro_session *, char *, size_t, size_t *), size_t room) {
     text read = {more_room(NULL, room + 1), 0};
     uint32_t code = reader(&session, read.bytes, room, &read.length);
-    while (code == SCM_DONE && read.length > room) {
+    while (code == GABRO_DONE && read.length > room) {
         room = read.length;
         read.bytes = more_room(read.bytes, room + 1);
         code = reader(&session, read.bytes, room, &read.length);
     }
-    if (code == SCM_NO_MEMORY) {
+    if (code == GABRO_NO_MEMORY) {
         stop("there is no memory");
     }
     return read;
@@ -71,11 +71,11 @@ static text read_session(uint32_t (*reader)(scm_session *, char *, size_t, size_
 static text read_places(void) {
     text places = {more_room(NULL, (size_t)width * height * ROOM_OF_A_PLACE + 1), 0};
     char symbol;
-    scm_key key;
+    gabro_key key;
     for (unsigned row = 0; row < height; row++) {
         for (unsigned column = 0; column < width; column++) {
-            size_t length = scm_symbol(&session, (uint16_t)row, (uint16_t)column, &symbol, 0);
-            uint32_t code = scm_owner(&session, (uint16_t)row, (uint16_t)column, &key);
+            size_t length = gabro_symbol(&session, (uint16_t)row, (uint16_t)column, &symbol, 0);
+            uint32_t code = gabro_owner(&session, (uint16_t)row, (uint16_t)column, &key);
             if (length > 0) {
                 places.length += (size_t)sprintf(places.bytes + places.length, "%u %u %zu %u %td %td %td %td\n", row, column,
                     length, code, (ptrdiff_t)key.commit, (ptrdiff_t)key.file, (ptrdiff_t)key.section, (ptrdiff_t)key.line);
@@ -86,8 +86,8 @@ static text read_places(void) {
 }
 
 static void print_frame(size_t room) {
-    text parts[] = {read_session(scm_paint, room), read_session(text_of_stage, 1 << 15), read_places()};
-    printf("frame %u %zu %zu %zu\n", scm_stage(&session), parts[0].length, parts[1].length, parts[2].length);
+    text parts[] = {read_session(gabro_paint, room), read_session(text_of_stage, 1 << 15), read_places()};
+    printf("frame %u %zu %zu %zu\n", gabro_stage(&session), parts[0].length, parts[1].length, parts[2].length);
     for (size_t i = 0; i < sizeof parts / sizeof *parts; i++) {
         fwrite(parts[i].bytes, 1, parts[i].length, stdout);
         free(parts[i].bytes);
@@ -96,7 +96,7 @@ static void print_frame(size_t room) {
 
 static void press(char *words) {
     for (char *word = strtok(words, " "); word; word = strtok(NULL, " ")) {
-        if (scm_press(&session, word, strlen(word)) == SCM_NO_WORD) {
+        if (gabro_press(&session, word, strlen(word)) == GABRO_NO_WORD) {
             stop(word);
         }
     }
@@ -109,7 +109,7 @@ static void type(const char *hex) {
     for (; length < sizeof bytes && sscanf(hex, "%2x", &byte) == 1; hex += 2) {
         bytes[length++] = (char)byte;
     }
-    scm_type(&session, bytes, length);
+    gabro_type(&session, bytes, length);
 }
 
 static void run_line(char *line) {
@@ -119,11 +119,11 @@ static void run_line(char *line) {
     } else if (strncmp(line, "type ", 5) == 0) {
         type(line + 5);
     } else if (strcmp(line, "idle") == 0) {
-        scm_idle(&session);
+        gabro_idle(&session);
     } else if (sscanf(line, "resize %u %u", &width, &height) == 2) {
-        scm_resize(&session, (uint16_t)width, (uint16_t)height);
+        gabro_resize(&session, (uint16_t)width, (uint16_t)height);
     } else if (strcmp(line, "repaint") == 0) {
-        scm_repaint(&session);
+        gabro_repaint(&session);
     } else if (sscanf(line, "%zu", &room) != 1) {
         stop(line);
     }
@@ -134,9 +134,9 @@ static void run_line(char *line) {
 static bool is_opened(const char *json, size_t length, const char *words) {
     uint16_t columns = (uint16_t)width, rows = (uint16_t)height;
     if (!words) {
-        return scm_new(&session, json, length, columns, rows) == SCM_DONE;
+        return gabro_new(&session, json, length, columns, rows) == GABRO_DONE;
     }
-    return scm_new_layer(&session, json, length, columns, rows) == SCM_DONE && scm_accept_text(&session, words, strlen(words)) == SCM_DONE;
+    return gabro_new_layer(&session, json, length, columns, rows) == GABRO_DONE && gabro_accept_text(&session, words, strlen(words)) == GABRO_DONE;
 }
 
 int main(int argc, char **argv) {
@@ -159,6 +159,6 @@ int main(int argc, char **argv) {
         run_line(line);
     }
     free(input.bytes);
-    scm_free(&session);
+    gabro_free(&session);
     return 0;
 }

@@ -19,8 +19,8 @@ void check(bool is_well, const char *what, const char *why) {
 
 void check_code(uint32_t code, const char *what) {
     char words[256];
-    words[scm_words(code, words, sizeof words - 1)] = 0;
-    check(code == SCM_DONE, what, words);
+    words[gabro_words(code, words, sizeof words - 1)] = 0;
+    check(code == GABRO_DONE, what, words);
 }
 
 void fill_standard_files(void) {
@@ -39,7 +39,7 @@ void hear_ends(void) {
 void read_environment(layer *layer) {
     const char *values = NULL, *name = read_layer(layer, &values);
     if (!folder_named("TMPDIR")) {
-        unsetenv("TMPDIR"); /* then the library makes its files in /tmp */
+        unsetenv("TMPDIR"); /* the editor of a message has no files in the current folder, either */
     }
     if (name) {
         say("%s is %s: write %s", name, getenv(name), values);
@@ -57,14 +57,14 @@ int open_terminal(void) {
     return terminal;
 }
 
-void prepare(scm_session *session, const layer *layer, int terminal) {
+void prepare(gabro_session *session, const layer *layer, int terminal) {
     check_code(start_layer(session, layer, terminal), "cannot go on");
     const char *why = take_keys(session, layer);
     check(!why, "the keys of your own", why);
 }
 
-bool run_in_terminal(scm_session *session, int terminal, const char *title, const scm_hooks *hooks) {
-    int ended_by = scm_run_with(session, terminal, title, hooks);
+bool run_in_terminal(gabro_session *session, int terminal, const char *title, const gabro_hooks *hooks) {
+    int ended_by = gabro_run_with(session, terminal, title, hooks);
     if (ended_by > 0) {
         signal(ended_by, SIG_DFL);
         raise(ended_by);
@@ -73,8 +73,8 @@ bool run_in_terminal(scm_session *session, int terminal, const char *title, cons
     return ended_by == 0;
 }
 
-int give_up(scm_session *session, bool is_there) {
-    bool is_cancelled = scm_end(session) == SCM_END_CANCELLED;
+int give_up(gabro_session *session, bool is_there) {
+    bool is_cancelled = gabro_end(session) == GABRO_END_CANCELLED;
     text words = {0};
     check_code(read_text(session, &words), "cannot go on");
     say("%s", is_there ? words.bytes : "the terminal is gone");

@@ -33,13 +33,13 @@ int open_terminal(void);
 
 /* Gives a session that has begun its layer on the terminal, and the keys of the user's own. Says what is wrong and exits, unless all is
  * well. */
-void prepare(scm_session *session, const layer *layer, int terminal);
+void prepare(gabro_session *session, const layer *layer, int terminal);
 
 /* Runs the session on the terminal, with what the program does within the run, if it does something. If a signal asks for it, ends as that
  * does. Returns whether the terminal is still there. */
-bool run_in_terminal(scm_session *session, int terminal, const char *title, const scm_hooks *hooks);
+bool run_in_terminal(gabro_session *session, int terminal, const char *title, const gabro_hooks *hooks);
 
 /* Says how a session without accepted changes has ended. Returns the status. */
-int give_up(scm_session *session, bool is_there);
+int give_up(gabro_session *session, bool is_there);
 
 #endif

@@ -1,7 +1,7 @@
 /* Runs a script of the project's examples over the library for C, and prints what the program over scripts prints:
  * each screen that the script asks for, and the accepted state or the fault. It is there to compare the two. Read
  * faults of a script are left out. */
-#include "scm.h"
+#include "gabrosty.h"
 
 #include <stdio.h>
 #include <stdlib.h>
@@ -9,7 +9,7 @@
 
 enum { MOST_ANSWERS = 1000, BAD_SCRIPT = 3 };
 
-static scm_session session;
+static gabro_session session;
 static char *answers[MOST_ANSWERS]; /* the texts of `answer` lines, in order */
 static size_t answer_count;
 static size_t answers_taken;
@@ -43,9 +43,9 @@ static char *read_all(FILE *in) {
 static char *session_text(void) {
     char nothing;
     size_t length = 0;
-    uint32_t code = scm_text(&session, &nothing, 0, &length);
+    uint32_t code = gabro_text(&session, &nothing, 0, &length);
     char *text = more_room(NULL, length + 1);
-    if (code == SCM_NO_MEMORY || scm_text(&session, text, length, &length) == SCM_NO_MEMORY) {
+    if (code == GABRO_NO_MEMORY || gabro_text(&session, text, length, &length) == GABRO_NO_MEMORY) {
         stop("there is no memory");
     }
     text[length] = 0;
@@ -80,13 +80,13 @@ static void read_answers(char *script) {
 
 /* Hands in a word, and the messages that the session then asks for, as far as the script has them. */
 static void press(const char *word) {
-    uint32_t code = scm_press(&session, word, strlen(word));
-    if (code != SCM_DONE) {
+    uint32_t code = gabro_press(&session, word, strlen(word));
+    if (code != GABRO_DONE) {
         printf("refused: %s %u\n", word, code);
     }
-    while (scm_stage(&session) == SCM_EDITING && answers_taken < answer_count) {
+    while (gabro_stage(&session) == GABRO_EDITING && answers_taken < answer_count) {
         const char *answer = answers[answers_taken++];
-        scm_answer(&session, answer, strlen(answer));
+        gabro_answer(&session, answer, strlen(answer));
     }
 }
 
@@ -94,7 +94,7 @@ static void press(const char *word) {
 static void run_batch(char *words) {
     static unsigned shots;
     char *screen = session_text();
-    for (char *word = strtok(words, " "); word && scm_stage(&session) == SCM_WAITING; word = strtok(NULL, " ")) {
+    for (char *word = strtok(words, " "); word && gabro_stage(&session) == GABRO_WAITING; word = strtok(NULL, " ")) {
         if (strcmp(word, "shot") == 0) {
             printf("screen %u\n%s", shots++, screen);
         } else {
@@ -105,7 +105,7 @@ static void run_batch(char *words) {
 }
 
 static void run(char *script) {
-    for (char *line = script; line && scm_stage(&session) == SCM_WAITING;) {
+    for (char *line = script; line && gabro_stage(&session) == GABRO_WAITING;) {
         char *next = next_line(line);
         if (next) {
             next[-1] = 0;
@@ -119,18 +119,18 @@ static void run(char *script) {
 
 static int report(void) {
     char *text = session_text();
-    uint32_t stage = scm_stage(&session);
-    if (stage == SCM_ACCEPTED) {
+    uint32_t stage = gabro_stage(&session);
+    if (stage == GABRO_ACCEPTED) {
         fputs(text, stdout);
-    } else if (stage == SCM_ENDED) {
+    } else if (stage == GABRO_ENDED) {
         printf("fault: %s\n", text);
-    } else if (stage == SCM_EDITING) {
+    } else if (stage == GABRO_EDITING) {
         puts("fault: No more commit messages available");
     } else {
         puts("fault: failed to read user input: no events left");
     }
     free(text);
-    return stage == SCM_ACCEPTED ? 0 : 1;
+    return stage == GABRO_ACCEPTED ? 0 : 1;
 }
 
 int main(void) {
@@ -144,8 +144,8 @@ int main(void) {
     }
     char *script = end + strlen("\nscript\n");
     json++;
-    uint32_t code = scm_new(&session, json, (size_t)(end - json), (uint16_t)width, (uint16_t)height);
-    if (code != SCM_DONE) {
+    uint32_t code = gabro_new(&session, json, (size_t)(end - json), (uint16_t)width, (uint16_t)height);
+    if (code != GABRO_DONE) {
         stop("the state is refused");
     }
     read_answers(script);
@@ -155,6 +155,6 @@ int main(void) {
         free(answers[--answer_count]);
     }
     free(input);
-    scm_free(&session);
+    gabro_free(&session);
     return status;
 }

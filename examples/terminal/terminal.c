@@ -2,6 +2,7 @@
  * proof covers this file, nor those beside it, of which it is made. */
 #define _GNU_SOURCE
 #include "again.h"
+#include "chosen.h"
 #include "decided.h"
 #include "handed.h"
 #include "kept.h"
@@ -66,7 +67,7 @@ static uint64_t known_version(uint64_t known, const version *version) {
 }
 
 /* Adds a change to the state. On a terminal it says meanwhile what takes long. If a line is too long to be shown, says so. */
-static void add(scm_session *session, task *task, change *change) {
+static void add(gabro_session *session, task *task, change *change) {
     task->known = known_version(known_version(known_by(task->known, change->path), &change->old), &change->new);
     if (task->is_as_json && task->form != HANDED_IN) {
         show_modes(change);
@@ -86,18 +87,18 @@ static void add(scm_session *session, task *task, change *change) {
     }
 }
 
-static void open_state(scm_session *session, task *task) {
+static void open_state(gabro_session *session, task *task) {
     check(read_source(task->from, &task->bytes, &task->permissions), task->from, NULL);
     check_code(open_layer(session, &task->layer, &task->bytes, 0, 0), task->from);
 }
 
-static void open_files(scm_session *session, task *task) {
+static void open_files(gabro_session *session, task *task) {
     differing *file = &task->file;
     check(read_contents(task->from, &file->old, &task->permissions), task->from, NULL);
     check(read_contents(task->to, &file->new, &task->permissions), task->to, NULL);
     file->path = task->to;
     check(show_difference(file), task->to, NULL);
-    check_code(scm_state_new(session, false), task->to);
+    check_code(gabro_state_new(session, false), task->to);
     add(session, task, &file->change);
 }
 
@@ -109,20 +110,20 @@ static void check_apart(const task *task) {
     check(!lies_in(right, left), task->to, "it lies in LEFT");
 }
 
-static void open_folders(scm_session *session, task *task) {
+static void open_folders(gabro_session *session, task *task) {
     char *path = NULL;
     check(open_top(&task->folders.left, task->from), task->from, NULL);
     check(open_top(&task->folders.right, task->to), task->to, NULL);
     check_apart(task);
     bool is_read = read_folders(&task->folders, &path);
     check(is_read, path ? path : task->to, NULL);
-    check_code(scm_state_new(session, false), task->to);
+    check_code(gabro_state_new(session, false), task->to);
     for (size_t i = 0; i < task->folders.differ; i++) {
         add(session, task, &task->folders.files[i].change);
     }
 }
 
-static void open_handed(scm_session *session, task *task) {
+static void open_handed(gabro_session *session, task *task) {
     check(read_source(task->from, &task->bytes, &task->permissions), task->from, NULL);
     const char *why = read_handed((piece){task->bytes.bytes, task->bytes.length}, &task->handed);
     check(!why, task->from, why);
@@ -133,36 +134,42 @@ static void open_handed(scm_session *session, task *task) {
 }
 
 /* Gives the files the marks that were kept, if the user names a file of them. */
-static void take_up_marks(scm_session *session, const task *task) {
+static void take_up_marks(gabro_session *session, const task *task) {
     text lines = {0};
     size_t files = 0;
     const char *why = task->marks ? read_marks(task->marks, task->known, &lines) : NULL;
     check(!why, task->marks, why);
     piece left = {lines.bytes, lines.length};
-    check_code(scm_files(session, &files), "cannot go on");
+    check_code(gabro_files(session, &files), "cannot go on");
     for (size_t i = 0; task->marks && i < files; i++) {
         piece marks = next_marks(&left);
-        check(scm_state_marks(session, i, marks.bytes, marks.length) == SCM_DONE, task->marks, "it has not the marks of each file");
+        check(gabro_state_marks(session, i, marks.bytes, marks.length) == GABRO_DONE, task->marks, "it has not the marks of each file");
     }
     free(lines.bytes);
 }
 
-/* Begins a session over the state that was made. */
-static void begin(scm_session *session, task *task) {
+/* The key that marks everything. */
+static const char MARK_ALL[] = "shift-A";
+
+/* Begins a session over the state that was made, with the marks that it begins with. */
+static void begin(gabro_session *session, task *task) {
     take_up_marks(session, task);
-    uint32_t code = begin_layer(session, &task->layer, WIDTH, HEIGHT);
-    check(code != SCM_NOT_ACCEPTED, task->to, "there are too many lines to be shown: hand in fewer files");
-    check_code(code, task->to);
     if (task->form == HANDED_IN) {
         const char *why = mark_handed(session, &task->handed);
         check(!why, task->from, why);
     }
+    uint32_t code = begin_layer(session, &task->layer, WIDTH, HEIGHT);
+    check(code != GABRO_NOT_ACCEPTED, task->to, "there are too many lines to be shown: hand in fewer files");
+    check_code(code, task->to);
+    if (task->handed.is_all_marked) {
+        gabro_press(session, MARK_ALL, sizeof MARK_ALL - 1);
+    }
 }
 
-typedef void opener(scm_session *session, task *task);
+typedef void opener(gabro_session *session, task *task);
 
 /* Opens a session over what the arguments name. */
-static void open_session(scm_session *session, task *task) {
+static void open_session(gabro_session *session, task *task) {
     static opener *const opens[] = {open_state, open_files, open_folders, open_handed};
     opens[task->form](session, task);
     if (task->form != A_STATE) {
@@ -199,7 +206,7 @@ static void write_output(const task *task, piece bytes) {
 }
 
 /* Writes the text of accepted changes, or the records of those that were handed in. */
-static void write_text(scm_session *session, const task *task) {
+static void write_text(gabro_session *session, const task *task) {
     text accepted = {0};
     bool is_handed = task->form == HANDED_IN && !task->is_as_json;
     text plain = {0};
@@ -216,7 +223,7 @@ static void write_text(scm_session *session, const task *task) {
 }
 
 /* Writes the selected side of the file. */
-static void write_file(scm_session *session, const task *task) {
+static void write_file(gabro_session *session, const task *task) {
     text bytes = {0};
     side side;
     check_code(read_side(session, 0, &task->file.change, true, &bytes, &side), "cannot go on");
@@ -225,7 +232,7 @@ static void write_file(scm_session *session, const task *task) {
 }
 
 /* Has the right folder hold the selected sides. */
-static void write_folder(scm_session *session, task *task) {
+static void write_folder(gabro_session *session, task *task) {
     failure failure = {0};
     int end = write_right(session, &task->folders, &failure);
     if (end != WRITTEN) {
@@ -235,7 +242,7 @@ static void write_folder(scm_session *session, task *task) {
     }
 }
 
-static void write_accepted(scm_session *session, task *task) {
+static void write_accepted(gabro_session *session, task *task) {
     if (task->form == A_STATE || task->form == HANDED_IN || task->is_as_json) {
         write_text(session, task);
     } else if (task->form == TWO_FILES) {
@@ -246,46 +253,82 @@ static void write_accepted(scm_session *session, task *task) {
 }
 
 /* Scrolls up to the message of a commit, if there is one: what unfolds files at the start may have scrolled to the selected one. */
-static void show_message(scm_session *session, const task *task) {
+static void show_message(gabro_session *session, const task *task) {
     static const char word[] = "ctrl-pageup";
     if (task->handed.commits > 0) {
-        scm_press(session, word, sizeof word - 1);
+        gabro_press(session, word, sizeof word - 1);
     }
 }
 
-/* Keeps the marks where the user rests. */
-static void keep_here(void *marks, scm_session *session) { keep_now(marks, session); }
+/* A run: how its marks are kept where the user rests, and what was chosen when it began. */
+typedef struct watched {
+    void (*keep)(void *marks, gabro_session *session);
+    void *marks;
+    chosen chosen;
+} watched;
+
+static void keep_here(void *marks, gabro_session *session) { keep_now(marks, session); }
+
+static void keep_watched(void *context, gabro_session *session) {
+    const watched *watched = context;
+    watched->keep(watched->marks, session);
+}
+
+static void follow(void *context, gabro_session *session) {
+    watched *watched = context;
+    quit_if_unchanged(&watched->chosen, session);
+}
+
+/* Runs the session on the terminal, while its marks are kept. With a layer, nothing is asked about what nobody changed. Returns whether the
+ * terminal is still there. */
+static bool run_watched(gabro_session *session, const task *task, int terminal, watched *watched) {
+    bool has_layer = task->layer.is_on;
+    watched->chosen = has_layer ? begin_chosen(session) : (chosen){0};
+    const gabro_hooks hooks = {.context = watched, .changed = has_layer ? follow : NULL, .rested = keep_watched};
+    bool is_there = run_in_terminal(session, terminal, getenv("SELECT_TITLE"), &hooks);
+    free(watched->chosen.first.bytes);
+    return is_there;
+}
 
 /* Runs the session on the terminal, while its marks are kept for another run. Returns whether the terminal is still there. */
-static bool run_again(scm_session *session, const task *task, int terminal) {
+static bool run_again(gabro_session *session, const task *task, int terminal) {
     uint64_t name = known_by(KNOWN_BY_NOTHING, (piece){task->from, strlen(task->from)});
     kept_marks marks = begin_marks(known_by(name, (piece){task->to, strlen(task->to)}), task->known, task->marks);
-    const scm_hooks hooks = {.context = &marks, .rested = keep_here};
-    bool is_there = run_in_terminal(session, terminal, getenv("SELECT_TITLE"), &hooks);
+    watched watched = {.keep = keep_here, .marks = &marks};
+    bool is_there = run_watched(session, task, terminal, &watched);
     end_marks(&marks);
     return is_there;
 }
 
 /* Runs the session on the terminal. Of changes that were handed in the marks are kept meanwhile. Returns whether the terminal is still there. */
-static bool run(scm_session *session, const task *task, int terminal) {
+static bool run(gabro_session *session, const task *task, int terminal) {
     if (task->form == TWO_FILES || task->form == TWO_FOLDERS) {
         return run_again(session, task, terminal);
     }
     bool is_kept = task->form == HANDED_IN && !task->is_as_json;
     keeper keeper = is_kept ? begin_keeping(task->output, &task->handed) : (struct keeper){.file = -1};
-    const scm_hooks hooks = {.context = &keeper, .rested = keep_on};
-    bool is_there = run_in_terminal(session, terminal, getenv("SELECT_TITLE"), &hooks);
+    watched watched = {.keep = keep_on, .marks = &keeper};
+    bool is_there = run_watched(session, task, terminal, &watched);
     end_keeping(&keeper);
     return is_there;
 }
 
+/* Has the layer say of each renamed file where it comes from. */
+static void label_renames(gabro_session *session, const task *task) {
+    bool has_layer = task->layer.is_on && gabro_stage(session) == GABRO_WAITING;
+    for (size_t i = 0; has_layer && i < task->handed.count; i++) {
+        check_code(label_rename(session, i, &task->handed.changes[i].change), "the changes cannot be shown");
+    }
+}
+
 /* Has the user choose, and writes what is accepted. Returns the status. */
-static int select_changes(scm_session *session, task *task) {
+static int select_changes(gabro_session *session, task *task) {
     int terminal = open_terminal();
     prepare(session, &task->layer, terminal);
+    label_renames(session, task);
     show_message(session, task);
     bool is_there = run(session, task, terminal);
-    if (scm_stage(session) != SCM_ACCEPTED) {
+    if (gabro_stage(session) != GABRO_ACCEPTED) {
         return give_up(session, is_there);
     }
     write_accepted(session, task);
@@ -348,14 +391,14 @@ static void read_paths(int count, char **paths, task *task) {
 
 int main(int argc, char **argv) {
     task task = {.permissions = ~(mode_t)0, .folders = {.left = NOT_OPEN, .right = NOT_OPEN}};
-    scm_session session = {0};
+    gabro_session session = {0};
     int asked = read_options(argc, argv, &task);
     if (asked == 'D') {
         check(optind == argc, "wrong arguments", "try " NAME " --help");
         return print_decided();
     }
     if (asked) {
-        return print(asked == 'v' ? NAME " " SCM_VERSION_TEXT "\n" BUILD : HELP);
+        return print(asked == 'v' ? NAME " " GABRO_VERSION_TEXT "\n" BUILD : HELP);
     }
     read_paths(argc - optind, argv + optind, &task);
     check(task.output || task.form == TWO_FOLDERS || fcntl(STDOUT_FILENO, F_GETFD) >= 0, "standard output", NULL);
@@ -368,7 +411,7 @@ int main(int argc, char **argv) {
     if (!is_chosen && task.form == TWO_FILES) {
         write_output(&task, task.file.change.new.bytes);
     }
-    scm_free(&session);
+    gabro_free(&session);
     free_task(&task);
     return status;
 }

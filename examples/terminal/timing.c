@@ -12,7 +12,7 @@
  * the last paint has. PAINT is `none`, `changed` to paint after each word, `twice` to paint once more then, or `all` to paint
  * every row then. Valgrind counts its instructions, for tools/measure. */
 #define _XOPEN_SOURCE 700
-#include "scm.h"
+#include "gabrosty.h"
 
 #include <stdio.h>
 #include <stdlib.h>
@@ -22,7 +22,7 @@
 
 enum { REPEATS = 30, ROOM_OF_AN_ITEM = 120 };
 
-static scm_session session;
+static gabro_session session;
 
 /* What a state is made of. */
 typedef struct {
@@ -121,7 +121,7 @@ static char *state_of(const shape *of) {
 
 static double time_of_key(const char *word) {
     double begun = now();
-    if (scm_press(&session, word, strlen(word)) != SCM_DONE || scm_stage(&session) != SCM_WAITING) {
+    if (gabro_press(&session, word, strlen(word)) != GABRO_DONE || gabro_stage(&session) != GABRO_WAITING) {
         fprintf(stderr, "timing: %s is not handled\n", word);
         exit(1);
     }
@@ -144,7 +144,7 @@ static void print_key(const char *word, const char *back) {
 static size_t paint(void) {
     static char out[1 << 17];
     size_t length = 0;
-    if (scm_paint(&session, out, sizeof out, &length) != SCM_DONE || length > sizeof out) {
+    if (gabro_paint(&session, out, sizeof out, &length) != GABRO_DONE || length > sizeof out) {
         fputs("timing: nothing is painted\n", stderr);
         exit(1);
     }
@@ -157,7 +157,7 @@ static void paint_keys(int count, const char *kind, int words, char **word) {
     for (int i = 0; i < count; i++) {
         time_of_key(word[i % words]);
         if (strcmp(kind, "all") == 0) {
-            scm_repaint(&session);
+            gabro_repaint(&session);
         }
         if (strcmp(kind, "none") != 0) {
             length = paint();
@@ -183,7 +183,7 @@ int main(int argc, char **argv) {
     bool is_read = (argc == 2 || argc > 4) && is_read_as(argv[1], &of);
     char *json = is_read ? state_of(&of) : NULL;
     double begun = now();
-    if (!json || (of.has_layer ? scm_new_layer : scm_new)(&session, json, strlen(json), 80, 24) != SCM_DONE) {
+    if (!json || (of.has_layer ? gabro_new_layer : gabro_new)(&session, json, strlen(json), 80, 24) != GABRO_DONE) {
         fputs("timing: give it a shape that can be shown: FILESxSECTIONSxLINES, with :KIND:COUNT, ,both or ,layer behind it\n", stderr);
         return 2;
     }
@@ -195,12 +195,12 @@ int main(int argc, char **argv) {
     }
     if (argc > 4) {
         paint_keys(atoi(argv[2]), argv[3], argc - 4, argv + 4);
-        scm_free(&session);
+        gabro_free(&session);
         return 0;
     }
     printf("%s | begin %.1f ms", argv[1], (ended - begun) / 1e3);
     print_keys();
-    scm_free(&session);
+    gabro_free(&session);
     struct rusage usage;
     getrusage(RUSAGE_SELF, &usage);
     printf(" | %.1f MB\n", (double)usage.ru_maxrss * 1024 / 1e6);

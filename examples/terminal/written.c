@@ -12,11 +12,12 @@
 /* Permissions. */
 enum { MAY_RUN = 0111, MAY_READ = 0444 };
 
-/* A file as it is to be, or not to be if its mode is SCM_ABSENT. */
+/* A file as it is to be. What its marks ask for is a side of it. */
 typedef struct wanted {
     const differing *file;
     side side;
     text bytes;
+    bool is_there;    /* in the end, as the side */
     found now;        /* what is in its place */
     bool is_other;    /* than what is there */
     bool is_in_spare; /* a file or a link is made for it */
@@ -57,18 +58,14 @@ static bool fail(plan *plan, const char *path, const char *why) {
 
 /* ---- What is wanted ---- */
 
-/* Sets `wanted` to what the file that is numbered `index` is to be. */
-static bool read_selected(const folders *folders, scm_session *session, size_t index, wanted *wanted) {
-    const change *change = &folders->files[index].change;
-    bool is_read = read_side(session, index, change, true, &wanted->bytes, &wanted->side) == SCM_DONE;
-    version version = {wanted->side.mode, wanted->side.bytes, change->new.words};
+/* Sets `wanted` to what the marks of the file that is numbered `index` ask for. */
+static bool read_selected(const folders *folders, gabro_session *session, size_t index, wanted *wanted) {
     wanted->file = &folders->files[index];
-    wanted->is_other = is_read && !is_same(&version, &change->new);
-    return is_read;
+    return read_side(session, index, &wanted->file->change, true, &wanted->bytes, &wanted->side) == GABRO_DONE;
 }
 
-/* Finds out what each file is to be. */
-static bool read_wanted(plan *plan, scm_session *session) {
+/* Finds out what the marks of each file ask for. */
+static bool read_wanted(plan *plan, gabro_session *session) {
     const folders *folders = plan->folders;
     plan->files = calloc(folders->differ + 1, sizeof *plan->files);
     for (size_t i = 0; plan->files && i < folders->differ; i++) {
@@ -90,8 +87,8 @@ static bool is_in(below *below, const char *path) {
 /* Adds the row of a file that differs: the left folder is what is there now, and the right one has what is marked in the end. */
 static bool add_wanted(text *rows, const wanted *wanted) {
     const change *change = &wanted->file->change;
-    char head[] = {change->old.mode == SCM_ABSENT ? '-' : 'o', change->new.mode == SCM_ABSENT ? '-' : 'n',
-                   wanted->side.mode == SCM_ABSENT ? '-' : 'c', ' '};
+    char head[] = {change->old.mode == GABRO_ABSENT ? '-' : 'o', change->new.mode == GABRO_ABSENT ? '-' : 'n',
+                   wanted->side.mode == GABRO_ABSENT ? '-' : 'c', ' '};
     return add_row(rows, head, wanted->file->path);
 }
 
@@ -111,28 +108,48 @@ static bool add_rows(plan *plan, text *rows) {
     return is_added;
 }
 
-/* Fails if what was decided leaves a file out: of the two paths, the one that would lie in the other is named. */
-static bool check_decided(plan *plan, const text *decided) {
-    const char *refusal = first_refusal(decided);
-    const char *comes = refusal ? refusal + 2 : NULL, *blocker = refusal ? comes + strlen(comes) + 1 + 2 : NULL;
-    if (!refusal) {
-        return true;
-    }
+/* Fails by the first record that says that a file is left out, or that nothing is decided. Of the two paths of a file that is left out,
+ * the one that would lie in the other is named. */
+static bool fail_by(plan *plan, const char *refusal) {
+    const char *comes = refusal + 2;
     if (*refusal != 'x') {
         return fail(plan, *comes ? comes : NULL, "it is no path that a file can be given");
     }
+    const char *blocker = comes + strlen(comes) + 1 + 2;
     return fail(plan, strlen(comes) > strlen(blocker) ? comes : blocker, "it cannot be there beside a file that it would lie in");
 }
 
-/* Checks that no file is to lie in another one. */
-static bool check_fits(plan *plan) {
+static int compare_with_wanted(const void *path, const void *wanted) { return strcmp(path, ((const struct wanted *)wanted)->file->path); }
+
+/* Keeps what becomes of a path, as a record says it: no file is there, or what its marks ask for. */
+static void keep_outcome(plan *plan, const char *record) {
+    wanted *wanted = bsearch(record + 2, plan->files, plan->folders->differ, sizeof *plan->files, compare_with_wanted);
+    if (wanted) {
+        const version *new = &wanted->file->change.new;
+        version chosen = {wanted->side.mode, wanted->side.bytes, new->words};
+        wanted->is_there = *record != '-';
+        wanted->is_other = wanted->is_there ? !is_same(&chosen, new) : new->mode != GABRO_ABSENT;
+    }
+}
+
+/* Keeps what becomes of each path. Fails if a file is left out, or nothing is decided. */
+static bool keep_outcomes(plan *plan, const text *decided) {
+    const char *refusal = first_refusal(decided), *end = refusal ? refusal : decided->bytes + decided->length;
+    for (const char *record = decided->bytes; record < end; record += strlen(record) + 1) {
+        keep_outcome(plan, record);
+    }
+    return !refusal || fail_by(plan, refusal);
+}
+
+/* Decides what becomes of each path, so that no file is to lie in another one. */
+static bool decide_all(plan *plan) {
     text rows = {0}, decided = {0};
-    bool is_decided = add_rows(plan, &rows) && decide(&rows, &decided) == SCM_DONE;
+    bool is_decided = add_rows(plan, &rows) && decide(&rows, &decided) == GABRO_DONE;
     errno = is_decided ? errno : ENOMEM;
-    bool is_fit = is_decided ? check_decided(plan, &decided) : fail(plan, NULL, NULL);
+    bool is_kept = is_decided ? keep_outcomes(plan, &decided) : fail(plan, NULL, NULL);
     free(rows.bytes);
     free(decided.bytes);
-    return is_fit;
+    return is_kept;
 }
 
 /* ---- What comes ---- */
@@ -190,7 +207,7 @@ static bool make_wanted(plan *plan, size_t index) {
     if (!check_unchanged(plan, wanted)) {
         return false;
     }
-    if (side->mode == SCM_ABSENT) {
+    if (!wanted->is_there) {
         return true;
     }
     wanted->is_in_spare = side->mode == LINK_MODE ? make_link(plan->spare.folder, number_of(index).name, side->bytes)
@@ -380,7 +397,7 @@ static bool put(plan *plan, size_t index) {
     if (!is_still_there(plan, wanted)) {
         return false;
     }
-    bool is_put = wanted->side.mode == SCM_ABSENT ? take_away(right, path) : put_in_place(plan, index);
+    bool is_put = wanted->is_there ? put_in_place(plan, index) : take_away(right, path);
     return is_put || fail(plan, path, NULL);
 }
 
@@ -389,7 +406,7 @@ static int put_all(plan *plan) {
     bool is_begun = false;
     for (size_t i = 0; i < 2 * plan->folders->differ; i++) {
         size_t index = i % plan->folders->differ;
-        bool is_in_turn = (plan->files[index].side.mode == SCM_ABSENT) == (i < plan->folders->differ);
+        bool is_in_turn = plan->files[index].is_there != (i < plan->folders->differ);
         if (plan->files[index].is_other && is_in_turn) {
             if (!put(plan, index)) {
                 return is_begun ? HALF_WRITTEN : NOTHING_WRITTEN;
@@ -400,14 +417,14 @@ static int put_all(plan *plan) {
     return WRITTEN;
 }
 
-int write_right(scm_session *session, folders *folders, failure *failure) {
+int write_right(gabro_session *session, folders *folders, failure *failure) {
     plan plan = {.folders = folders, .spare = {.folder = -1}, .failure = failure};
     sigset_t before;
     hold_signals(&before);
     /* what was opened before the user chose is looked for anew */
     forget_last(&folders->left);
     forget_last(&folders->right);
-    bool is_made = read_wanted(&plan, session) && check_fits(&plan) && make_all(&plan);
+    bool is_made = read_wanted(&plan, session) && decide_all(&plan) && make_all(&plan);
     int end = is_made ? put_all(&plan) : NOTHING_WRITTEN;
     remove_spare(&plan);
     release_signals(&before);

@@ -15,6 +15,6 @@ typedef struct failure {
 
 /* Has the right folder hold the selected side of each file, in a session whose changes are accepted. If that fails, sets `failure`. Says
  * what of its own it could not remove. Returns WRITTEN to HALF_WRITTEN. */
-int write_right(scm_session *session, folders *folders, failure *failure);
+int write_right(gabro_session *session, folders *folders, failure *failure);
 
 #endif

@@ -1,4 +1,4 @@
-"""A change selector for Python, over libscm.so: a user marks changes on a screen, and the program gets both sides of each file.
+"""A change selector for Python, over libgabrosty.so: a user marks changes on a screen, and the program gets both sides of each file.
 
     with Session() as session:
         session.add_file("letter", 0o100644)
@@ -24,7 +24,7 @@ from ._library import (
 from ._merge import MergeLine, marked_bytes, merge_texts, merged_bytes, open_conflicts
 from ._session import Session
 from ._values import (
-    ENDS, FOLDS, OWNERS, THEMES, Cell, Colour, Contents, Folds, Item, Key, Mark, Path, Side, Stage, Text, Theme,
+    ENDS, FOLDS, OWNERS, THEMES, Cell, Colour, Contents, Dialog, Folds, Item, Key, Mark, Path, Side, Stage, Text, Theme,
 )
 
 __version__ = version()
@@ -36,7 +36,7 @@ UNCHECKED, PARTLY, CHECKED = Mark.UNCHECKED, Mark.PARTLY, Mark.CHECKED
 
 __all__ = [
     "ABSENT", "ACCEPTED", "BINARY", "BUILDING", "BY_ITEMS", "BY_LINES", "BY_ONE_ITEM", "CHECKED", "CODES", "Cell", "Colour",
-    "Contents", "EDITING", "ENDED", "ENDS", "Error", "FOLDS", "Folds", "InTree", "Item", "Key", "Mark", "MergeLine", "NONE",
+    "Contents", "Dialog", "EDITING", "ENDED", "ENDS", "Error", "FOLDS", "Folds", "InTree", "Item", "Key", "Mark", "MergeLine", "NONE",
     "NO_INDEX", "OF_NEW", "OF_OLD", "OF_SIDE", "OWNERS", "PARTLY", "PATH_FAULTS", "Path", "Session", "Shown", "Side", "Stage",
     "TEXT", "THEMES", "Text", "Theme", "UNCHANGED", "UNCHECKED", "WAITING", "__version__", "decide", "library", "marked_bytes",
     "merge_texts", "merged_bytes", "open_conflicts", "open_library", "path_fault", "tree_shown", "tree_side", "words",

@@ -3,7 +3,7 @@ import ctypes
 import os
 
 # the name of the library
-NAME = "libscm.so.1"
+NAME = "libgabrosty.so.1"
 # the names of the codes that calls return
 CODES = "done closed not_now no_word not_text bad_state not_accepted too_long no_memory no_item no_number no_key".split()
 # the names of what can be wrong with a path
@@ -41,7 +41,7 @@ class Changed(ctypes.Structure):
 
 
 class Shown(ctypes.Structure):
-    """What a state is to be given of a changed file: scm.h says more."""
+    """What a state is to be given of a changed file: gabrosty.h says more."""
 
     _fields_ = [("old_mode", ctypes.c_size_t), ("new_mode", ctypes.c_size_t), ("has_mode", ctypes.c_bool), ("has_contents", ctypes.c_bool)]
 
@@ -71,7 +71,7 @@ class ScreenInfo(ctypes.Structure):
 # bits, U one of 32, I a file, and P a pointer to what the call writes or to a key
 CALLS = dict(call.split(":") for call in """
     state_new:B state_message:TN state_commit: state_file:TNTNN state_context:TN state_changes:BBTN state_line:BBBTN state_section:B
-    state_mode:BN state_binary:BTNTN state_marks:NTN state_texts:TNTNTNNTNN begin:HH new:TNHH stage: end: type:TN type_to_key:TNPP idle: press:TN press_all:TN
+    state_mode:BN state_binary:BTNTN state_marks:NTN state_texts:TNTNTNNTNN begin:HH new:TNHH stage: end: dialog: type:TN type_to_key:TNPP idle: press:TN press_all:TN
     decode:TNTNP decode_idle:TNP click:HH answer:TN resize:HH paint:TNP cells:PNTNP repaint: owner:HHP selected:P symbol:HHTN text:TNP files:P
     side:NBTNP side_bytes:NBTNP mark:PP marks:NTNP item:PPP path:NBTNP select:P line:PTNP message:NTNP run:IT free: begin_layer:HH new_layer:TNHH theme:U
     accept_text:TN label:NNTN start:UP keys:TN log: logged:TNP""".split())
@@ -82,12 +82,18 @@ GREATEST = {"N": NO_INDEX, "H": 0xFFFF, "U": 0xFFFFFFFF, "I": 0x7FFFFFFF}
 RESULTS = {"run": ctypes.c_int, "symbol": ctypes.c_size_t, "free": None}
 
 
+def is_own(path: str) -> bool:
+    """Whether a file or a link is there, and is this user's, root's or of the owner of this module: others may put theirs into a folder
+    above."""
+    return os.path.exists(path) and os.lstat(path).st_uid in (0, os.geteuid(), os.stat(__file__).st_uid)
+
+
 def library_path() -> str:
     """Returns the path of the library, or the name by which the system finds it."""
     here = os.path.dirname(os.path.realpath(__file__))
     # in a wheel, in a clone, and in an installation
     places = [os.path.join(here, place, NAME) for place in ("", "../out", "../..")]
-    there = [path for path in places if os.path.exists(path)]
+    there = [path for path in places if is_own(os.path.dirname(path)) and is_own(path)]
     return os.environ.get("LIBSCM") or (there or [NAME])[0]
 
 
@@ -106,26 +112,26 @@ library = open_library(library_path())
 def declare() -> None:
     """Declares the calls of the library."""
     for name, letters in CALLS.items():
-        function = getattr(library, "scm_" + name)
+        function = getattr(library, "gabro_" + name)
         function.argtypes = [ctypes.POINTER(Handle), *map(TYPES.get, letters)]
         function.restype = RESULTS.get(name, ctypes.c_uint32)
-    library.scm_words.argtypes = [ctypes.c_uint32, ctypes.c_char_p, ctypes.c_size_t]
-    library.scm_words.restype = ctypes.c_size_t
-    library.scm_version.argtypes, library.scm_version.restype = [], ctypes.c_uint32
-    library.scm_decide_rows.argtypes = [ctypes.c_char_p, ctypes.c_size_t, ctypes.c_char_p, ctypes.c_size_t, ctypes.POINTER(ctypes.c_size_t)]
-    library.scm_decide_rows.restype = ctypes.c_uint32
-    library.scm_path_fault.argtypes, library.scm_path_fault.restype = [ctypes.c_char_p, ctypes.c_size_t], ctypes.c_uint32
+    library.gabro_words.argtypes = [ctypes.c_uint32, ctypes.c_char_p, ctypes.c_size_t]
+    library.gabro_words.restype = ctypes.c_size_t
+    library.gabro_version.argtypes, library.gabro_version.restype = [], ctypes.c_uint32
+    library.gabro_decide_rows.argtypes = [ctypes.c_char_p, ctypes.c_size_t, ctypes.c_char_p, ctypes.c_size_t, ctypes.POINTER(ctypes.c_size_t)]
+    library.gabro_decide_rows.restype = ctypes.c_uint32
+    library.gabro_path_fault.argtypes, library.gabro_path_fault.restype = [ctypes.c_char_p, ctypes.c_size_t], ctypes.c_uint32
     changed = ctypes.POINTER(Changed)
-    library.scm_tree_shown.argtypes = [changed, ctypes.c_bool, ctypes.POINTER(Shown)]
-    library.scm_tree_side.argtypes = [changed, ctypes.c_bool, ctypes.POINTER(SideInfo), ctypes.POINTER(InTree)]
-    library.scm_tree_shown.restype = library.scm_tree_side.restype = None
+    library.gabro_tree_shown.argtypes = [changed, ctypes.c_bool, ctypes.POINTER(Shown)]
+    library.gabro_tree_side.argtypes = [changed, ctypes.c_bool, ctypes.POINTER(SideInfo), ctypes.POINTER(InTree)]
+    library.gabro_tree_shown.restype = library.gabro_tree_side.restype = None
     sized, told = [ctypes.c_char_p, ctypes.c_size_t], ctypes.POINTER(ctypes.c_size_t)
     merges = (
         ("merge_texts", [*sized, told]), ("merged_bytes", [*sized, *sized, told]), ("open_conflicts", [*sized, told]),
-        ("marked_bytes", [*sized, *sized, *sized, *sized, *sized, told]),
+        ("marked_bytes", [*sized, *sized, *sized, *sized, ctypes.c_size_t, *sized, told]),
     )
     for name, others in merges:
-        function = getattr(library, "scm_" + name)
+        function = getattr(library, "gabro_" + name)
         function.argtypes, function.restype = [*sized, *sized, *sized, *others], ctypes.c_uint32
 
 
@@ -143,31 +149,31 @@ def call(name: str, handle: Handle, *arguments: object) -> int:
     """Makes the call `name` of a session, and returns what it returns."""
     for letter, argument in zip(CALLS[name], arguments):
         check(letter, argument)
-    return int(getattr(library, "scm_" + name)(ctypes.byref(handle), *arguments) or 0)
+    return int(getattr(library, "gabro_" + name)(ctypes.byref(handle), *arguments) or 0)
 
 
 def words(code: int) -> str:
     """Returns the sentence of a code, or nothing if no call returns it."""
     check("U", code)
     out = ctypes.create_string_buffer(256)
-    length = library.scm_words(code, out, len(out))
+    length = library.gabro_words(code, out, len(out))
     return out.raw[:length].decode()
 
 
 def version() -> str:
     """Returns the version of the library."""
-    number = int(library.scm_version())
+    number = int(library.gabro_version())
     return "%d.%d.%d" % (number // 10000, number // 100 % 100, number % 100)
 
 
 def decide(rows: bytes) -> bytes:
-    """Returns what becomes of the paths of rows. scm.h has the form of both, at scm_decide_rows."""
+    """Returns what becomes of the paths of rows. gabrosty.h has the form of both, at gabro_decide_rows."""
     written = ctypes.c_size_t(4096)
     room = 0
     while written.value > room:
         room = written.value
         out = ctypes.create_string_buffer(room)
-        code = library.scm_decide_rows(rows, len(rows), out, room, ctypes.byref(written))
+        code = library.gabro_decide_rows(rows, len(rows), out, room, ctypes.byref(written))
         if code:
             raise Error(code)
     return out.raw[: written.value]
@@ -175,7 +181,7 @@ def decide(rows: bytes) -> bytes:
 
 def path_fault(path: bytes) -> str:
     """Returns the name of what is wrong with a path, one of `PATH_FAULTS`, or nothing if it names a file below the top folder."""
-    return PATH_FAULTS[int(library.scm_path_fault(path, len(path)))]
+    return PATH_FAULTS[int(library.gabro_path_fault(path, len(path)))]
 
 
 def changed(old_mode: int, new_mode: int, shown: int, is_renamed: bool) -> Changed:
@@ -186,19 +192,19 @@ def changed(old_mode: int, new_mode: int, shown: int, is_renamed: bool) -> Chang
 
 
 def tree_shown(old_mode: int, new_mode: int, shown: int, *, is_renamed: bool = False, is_other: bool = True) -> Shown:
-    """Returns what a state is to be given of a changed file, whose contents differ if `is_other`. scm.h says more, at scm_tree_shown."""
+    """Returns what a state is to be given of a changed file, whose contents differ if `is_other`. gabrosty.h says more, at gabro_tree_shown."""
     found = Shown()
-    library.scm_tree_shown(changed(old_mode, new_mode, shown, is_renamed), is_other, found)
+    library.gabro_tree_shown(changed(old_mode, new_mode, shown, is_renamed), is_other, found)
     return found
 
 
 def tree_side(old_mode: int, new_mode: int, shown: int, side: tuple[int, int, int], *, is_renamed: bool = False, is_selected: bool = True) -> InTree:
-    """Returns what a tree has of a changed file by a side, of which `side` is the kind of the contents, the mode and the number of bytes. scm.h
-    says more, at scm_tree_side."""
+    """Returns what a tree has of a changed file by a side, of which `side` is the kind of the contents, the mode and the number of bytes. gabrosty.h
+    says more, at gabro_tree_side."""
     for letter, number in zip("UNN", side):
         check(letter, number)
     found = InTree()
-    library.scm_tree_side(changed(old_mode, new_mode, shown, is_renamed), is_selected, SideInfo(*side), found)
+    library.gabro_tree_side(changed(old_mode, new_mode, shown, is_renamed), is_selected, SideInfo(*side), found)
     return found
 
 

@@ -2,7 +2,7 @@
 import ctypes
 from typing import Iterable, List, NamedTuple, Tuple
 
-from ._library import Error, library
+from ._library import Error, check, library
 from ._values import Text, bytes_of
 
 # the versions that a line of a merge comes from, by the letters of records
@@ -11,6 +11,8 @@ VERSIONS = {b" ": "agreed", b"o": "ours", b"b": "base", b"t": "theirs"}
 HEAD, NUMBER = 1, 8
 # the line ends that lines get which have none: each file has at most one such line
 LINE_ENDS = 3
+# how many signs git's markers have
+MARKER_LENGTH = 7
 
 
 class MergeLine(NamedTuple):
@@ -44,14 +46,14 @@ def lines_in(records: bytes) -> List[MergeLine]:
 
 
 def merge_texts(base: Text, ours: Text, theirs: Text) -> List[MergeLine]:
-    """Returns the lines of the merge of two files that both came from `base`. scm.h says at scm_merge_texts how they are shown, and
+    """Returns the lines of the merge of two files that both came from `base`. gabrosty.h says at gabro_merge_texts how they are shown, and
     `Session.add_merge` does it."""
     files, size = arguments_of(base, ours, theirs)
     written, room = ctypes.c_size_t(2 * size + 4096), 0
     while written.value > room:
         room = written.value
         out = ctypes.create_string_buffer(room)
-        done(library.scm_merge_texts(*files, out, room, ctypes.byref(written)))
+        done(library.gabro_merge_texts(*files, out, room, ctypes.byref(written)))
     return lines_in(out.raw[: written.value])
 
 
@@ -65,22 +67,31 @@ def merged_bytes(base: Text, ours: Text, theirs: Text, marks: Iterable[bool]) ->
     files, size = arguments_of(base, ours, theirs)
     given, written = bytes_of_marks(marks), ctypes.c_size_t()
     out = ctypes.create_string_buffer(size + LINE_ENDS)
-    done(library.scm_merged_bytes(*files, given, len(given), out, len(out), ctypes.byref(written)))
+    done(library.gabro_merged_bytes(*files, given, len(given), out, len(out), ctypes.byref(written)))
     return out.raw[: written.value]
 
 
 def marked_bytes(
-    base: Text, ours: Text, theirs: Text, marks: Iterable[bool], base_label: Text = "", ours_label: Text = "", theirs_label: Text = ""
+    base: Text,
+    ours: Text,
+    theirs: Text,
+    marks: Iterable[bool],
+    base_label: Text = "",
+    ours_label: Text = "",
+    theirs_label: Text = "",
+    marker_length: int = MARKER_LENGTH,
 ) -> bytes:
     """Returns the merge as `merged_bytes` does, but with git's markers around each conflict that is open, in the style `diff3`. A label
-    is behind the marker of its version, unless it is empty or has a line end."""
+    is behind the marker of its version, unless it is empty or has a line end. A marker has `marker_length` signs, or one more than any
+    line of the file begins with, whichever is greater. Raises ValueError for a length that C would wrap."""
+    check("N", marker_length)
     files, size = arguments_of(base, ours, theirs)
     labels, _ = arguments_of(base_label, ours_label, theirs_label)
     given, written, room = bytes_of_marks(marks), ctypes.c_size_t(size + 4096), 0
     while written.value > room:
         room = written.value
         out = ctypes.create_string_buffer(room)
-        done(library.scm_marked_bytes(*files, given, len(given), *labels, out, room, ctypes.byref(written)))
+        done(library.gabro_marked_bytes(*files, given, len(given), *labels, marker_length, out, room, ctypes.byref(written)))
     return out.raw[: written.value]
 
 
@@ -88,5 +99,5 @@ def open_conflicts(base: Text, ours: Text, theirs: Text, marks: Iterable[bool]) 
     """Returns how many conflicts of the merge of three files have no item that is taken by the marks."""
     files, _ = arguments_of(base, ours, theirs)
     given, count = bytes_of_marks(marks), ctypes.c_size_t()
-    done(library.scm_open_conflicts(*files, given, len(given), ctypes.byref(count)))
+    done(library.gabro_open_conflicts(*files, given, len(given), ctypes.byref(count)))
     return count.value

@@ -10,7 +10,7 @@ from typing import Dict, Iterable, Iterator, List, Optional, Tuple, Union
 from ._library import NO_INDEX, CellOfC, Error, Handle, KeyOfC, ScreenInfo, SideInfo, call, check
 from ._merge import merge_texts
 from ._values import (
-    ENDS, OWNERS, Cell, Colour, Contents, Folds, Item, Key, Mark, Path, Side, Stage, Text, Theme, bytes_of, bytes_of_path, member_of,
+    ENDS, OWNERS, Cell, Colour, Contents, Dialog, Folds, Item, Key, Mark, Path, Side, Stage, Text, Theme, bytes_of, bytes_of_path, member_of,
     shown_path,
 )
 
@@ -199,7 +199,7 @@ class Session:
         self._call("accept_text", *sized(text))
 
     def label(self, file: int, section: int, text: Text) -> None:
-        """Shows `text` in the header of a section in place of its number, or the number again for an empty text."""
+        """Shows `text` on the row of a section in place of its number, mode or binary contents, or those again for an empty text."""
         self._call("label", file, section, *sized(text))
 
     def start(self, folds: Union[Folds, str] = Folds.AS_IT_IS, first: Optional[Key] = None) -> None:
@@ -216,7 +216,7 @@ class Session:
         self._call("log")
 
     def logged(self) -> str:
-        """Returns the logged calls, a line each, as `scm.h` says."""
+        """Returns the logged calls, a line each, as `gabrosty.h` says."""
         return self._read("logged").decode()
 
     # ---- the user's input, and the screen
@@ -225,6 +225,11 @@ class Session:
     def stage(self) -> Stage:
         """What the session waits for."""
         return Stage(call("stage", self._handle))
+
+    @property
+    def dialog(self) -> Dialog:
+        """Which dialog is open, NONE while the session waits for no event."""
+        return Dialog(call("dialog", self._handle))
 
     @property
     def end(self) -> str:

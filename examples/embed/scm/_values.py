@@ -27,6 +27,14 @@ class Stage(enum.IntEnum):
     BUILDING = 5
 
 
+class Dialog(enum.IntEnum):
+    """The dialog that lies over the screen."""
+
+    NONE = 0
+    QUESTION = 1
+    HELP = 2
+
+
 class Contents(enum.IntEnum):
     """The kind of the contents of a side of a file."""
 

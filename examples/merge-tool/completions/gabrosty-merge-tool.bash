@@ -3,8 +3,8 @@ _gabrosty_merge_tool() {
     local name word=${COMP_WORDS[COMP_CWORD]} words=
     compopt +o nospace 2> /dev/null
     case ${COMP_WORDS[COMP_CWORD - 1]} in
-    --path | --marks | --base-label | --ours-label | --theirs-label) ;;
-    *) case $word in -*) words="--path --base-label --ours-label --theirs-label --marks --markers --version -h --help" ;; esac ;;
+    --path | --marks | --marker-length | --base-label | --ours-label | --theirs-label) ;;
+    *) case $word in -*) words="--path --base-label --ours-label --theirs-label --marks --markers --marker-length --version -h --help" ;; esac ;;
     esac
     # without words, files are completed
     COMPREPLY=()

@@ -5,5 +5,6 @@ complete -c gabrosty-merge-tool -l ours-label -x -d 'what is shown of our versio
 complete -c gabrosty-merge-tool -l theirs-label -x -d 'what is shown of their version'
 complete -c gabrosty-merge-tool -l marks -r -F -d 'take up the marks of a run that was cut off'
 complete -c gabrosty-merge-tool -l markers -d 'write open conflicts with conflict markers'
+complete -c gabrosty-merge-tool -l marker-length -x -d 'how many signs a conflict marker has'
 complete -c gabrosty-merge-tool -l version -d 'print the version'
 complete -c gabrosty-merge-tool -s h -l help -d 'show the help'
