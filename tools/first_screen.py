@@ -50,10 +50,14 @@ def shapes():
 
 
 def write(folder, files, side):
+    """Writes a side of the files, the new one ten seconds after the old one: files of one size and second are the same for an index that is copied."""
+    written = time.time() - 20 + 10 * side
     for path, both in files.items():
-        os.makedirs(os.path.dirname(os.path.join(folder, path)), exist_ok=True)
-        with open(os.path.join(folder, path), "wb") as file:
+        place = os.path.join(folder, path)
+        os.makedirs(os.path.dirname(place), exist_ok=True)
+        with open(place, "wb") as file:
             file.write(b"".join(both[side]))
+        os.utime(place, (written, written))
 
 
 def make(folder, files):

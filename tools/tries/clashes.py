@@ -2,12 +2,13 @@
 git-select where a renamed file has to be left out, and random choices in repositories and folders against the same search."""
 import collections
 import itertools
+import json
 import os
 import random
 
 from choosing.decided import ABSENT, CHOSEN, GOAL, NOW, Decided, Row, given_of
 import changed
-from choices import chosen, marked_at_random, with_other_marks
+from choices import chosen, marked_at_random, path_of, with_other_marks
 from places import Repository
 
 NAMES = "a", "b", "a-", "ab", "B"
@@ -134,8 +135,13 @@ def a_renamed_file_that_would_remove_another(place):
     return is_all and is_out and repository.files() == new and repository.is_sound()
 
 
-def random_change(chance):
-    """Returns two tables of files, in which some files are renamed, and some have changed lines."""
+def kind_of(chance, data):
+    """Returns a file of a random kind, most often one with these lines."""
+    return chance.choice([data, data, data, data, ("run", data), ("link", "to-%d" % chance.randrange(9))])
+
+
+def random_change(chance, has_kinds=True):
+    """Returns two tables of files, in which some files are renamed, some have changed lines, and some are links or can be run."""
     now, goal = sorted(random_tree(chance)), sorted(random_tree(chance))
     old = {path: text_of(b"%d" % number) for number, path in enumerate(now)}
     gone = [path for path in now if path not in goal]
@@ -143,6 +149,8 @@ def random_change(chance):
     for number, path in enumerate(goal):
         data = old[path] if path in old else old[gone.pop()] if gone and chance.random() < 0.6 else text_of(b"new %d" % number)
         new[path] = data if chance.random() < 0.5 else data.replace(b" 7\n", b" seven\n")
+    if has_kinds:
+        old, new = ({path: kind_of(chance, data) for path, data in files.items()} for files in (old, new))
     return old, new
 
 
@@ -202,6 +210,7 @@ WAYS = {
     "restore": Tried(["--restore"], stay, True, True, Repository.files),
     "stash": Tried(["--stash"], stay, True, True, Repository.files),
     "commit": Tried(["--commit", "-m", "x"], stay, False, True, last_files),
+    "amend": Tried(["--amend", "-m", "x"], stay, False, True, last_files),
     "split": Tried(["--split"], Repository.commit, False, True, first_files),
 }
 
@@ -237,19 +246,54 @@ def random_choices_in_repositories(place):
     return True
 
 
+def is_as_expected_in_folders(place, seed, before):
+    """Tries a random choice in new folders. A third one has the files `before`, and gets what is chosen, unless that is None. Returns whether
+    files were left out, or None if a file is not as the search says."""
+    old, new = random_change(random.Random(seed))
+    tables = {"left": old, "right": new, "output": before or {}}
+    left, right, output = (place.folder("%s-%d" % (name, seed), files) for name, files in tables.items())
+    words = [] if before is None else ["--output", output]
+    marked = marked_at_random(place, ["gabrosty-diff-editor", *words, left, right], seed, refused=["cannot both be there"])
+    place.forget_marks()
+    refused, wanted = expected_of(marked, old, new)
+    target, there = (right, new) if before is None else (output, before)
+    is_right = changed.read(target) == (there if refused else wanted) and changed.read(left) == old
+    return bool(refused) if is_right and changed.read(right) == (wanted if target == right and not refused else new) else None
+
+
 def random_choices_in_folders(place):
-    """The right folder has what the marks ask for. If a file has to be left out, nothing is written."""
-    counts = [0, 0]
-    for seed in range(CHOICES):
-        old, new = random_change(random.Random(seed))
-        left, right = place.folder("left-%d" % seed, old), place.folder("right-%d" % seed, new)
-        marked = marked_at_random(place, ["gabrosty-diff-editor", left, right], seed, refused=["cannot both be there"])
-        refused, wanted = expected_of(marked, old, new)
-        place.forget_marks()
-        if changed.read(right) != (new if refused else wanted) or changed.read(left) != old:
+    """The right folder has what the marks ask for, or a third one, whatever was in it. If a file has to be left out, nothing is written."""
+    for before in None, {}, {"a": b"1\n", "z/b": ("link", "nowhere")}:
+        found = [is_as_expected_in_folders(place, seed, before) for seed in range(CHOICES)]
+        if {*found} != {False, True}:
             return False
-        counts[bool(refused)] += 1
-    return min(counts) > 0
+    return True
+
+
+def random_keys(chance):
+    """Returns keys that mark some items of unfolded files."""
+    return ["shift-F", *(key for _ in range(chance.randrange(2, 24)) for key in ["j"] * chance.randrange(1, 12) + ["space"]), "c"]
+
+
+def random_keys_in_folders(place):
+    """scm-select -d: the right folder has what the marks ask for, as the same keys set them with --json. If a file has to be left out, nothing
+    is written."""
+    found = set()
+    for seed in range(CHOICES):
+        chance = random.Random(seed)
+        old, new = random_change(chance, has_kinds=False)
+        left, right, told = place.folder("left-%d" % seed, old), place.folder("right-%d" % seed, new), os.path.join(place.top, "told")
+        keys = random_keys(chance)
+        if old == new or place.type(["scm-select", "--json", "-d", "-o", told, left, right], keys)[0]:
+            return False
+        with open(told, encoding="utf-8") as file:
+            marked = {path_of(it): it for it in json.loads(file.read().split("\n")[1])["files"]}
+        status, _ = place.type(["scm-select", "-d", left, right], keys)
+        refused, wanted = expected_of(marked, old, new)
+        if changed.read(right) != (new if refused else wanted) or changed.read(left) != old or bool(status) != bool(refused):
+            return False
+        found.add(bool(refused))
+    return found == {False, True}
 
 
 def a_restored_file_that_would_remove_others(place):
@@ -273,5 +317,5 @@ def a_restored_file_that_would_remove_others(place):
 
 ALL = (
     files_that_need_others, a_renamed_file_that_would_remove_another, a_restored_file_that_would_remove_others,
-    random_choices_in_repositories, random_choices_in_folders,
+    random_choices_in_repositories, random_choices_in_folders, random_keys_in_folders,
 )

@@ -2,7 +2,7 @@
 import os
 
 import changed
-from places import Repository
+from places import Repository, Typed
 
 OLD, NEW = changed.CASES["text edits"]
 # the first added line, and of the last change the lines 7 and `and`
@@ -229,7 +229,62 @@ def a_renamed_file(place):
     return is_path and is_some and is_all and is_out and is_two and repository.files() == new and repository.is_sound()
 
 
+def with_a_layer(repository, *words):
+    """Returns git select at a terminal, with the layer."""
+    place = repository.place
+    return Typed(["git", "select", *words], 80, 24, {**place.environment, "SELECT_LAYER": "on"}, repository.folder)
+
+
+def what_a_renamed_file_is_called(place):
+    """The row of its path names the old one, and its new mode if that is another. What only gets another mode says so. Without the layer the
+    rows have their own texts."""
+    text, other = (b"".join(b"%s %d\n" % (word, number) for number in range(20)) for word in (b"line", b"row"))
+    old = {"from": text, "tool": other, "script": b"1\n"}
+    new = {"into": text.replace(b"line 3\n", b"three\n"), "tools": other, "script": b"1\n"}
+    repository = Repository(place, old, new)
+    for name in "tools", "script":
+        os.chmod(os.path.join(repository.folder, name), 0o755)
+    typed = with_a_layer(repository)
+    shown = typed.screen()
+    labels = [b"  [ ] renamed from from  ", b"  [ ] renamed from tool, mode 100755  ", b"  [ ] File mode set to 100755  "]
+    is_labelled = [shown.count(label) for label in labels] == [1, 1, 1] and b"set to 100644" not in shown
+    typed.press("q")
+    is_left = typed.end() == 1
+    plain = Typed(["git", "select"], 80, 24, place.environment, repository.folder)
+    plain.press("shift-F")
+    is_plain = plain.screen().count(b"  [ ] File mode set to 100755  ") == 2 and b"renamed from from  " not in plain.screen()
+    plain.press("q")
+    return is_labelled and is_left and is_plain and plain.end() == 1 and repository.is_sound()
+
+
+def a_question_about_nothing(place):
+    """`q` asks about no message that nobody changed. It asks once something is marked, and not when that is taken back; and it asks about a
+    message that was edited."""
+    repository = Repository(place, OLD, OLD)
+    repository.git("commit", "--quiet", "--allow-empty", "--message=second")
+    changed.write(repository.folder, NEW)
+    repository.git("config", "core.editor", "printf 'Edited\\n' >")
+    before = log(repository, "%H %B"), repository.index()
+    cases = (["q"], False), (["space", "q"], True), (["space", "u", "q"], False), (["space", "space", "q"], False), (["e", "q"], True)
+    for words, asks in cases:
+        typed = with_a_layer(repository, "--amend")
+        for word in words:
+            typed.press(word)
+        is_asked = b"Are you sure you want to quit?" in typed.screen() and not typed.has_ended
+        typed.press("ctrl-c")
+        if is_asked != asks or typed.end() != 1 or (log(repository, "%H %B"), repository.index()) != before:
+            print(words, is_asked, typed.screen().decode())
+            return False
+    # without the layer all is as the crate has it
+    typed = Typed(["git", "select", "--amend"], 80, 24, place.environment, repository.folder)
+    typed.press("q")
+    is_asked = b"Are you sure you want to quit?" in typed.screen()
+    typed.press("ctrl-c")
+    return is_asked and typed.end() == 1 and repository.is_sound()
+
+
 ALL = (
     to_the_last_commit, as_a_fixup, in_a_stash, a_stash_that_cannot_be_taken, a_stash_beside_staged_lines,
-    the_way_back_that_is_said, in_two_commits, the_first_commit_in_two, a_renamed_file,
+    the_way_back_that_is_said, in_two_commits, the_first_commit_in_two, a_renamed_file, what_a_renamed_file_is_called,
+    a_question_about_nothing,
 )

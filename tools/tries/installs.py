@@ -1,6 +1,7 @@
 """tools/place, which puts what is installed in place and is the script `install` of an archive, for tools/try-tools. It installs
 here what lies below the prefix that is tried."""
 import os
+import shutil
 import signal
 import stat
 import subprocess
@@ -10,6 +11,7 @@ import time
 import changed
 import trying
 from disks import disk, fill
+from places import Repository
 
 NOBODY = 65534
 PLACE, UNINSTALL = (os.path.join(trying.ROOT, "tools", name) for name in ("place", "uninstall"))
@@ -149,6 +151,115 @@ def a_prefix_of_another_user(place):
     return is_refused and is_followed and call(UNINSTALL, top)[0] == 0 and changed.read(outside) == before
 
 
+def a_prefix_behind_a_link(place):
+    """Where all may put links, one of another user leads to no PREFIX: neither the last part of its path, nor one before it. A link of the
+    user's own does. Skipped without the rights of two users."""
+    if os.geteuid():
+        return "that needs another user"
+    source, outside = place.folder("source", {"bin/new": b"1\n"}), place.folder("outside/deep", {"bin/old": b"2\n"})
+    shared, there = place.folder("shared"), {"bin/old": b"2\n"}
+    os.symlink(outside, shared + "/last")
+    os.symlink(os.path.dirname(outside), shared + "/around")
+    for name in "last", "around":
+        os.chown(os.path.join(shared, name), NOBODY, NOBODY, follow_symlinks=False)
+    os.chmod(shared, 0o1777)
+    tops = [os.path.join(shared, path) for path in ("last", "last/new", "around/deep", "around/new/er")]
+    ends = [call(*words, top) for top in tops for words in ([PLACE, "--from", source], [PLACE, "--try"], [UNINSTALL])]
+    is_named = all("a link of another user is on the way to %s/" % shared in said for _, said in ends)
+    is_refused = [status for status, _ in ends] == [2, 2, 1, 2, 2, 1, 2, 2, 1, 2, 2, 1] and is_named
+    is_refused = is_refused and changed.read(place.top + "/outside") == {"deep/bin/old": b"2\n"}
+    os.chown(shared + "/last", 0, 0, follow_symlinks=False)
+    is_followed = call(PLACE, "--from", source, shared + "/last/new")[0] == 0 and changed.read(outside + "/new")["bin/new"] == b"1\n"
+    return is_refused and is_followed and call(UNINSTALL, shared + "/last/new")[0] == 0 and changed.read(outside) == there
+
+
+def a_list_that_is_a_pipe(place):
+    """A pipe of another user's in the place of the list is named, and nothing waits for it. Skipped without the rights of two users."""
+    if os.geteuid():
+        return "that needs another user"
+    source, top = place.folder("source", {"bin/new": b"1\n"}), place.folder("prefix", {"lib/gabrosty/x": b"x\n"})
+    os.mkfifo(os.path.join(top, "lib/gabrosty/installed"))
+    owned_by_another(top)
+    ends = [call(PLACE, "--from", source, top, timeout=20), call(UNINSTALL, top, timeout=20)]
+    return [status for status, _ in ends] == [2, 1] and all("another user's" in said for _, said in ends)
+
+
+# takes the place of tools/image: it says where it was to make the image
+IMAGE = b"""#!/bin/sh
+printf '%s\\n' "$2" > "$LISTED"
+mkdir -p "$2/bin"
+echo 1 > "$2/bin/a"
+"""
+
+
+def an_image_elsewhere(place):
+    """Where TMPDIR is no whole path, what is installed is not made in the current folder, in which a stranger could exchange it. CDPATH
+    leads to no other scripts."""
+    ours = place.folder("clone/tools", {"image": ("run", IMAGE)})
+    for name in "install", "place":
+        shutil.copy(os.path.join(trying.ROOT, "tools", name), ours)
+    # scripts of a stranger's with the same names
+    planted = {"clone/tools/" + name: ("run", b"#!/bin/sh\ntouch \"$LISTED\"\n") for name in ("image", "place")}
+    strange, own = place.folder("strange", planted), place.folder("own")
+    top, listed = os.path.join(place.top, "prefix"), os.path.join(place.top, "listed")
+    more = {"DESTDIR": "", "LISTED": listed, "TMPDIR": "own", "CDPATH": strange}
+    done = subprocess.run(["clone/tools/install", "--unproved", top], cwd=place.top, env={**os.environ, **more}, capture_output=True)
+    made = changed.read_file(listed)
+    is_installed = done.returncode == 0 and changed.read_file(os.path.join(top, "bin/a")) == b"1\n"
+    return is_installed and made.startswith(b"/tmp/") and os.listdir(own) == []
+
+
+# says which library for C the module has loaded
+LOADED = "import scm; print([it.split()[-1] for it in open('/proc/self/maps') if 'libgabrosty.so' in it][0])"
+
+
+def what_lies_above(place):
+    """What another user put into a folder above a clone, a crate or a module, as into /tmp, is neither run nor loaded nor linked. What is the
+    user's own is. Skipped without the rights of two users."""
+    if os.geteuid():
+        return "that needs another user"
+    ran, planted = os.path.join(place.top, "ran"), {"bin/scm-select": ("run", b"#!/bin/sh\ntouch \"$RAN\"\n")}
+    own = {"clone/tools/select": ("run", b"#!/bin/sh\nexit 1\n"), "libscm_c.a": b"", "liblibc_c.a": b"", "crate/x": b"x\n"}
+    shared = place.folder("shared", {**planted, **own})
+    for name in "choosing", "git-select":
+        shutil.copytree(os.path.join(trying.EXAMPLES, name), os.path.join(shared, "clone/examples", name))
+    shutil.copytree(os.path.join(place.prefix, "lib/gabrosty/scm"), os.path.join(shared, "host/scm"))
+    shutil.copy(os.path.join(place.prefix, "lib/libgabrosty.so.1"), shared)
+    for name in "bin", "bin/scm-select", "libscm_c.a", "libgabrosty.so.1":
+        os.chown(os.path.join(shared, name), NOBODY, NOBODY)
+    os.chmod(shared, 0o1777)
+    repository = Repository(place, {"a": b"1\n"}, {"a": b"2\n"})
+    end = place.call("env", "RAN=" + ran, os.path.join(shared, "clone/examples/git-select/git-select"), folder=repository.folder)
+    is_run = end == (1, "git-select: nothing changed\n") and not os.path.exists(ran)
+    python = "env", "PYTHONPATH=%s/host" % shared, sys.executable, "-B", "-c", LOADED
+    is_loaded = place.call(*python)[1] == shared + "/libgabrosty.so.1\n"
+    os.chown(shared + "/host/scm/_library.py", NOBODY, NOBODY)
+    is_of_same_loaded = place.call(*python)[1] == shared + "/libgabrosty.so.1\n"
+    for path in "libgabrosty.so.1", "host/scm/_library.py":
+        os.chown(os.path.join(shared, path), 0, 0)
+    is_own_loaded = is_of_same_loaded and place.call(*python)[1] == shared + "/libgabrosty.so.1\n"
+    return is_run and not is_loaded and is_own_loaded and is_linked_if_own(place, shared)
+
+
+def is_linked_if_own(place, folder):
+    """Whether the crate for Rust in a folder takes the libraries around it if they are the user's own, and only then."""
+    program, environment = os.path.join(place.top, "build"), ["env", "PKG_CONFIG=false", "CARGO_MANIFEST_DIR=%s/crate" % folder, "PATH=/nowhere"]
+    if not shutil.which("rustc"):
+        return True
+    place.call("rustc", "--edition=2021", "-o", program, os.path.join(trying.ROOT, "bindings/rust/build.rs"))
+    ends = [place.call(*environment, program)]
+    # cargo obeys no line of a text that another user put there
+    os.mkdir(os.path.join(folder, "gabrosty"))
+    changed.write_file(os.path.join(folder, "gabrosty/unproved"), b"words\ncargo:rustc-link-arg=/nowhere\n")
+    for owners in (0, NOBODY, NOBODY), (0, 0, NOBODY), (0, 0, 0):
+        for path, owner in zip(("libscm_c.a", "liblibc_c.a", "gabrosty/unproved"), owners):
+            os.chown(os.path.join(folder, path), owner, owner)
+        ends.append(place.call(*environment, program))
+    of_own = "cargo:warning=gabrosty: words\ncargo:warning=gabrosty: cargo:rustc-link-arg=/nowhere\n"
+    is_told = ["rustc-link-arg" in said for _, said in ends] == [False, False, False, True] and of_own in ends[-1][1]
+    return [status for status, _ in ends] == [1, 1, 0, 0] and is_told
+
+
 def a_module_of_another(place):
     """Whatever PYTHONPATH says, no module of the current folder is read, which may be a stranger's."""
     planted = {name + ".py": b"open('ran', 'w')\n" for name in ("argparse", "contextlib", "os", "stat", "sitecustomize", "shutil", "signal")}
@@ -161,5 +272,6 @@ def a_module_of_another(place):
 
 ALL = (
     a_reinstall_on_a_full_disk, with_a_mask_of_the_user, files_of_others, what_is_in_the_way, where_nothing_can_be_written,
-    an_install_that_is_stopped, a_prefix_of_another_user, a_module_of_another,
+    an_install_that_is_stopped, a_prefix_of_another_user, a_prefix_behind_a_link, a_list_that_is_a_pipe, an_image_elsewhere,
+    what_lies_above, a_module_of_another,
 )

@@ -41,9 +41,9 @@ def mode_of(path):
 
 
 @contextlib.contextmanager
-def shown(place, command, folder=None, **more):
+def shown(place, command, folder=None, width=60, **more):
     """Gives a command that shows a merge, with the layer on and everything unfolded, as a user has it."""
-    typed = Typed(command, 60, 24, {**place.environment, "SELECT_LAYER": "on", **more}, folder or place.top)
+    typed = Typed(command, width, 24, {**place.environment, "SELECT_LAYER": "on", **more}, folder or place.top)
     try:
         yield typed
     finally:
@@ -186,6 +186,59 @@ def conflict_markers(place):
         is_half = typed.end() == 1 and read_data(paths[3]) == b"one\n2\n3\n4\n" + end
     is_whole = type_into(place, ["space", "pagedown", "pagedown", "pagedown", "space", "c"], command)[0] == 0 and read_data(paths[3]) == ours
     return is_left and is_open and is_half and is_whole and mode_of(paths[3]) == MODE
+
+
+def output_with_markers(place, texts, *options):
+    """Leaves all conflicts of a merge open, with markers. Returns the status, and what is written."""
+    paths = files_of(place, *texts)
+    with shown(place, [NAME, "--markers", *options, *paths]) as typed:
+        leave_open(typed, b"l", ASKED_FOR_MARKERS)
+        return typed.end(), read_data(paths[3])
+
+
+def lengths_of_markers(place):
+    """`--marker-length` says how many signs a marker has, as with git. A line that begins with as many makes it longer. What is no length is
+    refused."""
+    ends = []
+    labels = ["--ours-label", "main", "--base-label", "the base", "--theirs-label", "topic"]
+    for length in 1, 7, 12, 40:
+        paths = files_of(place)
+        names = "-L", "main", "-L", "the base", "-L", "topic"
+        by_git = ["git", "merge-file", "-p", "--diff3", "--marker-size=%d" % length, *names, paths[1], paths[0], paths[2]]
+        wanted = subprocess.run(by_git, stdout=subprocess.PIPE).stdout
+        ends.append(output_with_markers(place, (BASE, OURS, THEIRS), *labels, "--marker-length", str(length)) == (1, wanted))
+    ours = OURS + b"|" * 9 + b"\n"
+    for length, signs in (7, 10), (9, 10), (10, 10), (11, 11):
+        marks = [sign * signs for sign in (b"<", b"|", b"=", b">")]
+        wanted = b"1\n%s\nours\n%s\nold\n%s\ntheirs\nmore\n%s\n3\n4\n" % tuple(marks)
+        theirs = THEIRS.replace(b"five\n", b"")
+        status, written = output_with_markers(place, (BASE, ours, theirs), "--marker-length=%d" % length)
+        ends.append((status, written) == (1, wanted + b"|" * 9 + b"\n"))
+    paths = files_of(place)
+    said = "%s: --marker-length: it takes a number from 1 to 9,999,999\n" % NAME
+    for word in "", "0", "x", "7x", "-7", " 7", "+7", "10000000", "9" * 40:
+        ends.append(place.call(NAME, "--marker-length", word, *paths) == (2, said) and read_data(paths[3]) == b"before\n")
+    return all(ends)
+
+
+def each_width(place):
+    """On screens of 60, 80 and 200 columns the header of each section names its version, and a choice is written."""
+    ends = []
+    for width in 60, 80, 200:
+        paths = files_of(place)
+        labels = ["--ours-label", "main", "--theirs-label", "topic"]
+        with shown(place, [NAME, "--path", "src/a.txt", *labels, *paths], width=width) as typed:
+            rows = typed.screen()
+            named = b"src/a.txt\xc2\xa0(1 conflict)", b"Conflict 1/1: ours (main) ", b"Conflict 1/1: base ", b"Conflict 1/1: theirs (topic) ", b"open: 1/1"
+            is_wide = all(max(row) < width for row in typed.shown.rows.values() if row)
+            typed.press("pagedown")
+            typed.press("pagedown")
+            typed.press("space")
+            is_counted = b"open: 0/1" in typed.screen()
+            typed.press("c")
+            is_written = typed.end() == 0 and read_data(paths[3]) == b"1\ntheirs\nmore\n3\n4\nfive\n"
+        ends.append(all(words in rows for words in named) and is_wide and is_counted and is_written)
+    return all(ends)
 
 
 def labels_of_versions(place):
@@ -357,6 +410,14 @@ def git_mergetool(place):
     return status == 0 and is_resolved(repository, {"a": ("run", b"1\nours\n3\n4\nfive\n"), "b": b"1\ntheirs\nmore\n3\n4\nfive\n"})
 
 
+def git_mergetool_on_a_changed_mode(place):
+    """One side alone let the file be run: git stages the merge with that mode."""
+    repository = conflict_in(place, {"a": BASE}, {"a": OURS}, {"a": ("run", THEIRS)})
+    repository.git("config", "mergetool.keepBackup", "false")
+    status, _ = type_into(place, ["space", "c"], MERGETOOL, repository.folder)
+    return status == 0 and is_resolved(repository, {"a": ("run", b"1\nours\n3\n4\nfive\n")})
+
+
 def git_mergetool_that_is_left(place):
     """If the merge is left, or a conflict is open, git keeps the conflict, and the file has its markers as before."""
     repository = conflict_in(place, {"a": BASE}, {"a": OURS}, {"a": THEIRS})
@@ -452,6 +513,25 @@ def git_mergetool_on_a_real_conflict(place):
         typed.press("c")
         status = typed.end()
     return status == 0 and count + 1 < 10 and is_resolved(repository, {"file": merged})
+
+
+def git_merge_driver(place):
+    """As a merge driver it writes markers of the length that the attribute `conflict-marker-size` asks for, and settles what is chosen."""
+    asked = {".gitattributes": b"a merge=gabrosty conflict-marker-size=12\n"}
+    repository = conflict_in(place, {**asked, "a": BASE}, {**asked, "a": OURS}, {**asked, "a": THEIRS})
+    repository.git("merge", "--abort")
+    repository.git("config", "merge.gabrosty.driver", NAME + " --markers --marker-length %L --path %P %O %A %B %A")
+    merge = ["git", "merge", "--quiet", "--no-edit", "theirs"]
+    with shown(place, merge, repository.folder) as typed:
+        is_named = b"a\xc2\xa0(1 conflict)" in typed.screen()
+        leave_open(typed, b"l", ASKED_FOR_MARKERS)
+        is_left = typed.end() == 1
+    marks = [sign * 12 for sign in (b"<", b"|", b"=", b">")]
+    wanted = b"1\n%s\nours\n%s\nold\n%s\ntheirs\nmore\n%s\n3\n4\nfive\n" % tuple(marks)
+    is_open = repository.files()["a"] == wanted and repository.git("ls-files", "--unmerged")
+    repository.git("merge", "--abort")
+    status, _ = type_into(place, ["space", "c"], merge, repository.folder)
+    return bool(is_named and is_left and is_open) and status == 0 and repository.files()["a"] == b"1\nours\n3\n4\nfive\n"
 
 
 def git_rerere(place):
@@ -584,7 +664,10 @@ class AsJj:
         self.paths = {role: os.path.join(folder, names[role]) for role in names}
         for role in versions:
             os.chmod(self.paths[role], 0o444)
-        given = {**self.paths, "path": path}
+        # jj takes as many signs as no line of a version begins with: four more than the longest run of them, and seven at least
+        runs = [len(run) for text in versions.values() for run in re.findall(rb"^(?:<+|\|+|=+|>+)", text, re.M)]
+        self.length = max([7, *(run + 4 for run in runs)])
+        given = {**self.paths, "path": path, "marker_length": str(self.length)}
         self.command = [self.tool["program"], *(given[word[1:]] if word.startswith("$") else word for word in self.tool["merge-args"])]
 
     def resolved(self, status):
@@ -594,14 +677,14 @@ class AsJj:
         is_left = status in self.tool["merge-conflict-exit-codes"]
         if (status and not is_left) or not data:
             return None
-        return parts_by_markers(data) if is_left else [data]
+        return parts_by_markers(data, self.length) if is_left else [data]
 
 
-def parts_by_markers(data):
-    """Returns the texts and the conflicts of a file with markers in the style of git."""
+def parts_by_markers(data, length):
+    """Returns the texts and the conflicts of a file with markers of `length` signs or more in the style of git."""
     parts, at = [b""], None
     for line in data.splitlines(keepends=True):
-        sign = re.match(rb"([<|=>])\1{6,}( |\r?\n|$)", line)
+        sign = re.match(rb"([<|=>])\1{%d,}( |\r?\n|$)" % (length - 1), line)
         if sign is None and at is None:
             parts[-1] += line
         elif sign is None:
@@ -635,6 +718,20 @@ def jj_resolve(place):
     keys = ["space", "pagedown", "pagedown", "pagedown", "space", "c"]
     is_whole = jj.resolved(type_into(place, keys, jj.command)[0]) == [versions["left"]]
     return is_left and is_named and is_half and is_whole and all(read_data(jj.paths[role]) == versions[role] for role in versions)
+
+
+def jj_resolve_of_lines_like_markers(place):
+    """In a file that has lines like conflict markers jj takes only those markers for ones that are as long as it asked for."""
+    try:
+        import tomllib  # noqa: F401
+    except ImportError:
+        return "there is no tomllib"
+    lines = b"=======\n>>>>>>> x\n"
+    jj = AsJj(place, "a.md", {"base": b"1\n" + lines, "left": b"one\n" + lines, "right": b"eins\n" + lines})
+    with shown(place, jj.command) as typed:
+        leave_open(typed, b"l", ASKED_FOR_MARKERS)
+        parts = jj.resolved(typed.end())
+    return jj.length == 11 and parts == [b"", [b"one\n", b"1\n", b"eins\n"], lines]
 
 
 def keys_for(chance, conflicts):
@@ -708,7 +805,7 @@ def beside_git_merge_file(place):
 
 def library_beside_git_merge_file(place):
     """Random merges of the library, and those of this repository's history, are those of git, also with markers (tools/compare-merges)."""
-    environment = {**os.environ, "LIBSCM": os.path.join(place.prefix, "lib/libscm.so")}
+    environment = {**os.environ, "LIBSCM": os.path.join(place.prefix, "lib/libgabrosty.so")}
     command = [trying.ROOT / "tools/compare-merges", "300", "20"]
     done = subprocess.run(command, env=environment, stdout=subprocess.PIPE, stderr=subprocess.STDOUT, text=True)
     if done.returncode:
@@ -723,15 +820,15 @@ WRITES = "openat", "write", "fsync", "renameat", "fchmod", "fchown", "fsetxattr"
 
 
 def calls_behind(log):
-    """Returns the calls of a run from the one on that makes a file: their names, and their numbers among those of the name."""
-    counts, found, is_writing = {}, [], False
+    """Returns the calls of a run from the one on that chooses the name of the file beside OUTPUT, which is the last one of its kind: their names,
+    and their numbers among those of the name."""
+    counts, found = {}, []
     with open(log, errors="replace") as lines:
         for line in lines:
             name = line.partition("(")[0]
             counts[name] = counts.get(name, 0) + 1
-            is_writing = is_writing or name == "getrandom"
-            if is_writing and name in WRITES:
-                found.append((name, counts[name]))
+            found = [] if name == "getrandom" else found
+            found += [(name, counts[name])] if name in WRITES else []
     return found
 
 
@@ -767,8 +864,44 @@ def each_call_that_fails(place):
     return is_well
 
 
+def each_call_that_fails_behind_a_choice(place):
+    """The same where the user has settled a conflict, and where one is left with markers: OUTPUT is as before or whole."""
+    if not shutil.which("strace"):
+        return "there is no strace"
+    program, log, is_well = os.path.join(place.prefix, "bin", NAME), os.path.join(place.top, "log"), True
+    left = b"1\n<<<<<<<\nours\n|||||||\nold\n=======\ntheirs\nmore\n>>>>>>>\n3\n4\nfive\n"
+    for options, merged, done in ([], b"1\nours\n3\n4\nfive\n", 0), (["--markers"], left, 1):
+
+        def run(*inject):
+            paths = files_of(place)
+            # who is killed leaves the marks, and a file of them is one call more
+            for name in os.listdir(place.temporary):
+                os.unlink(os.path.join(place.temporary, name))
+            with shown(place, ["strace", "-qq", "-o", log, *inject, program, *options, *paths]) as typed:
+                if options:
+                    leave_open(typed, b"l", ASKED_FOR_MARKERS)
+                else:
+                    typed.press("space")
+                    typed.press("c")
+                status = typed.end()
+            beside = [name for name in os.listdir(os.path.dirname(paths[3])) if name.startswith(".")]
+            return status, read_data(paths[3]), beside
+
+        is_well = run("-e", "trace=" + ",".join(WRITES)) == (done, merged, []) and is_well
+        # how often it writes to the terminal differs, so no write is told by its number: full_disk fails that
+        for name, number in [call for call in calls_behind(log) if call[0] != "write"]:
+            for what in ("error=ENOSPC", "signal=SIGKILL"):
+                status, data, beside = run("-e", "trace=" + name, "-e", "inject=%s:%s:when=%d" % (name, what, number))
+                is_killed = what == "signal=SIGKILL"
+                is_right = data == merged or (data == b"before\n" and status not in (0, done))
+                if not (is_right and (is_killed or (not beside and status in (done, 2)))):
+                    print("%s %s, %s: %s" % (name, number, what, (status, data, beside)))
+                    is_well = False
+    return is_well
+
+
 def full_disk(place):
-    """On a full disk OUTPUT stays, and that is said."""
+    """On a full disk OUTPUT stays, and that is said, also where the user has settled a conflict or leaves one with markers."""
     with disks.disk(place) as folder:
         if not folder:
             return "no disk can be made here"
@@ -777,8 +910,17 @@ def full_disk(place):
         disks.fill(folder, 4096)
         status, said = place.call(NAME, *paths)
         names = sorted(os.listdir(os.path.dirname(paths[3])))
-        return (status, said) == (2, "%s: %s: No space left on device\n" % (NAME, paths[3])) and names == ["base", "ours", "output", "theirs"] \
-            and read_data(paths[3]) == b"before\n"
+        lacks = "%s: %s: No space left on device\n" % (NAME, paths[3])
+        ends = [(status, said) == (2, lacks) and names == ["base", "ours", "output", "theirs"] and read_data(paths[3]) == b"before\n"]
+        versions = files_of(place, text, b"one\n" + text, b"eins\n" + text)[:3]
+        with shown(place, [NAME, *versions, paths[3]]) as typed:
+            typed.press("space")
+            typed.press("c")
+            ends.append(typed.end() == 2 and typed.said().endswith(lacks))
+        with shown(place, [NAME, "--markers", *versions, paths[3]]) as typed:
+            leave_open(typed, b"l", ASKED_FOR_MARKERS)
+            ends.append(typed.end() == 2 and typed.said().endswith(lacks))
+        return all(ends) and sorted(os.listdir(os.path.dirname(paths[3]))) == names and read_data(paths[3]) == b"before\n"
 
 
 # how bash completes the last one of some words
@@ -801,9 +943,9 @@ def options_that_shells_complete(place):
 
 
 ALL = (
-    each_version, deleted_lines, open_conflicts, ways_to_open_conflicts, many_open_conflicts, conflict_markers, labels_of_versions, left_by_the_user, without_a_conflict,
-    what_comes_to_output_meanwhile, outputs_with_names_of_options, refused_files, named_in_another_way, git_mergetool, git_mergetool_that_is_left, git_mergetool_with_backups,
-    git_mergetool_on_an_added_file, git_mergetool_on_a_deleted_file, git_mergetool_on_a_renamed_file, git_mergetool_on_a_real_conflict, git_rerere, hg_resolve, jj_resolve, random_choices,
-    beside_git_merge_file, library_beside_git_merge_file, each_call_that_fails, full_disk,
+    each_version, each_width, deleted_lines, open_conflicts, ways_to_open_conflicts, many_open_conflicts, conflict_markers, lengths_of_markers, labels_of_versions, left_by_the_user, without_a_conflict,
+    what_comes_to_output_meanwhile, outputs_with_names_of_options, refused_files, named_in_another_way, git_mergetool, git_mergetool_on_a_changed_mode, git_mergetool_that_is_left, git_mergetool_with_backups,
+    git_mergetool_on_an_added_file, git_mergetool_on_a_deleted_file, git_mergetool_on_a_renamed_file, git_mergetool_on_a_real_conflict, git_merge_driver, git_rerere, hg_resolve, jj_resolve, jj_resolve_of_lines_like_markers, random_choices,
+    beside_git_merge_file, library_beside_git_merge_file, each_call_that_fails, each_call_that_fails_behind_a_choice, full_disk,
     options_that_shells_complete,
 )

@@ -115,9 +115,10 @@ def each_write_of_output(place):
 
 
 def the_order_of_writes(place):
-    """The table of docs/WRITES.md has for each way what its class says that it writes, in this order."""
-    code = "import options, ways; them = [ways.Stage, *(it.way for it in options.OPTIONS if hasattr(it.way, 'writes'))]; " \
-        "print({it.__name__: list(it.writes) for it in them})"
+    """The table of docs/WRITES.md has for each way what the table of the ways says that it writes, in this order. Each option has a row of
+    its own there."""
+    code = "import options, ways; them = [ways.Stage, *(it.way for it in options.OPTIONS if hasattr(it.way, 'use'))]; " \
+        "assert all(it.use is ways.USES[it.__name__] for it in them); print({it.__name__: it.use.writes for it in them})"
     folder = os.path.join(place.prefix, "lib/gabrosty")
     where = {**os.environ, "PYTHONPATH": os.pathsep.join((os.path.join(folder, "git-select"), folder)), "PYTHONDONTWRITEBYTECODE": "1"}
     said = subprocess.run([sys.executable, "-c", code], env=where, stdout=subprocess.PIPE, check=True).stdout.decode()

@@ -101,8 +101,8 @@ def older_package(unpacked, folder):
     """Makes a package of an older version, which has a file more. Returns its path."""
     image, out = os.path.join(folder, "older"), os.path.join(folder, "older package")
     shutil.copytree(unpacked, image, symlinks=True)
-    header = os.path.join(image, "include/scm.h")
-    older = re.sub(rb'(SCM_VERSION_TEXT )".*"', rb'\1"0.9.0"', changed.read_file(header))
+    header = os.path.join(image, "include/gabrosty.h")
+    older = re.sub(rb'(GABRO_VERSION_TEXT )".*"', rb'\1"0.9.0"', changed.read_file(header))
     changed.write_file(header, older)
     changed.write_file(os.path.join(image, "lib/gabrosty/choosing/older.py"), b"")
     os.makedirs(out)

@@ -166,6 +166,54 @@ def what_is_read_through_links(place):
     return all(ends)
 
 
+def what_takes_the_place_of_output(place):
+    """OUTPUT of a merge, which its owner alone may read, stays so where another user puts a file of the same owner in its place that all may
+    read. A file with the permissions of before in its place keeps them."""
+    if os.geteuid():
+        return NOT_ROOT
+    versions = place.folder("versions", {"base": b"a\nb\n", "ours": b"a\none\n", "theirs": b"a\ntwo\n"})
+    found = []
+    for number, (before, behind) in enumerate(((0o600, 0o644), (0o755, 0o755))):
+        folder = place.folder("output-%d" % number, {"output": b"", "other": b"x\n"})
+        for path, mode in (folder + "/output", before), (folder + "/other", behind), *((versions + "/" + name, 0o600) for name in os.listdir(versions)):
+            os.chmod(path, mode)
+        os.chown(folder, NOBODY, NOBODY)
+        words = ["gabrosty-merge-tool", *(os.path.join(versions, name) for name in ("base", "ours", "theirs")), folder + "/output"]
+        status, _ = place.type(words, [" ", "c"], before_last=lambda at=folder: os.rename(at + "/other", at + "/output"))
+        found.append((status, os.stat(folder + "/output").st_mode & 0o777))
+    return found == [(0, 0o600), (0, 0o755)]
+
+
+def keys_of_another_home(place):
+    """Keys in a HOME of another user, who could have `q` accept, are not taken, but named. One's own are taken there."""
+    if os.geteuid():
+        return NOT_ROOT
+    home = place.folder("home", {".config/gabrosty/keys": b"w c\n"})
+    keys, output, ends = home + "/.config/gabrosty/keys", os.path.join(place.top, "output"), []
+    for owner in NOBODY, 0:
+        os.chown(keys, owner, -1)
+        more = {"SELECT_LAYER": "on", "HOME": home, "XDG_CONFIG_HOME": ""}
+        ends.append(place.type(["scm-select", "-o", output, *two(place)], ["a", "w"] if owner == 0 else [], **more))
+    return ends[0][0] == 2 and keys + ": Operation not permitted" in ends[0][1] and ends[1][0] == 0 and data_of(output) == NEW
+
+
+def keys_through_links(place):
+    """Where all may put files, a link of another user is not followed to read the keys that SELECT_KEYS names, whose lines an error would
+    show. One's own is followed."""
+    if os.geteuid():
+        return NOT_ROOT
+    folder, private = shared(place), place.folder("private", {"keys": b"w c\n", "secret": b"secret\n"})
+    changed.write(folder, {"link": ("link", private + "/secret"), "own": ("link", private + "/keys")})
+    os.chown(folder + "/link", NOBODY, NOBODY, follow_symlinks=False)
+    more = {"SELECT_LAYER": "on", "SELECT_KEYS": folder + "/link"}
+    status, said = place.type(["scm-select", *two(place)], [], **more)
+    refused = "%s: it is another user's, in a folder that all may write to" % more["SELECT_KEYS"]
+    is_refused = status == 2 and refused in said and "secret" not in said
+    output = os.path.join(place.top, "output")
+    status, _ = place.type(["scm-select", "-o", output, *two(place)], ["a", "w"], **{**more, "SELECT_KEYS": folder + "/own"})
+    return is_refused and status == 0 and data_of(output) == NEW
+
+
 def signals_while_it_writes(place):
     """A signal that comes while a file is written waits until it is in its place: nothing is left beside it. A limit of the size of
     files is an error that is named."""
@@ -401,6 +449,29 @@ def what_another_program_hands_in(place):
     return typed.end() in (0, 1) and is_shown and not any(c in typed.seen.decode() for c in UNSEEN[:-1]) and shown.count("\u00a0") <= 1
 
 
+def marks_that_another_would_read(place):
+    """Where all may put files, marks and messages of changes that are handed in are not kept in another user's file, nor where a link of
+    theirs leads to, while the user chooses. In one's own file they are."""
+    if os.geteuid():
+        return NOT_ROOT
+    folder, changes, seen = shared(place), os.path.join(place.top, "changes"), []
+    modes = ("old-mode", "100644"), ("new-mode", "100644")
+    changed.write_file(changes, records(("message", "private"), ("path", "a"), *modes, ("old", "1\n"), ("new", "2\n")))
+    changed.write(folder, {"theirs": b"", "own": b"", "link": ("link", place.folder("private", {"x": b""}) + "/x")})
+    for name in "theirs", "link":
+        os.chown(os.path.join(folder, name), NOBODY, NOBODY, follow_symlinks=False)
+    for name in "theirs", "link", "own":
+        path = os.path.join(folder, name)
+        typed = Typed(["scm-select", "--changes", changes, path], 60, 20, place.environment, place.top)
+        typed.press("a")
+        time.sleep(1)
+        seen.append(data_of(path))
+        typed.press("q")
+        typed.write(b"\r")
+        typed.end()
+    return seen[:2] == [b"", b""] and b"private" in seen[2] and data_of(folder + "/own") == b""
+
+
 def json_for_a_terminal(place):
     """With --json no character that is not seen reaches the terminal, or a reader that takes it for a line end: it is a number. The
     texts are the same."""
@@ -465,7 +536,7 @@ os._exit(any(os.fstat(file.fileno()).st_size for file in files))
 def a_handler_that_comes_late(place):
     """What a handler of a run has to write, when the run has ended meanwhile, goes to no file that the program opened since."""
     libraries = os.path.join(place.prefix, "lib")
-    if not shutil.which("strace") or not os.path.exists(os.path.join(libraries, "libscm.so")):
+    if not shutil.which("strace") or not os.path.exists(os.path.join(libraries, "libgabrosty.so")):
         return "there is no strace or no shared library"
     slow = ["strace", "-f", "-o", os.devnull, "-e", "trace=write", "-e", "inject=write:delay_enter=3000000:when=1"]
     python = ["env", "PYTHONPATH=" + os.path.join(libraries, "gabrosty"), sys.executable, "-c", LATE, place.folder("files")]
@@ -473,8 +544,8 @@ def a_handler_that_comes_late(place):
 
 
 ALL = (
-    group_and_list_stay, no_more_for_another_group, lists_that_cannot_be_read, what_another_user_put_there, what_is_read_through_links,
+    group_and_list_stay, no_more_for_another_group, lists_that_cannot_be_read, what_another_user_put_there, what_is_read_through_links, what_takes_the_place_of_output, keys_of_another_home, keys_through_links,
     signals_while_it_writes, a_signal_before_the_first_step, what_happens_between, names_of_one_file, a_folder_that_is_moved,
     what_a_new_folder_has, another_folder_where_one_was_made, a_deeper_tree, many_small_files, characters_of_both_lists,
-    what_another_program_hands_in, json_for_a_terminal, folders_in_one_another, a_handler_that_comes_late,
+    what_another_program_hands_in, marks_that_another_would_read, json_for_a_terminal, folders_in_one_another, a_handler_that_comes_late,
 )

@@ -789,6 +789,31 @@ def folders_of_half_a_path(place):
         return (status, file.read()) == (0, "gabrosty\n") and changed.read(left) == {"a": b"1\n"} == changed.read(right)
 
 
+# a host of the library, in which the user edits a message
+HOST = """import sys
+sys.path.append(sys.argv[1])
+import scm
+with scm.Session() as session:
+    session.add_commit("before")
+    session.add_texts("a", b"1\\n", b"2\\n")
+    print(session.choose(), session.message())
+"""
+
+
+def a_message_in_another_host(place):
+    """Where TMPDIR names a folder by less than its whole path, no host of the library makes a file in the current one, which may be a
+    stranger's: the message is edited in a file of /tmp."""
+    own, listed = place.folder("own"), os.path.join(place.top, "listed")
+    editor = "sh -c 'printf %%s \"$0\" > %s; echo after > \"$0\"'" % listed
+    command = [sys.executable, "-B", "-c", HOST, os.path.join(place.prefix, "lib/gabrosty")]
+    for folder, where in (("own", "/tmp"), (own, own)):
+        status, said = place.type(command, ["e", "c"], VISUAL=editor, TMPDIR=folder)
+        made = changed.read_file(listed).decode()
+        if (status, said.strip()) != (0, "accepted after") or os.path.dirname(made) != where or os.path.lexists(made):
+            return False
+    return os.listdir(own) == []
+
+
 def a_state_folder_of_a_clone(place):
     """Where XDG_STATE_HOME is a folder that a repository tracks, no plan in it is followed, though it fits in each part."""
     left, right = place.folder("left", {"a": b"1\n"}), place.folder("right", {"a": b"2\n"})
@@ -824,6 +849,31 @@ def a_home_of_another_user(place):
     os.chown(home + "/.local", NOBODY, NOBODY, follow_symlinks=False)
     end = editor(place, "--output", right, right, left, HOME=home, XDG_STATE_HOME="")
     return is_left and end == refused and os.listdir(own) == [] and changed.read(right) == {"a": b"2\n"}
+
+
+def a_plan_where_another_leads(place):
+    """Root, with another user's HOME, or with a link of theirs on the way to the state folder, follows no plan that is found there, though it
+    fits in each part. Skipped without the rights of two users."""
+    if os.geteuid():
+        return "that needs another user"
+    left, right, home = place.folder("left", {"a": b"1\n"}), place.folder("right", {"a": b"2\n"}), place.folder("home")
+    state, token = place.folder("own/state/gabrosty"), "0" * 32
+    spare = place.folder("own/state/gabrosty/.gabrosty-" + token, {"secret": token.encode(), "new-0": b"3\n"})
+    sides = [digest_of(side) for side in (("000000", b""), ("100644", b"3\n"))]
+    first = [right, os.stat(right).st_ino, "kept", os.path.basename(spare), token]
+    written(os.path.join(state, "%s-%s.plan" % (key_of(right), token)), [first, [os.stat(spare).st_ino, [["b", *sides]], []]])
+    for folder in state, spare:
+        os.chmod(folder, 0o700)
+    link = os.path.join(home, ".local")
+    os.symlink(os.path.join(place.top, "own"), link)
+    ends = []
+    for owner_of_home, owner_of_link in (NOBODY, NOBODY), (0, NOBODY), (NOBODY, 0), (0, 0):
+        os.chown(home, owner_of_home, -1)
+        os.chown(link, owner_of_link, -1, follow_symlinks=False)
+        ends.append(editor(place, left, right, "--finish", HOME=home, XDG_STATE_HOME=""))
+    refused = 1, EDITOR + ": there is no writing that was cut off\n"
+    # the last one, so that all of it fitted
+    return ends == [*[refused] * 3, (0, "written: b\n")] and changed.read(right) == {"a": b"2\n", "b": b"3\n"}
 
 
 def a_race_for_a_new_folder(place):
@@ -973,7 +1023,8 @@ ALL = (
     a_race_by_another_user, names_like_ours_beside_the_index, marks_that_are_no_text, marks_in_what_is_no_file, named_files_through_links,
     paths_that_git_refuses, what_git_says_beside_its_editor, files_that_have_too_much_together, a_lock_that_was_copied,
     links_where_plans_are_kept, a_file_that_changes_unseen, no_home, folders_of_half_a_path,
-    a_home_of_another_user, a_state_folder_of_a_clone, a_race_for_a_new_folder,
+    a_message_in_another_host,
+    a_home_of_another_user, a_plan_where_another_leads, a_state_folder_of_a_clone, a_race_for_a_new_folder,
     links_of_another_user, a_file_of_another_user_in_time, a_spare_folder_that_others_may_read, a_lock_that_is_a_pipe,
     texts_of_many_megabytes, characters_that_disks_leave_out,
 )
