@@ -208,10 +208,13 @@ static bool add_mode(text *into, const char *word, size_t mode) {
     return is_added;
 }
 
-/* Returns which version has the bytes of a side, or NULL if none has. Bytes that were not handed in are those of one. */
+/* Returns whether a version has the bytes of a side, which are lines. The bytes of a link are not handed in. */
+static bool has_bytes_of(const version *version, const side *side) { return !is_link(version) && are_equal(side->bytes, version->bytes); }
+
+/* Returns which version has the contents of a side, or NULL if none has. Contents that are no lines are those of one. */
 static const char *word_for_contents(const change *change, const side *side) {
-    bool is_new = side->has_lines ? are_equal(side->bytes, change->new.bytes) : side->is_new;
-    bool is_old = side->has_lines ? are_equal(side->bytes, change->old.bytes) : !side->is_new;
+    bool is_new = side->has_lines ? has_bytes_of(&change->new, side) : side->is_new;
+    bool is_old = side->has_lines ? has_bytes_of(&change->old, side) : !side->is_new;
     return is_new ? "new" : is_old ? "old" : NULL;
 }
 
