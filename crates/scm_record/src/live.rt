@@ -369,6 +369,13 @@ impl<'state> LiveSession<'state> {
         self.frame.grid()
     }
 
+    /// Returns the row of the document that the first row of the screen shows, counted from 0.
+    pub fn scroll(&self) -> usize
+        ensures { result ≡ self.now.session.scroll }
+    {
+        self.session.scroll()
+    }
+
     /// Returns the component that a click at `row` and `column` of the screen acts on, if any. Both
     /// are counted from 0.
     pub fn owner(&self, row: usize, column: usize) -> Option<ComponentId>

@@ -163,6 +163,15 @@ fn rows_below_the_document_show_no_line(rt: HostRuntime) -> Result<(), RecordErr
     Ok(())
 }
 
+#[test]
+fn a_screen_begins_where_it_is_scrolled_to(rt: HostRuntime) -> Result<(), RecordError> {
+    let session = session_of(&rt, rt.alloc(), HIGH, "t", "F")?;
+    check_equal(&rt, session.scroll(), 0);
+    let session = waiting_of(&rt, session.handle(Event::ScrollDown)?);
+    check_equal(&rt, session.scroll(), 1);
+    Ok(())
+}
+
 /// Returns the message of the first commit, or an empty text.
 fn message_in<'a>(state: &'a RecordState<'_>) -> &'a str {
     match state.commits.as_slice().first() {
