@@ -31,7 +31,7 @@ use Rattle.scm_front.specs.declared.layer.FrontTurn.{FrontTurn}
 use Rattle.scm_front.specs.declared.layer.FrontTurn.TheVariants.{Waiting}
 use Rattle.scm_front.specs.Asking.{after_typing, with_word}
 use Rattle.scm_front.specs.Begun.{JumpLeads}
-use Rattle.scm_front.specs.Deeds.{RoundLeads}
+use Rattle.scm_front.specs.Scrolling.{QuietRound}
 use Rattle.scm_front.specs.Keeping.{KeepsAs, saying, anchored, after_range, steps_of, done_word, nothing_left, other_way}
 use Rattle.scm_front.specs.declared.recording.Author.{Author}
 use Rattle.scm_front.specs.declared.recording.Author.TheVariants.{User, Program}
@@ -135,12 +135,12 @@ module _ (f : Front) where
 
   pub marked : (deeds : List Deed) (turn : Turn) (q : Query) (mid kept : Kept) (result : FrontTurn) → result ≡ front_of turn q kept
       → q ≡ with_word f.query false → kept ≡ saying (anchored mid keys.None) notices.Nothing → KeepsAs f.kept f.kept.anchor f.kept.word mid
-      → deeds ≡ range_deeds f.beneath f.kept.anchor → ((calls : List Call) × RoundLeads f.beneath deeds (selection_of f.beneath) calls turn)
+      → deeds ≡ range_deeds f.beneath f.kept.anchor → ((calls : List Call) × QuietRound f.beneath deeds (selection_of f.beneath) calls turn)
       → RemembersAt marks_now f.kept.history turn mid.history → (calls : List Call) × Does f Mark calls result
   marked deeds turn q mid kept result e word says keeps same leads remembers =
       let after : KeepsAs f.kept keys.None notices.Nothing (saying (anchored mid keys.None) notices.Nothing) = record { anchor = refl; word = refl; keys = keeps.keys } in
       let kept_as : KeepsAs f.kept keys.None notices.Nothing kept = subst (KeepsAs f.kept keys.None notices.Nothing) (sym says) after in
-      let round = subst (λ (list : List Deed). RoundLeads f.beneath list (selection_of f.beneath) leads.0 turn) same leads.1 in (
+      let round = subst (λ (list : List Deed). QuietRound f.beneath list (selection_of f.beneath) leads.0 turn) same leads.1 in (
         leads.0,
         subst (λ (t : FrontTurn). Does f Mark leads.0 t) (sym (e ∙ ap (λ (x : Query). front_of turn x kept) word)) (marks turn kept round kept_as
             (subst (λ (k : Kept). RemembersAt marks_now f.kept.history turn k.history) (sym says) remembers)),
@@ -173,9 +173,9 @@ module _ (f : Front) where
 
 -- a round by other names of its deeds and of the key that it goes back to
 pub same-round : (l : Live) (turn : Turn) (deeds other : List Deed) (back key : SelectionKey) → other ≡ deeds → back ≡ key
-    → ((calls : List Call) × RoundLeads l other back calls turn) → (calls : List Call) × RoundLeads l deeds key calls turn
+    → ((calls : List Call) × QuietRound l other back calls turn) → (calls : List Call) × QuietRound l deeds key calls turn
 same-round l turn deeds other back key e same r =
-    (r.0, subst (λ (k : SelectionKey). RoundLeads l deeds k r.0 turn) same (subst (λ (list : List Deed). RoundLeads l list back r.0 turn) e r.1))
+    (r.0, subst (λ (k : SelectionKey). QuietRound l deeds k r.0 turn) same (subst (λ (list : List Deed). QuietRound l list back r.0 turn) e r.1))
 
 -- ---- marks that are restored
 
@@ -190,7 +190,7 @@ told-done false way word e f = absurd (not-done way (sym e ∙ f))
 
 pub restores-to : (l : Live) (query : Query) (kept new : Kept) (way : Way) (wanted : List (List (List Bool))) (back : Step) (turn : Turn) (b : Bool) (result : FrontTurn)
     → result ≡ front_of turn query new → KeepsAs kept kept.anchor (if b then done_word way else notices.NotRestored) new
-    → (IsTrue b → Returns way (steps_of way kept.history) back kept.history new.history) → (IsTrue b → HasMarks turn wanted) → ((deeds : List Deed) × ((calls : List Call) × RoundLeads l deeds (selection_of l) calls turn))
+    → (IsTrue b → Returns way (steps_of way kept.history) back kept.history new.history) → (IsTrue b → HasMarks turn wanted) → ((deeds : List Deed) × ((calls : List Call) × QuietRound l deeds (selection_of l) calls turn))
     → RestoresTo l query kept way wanted back result
 restores-to l query kept new way wanted back turn b result e keeps returns has r = record {
   deeds = r.0;
@@ -207,14 +207,14 @@ restores-to l query kept new way wanted back turn b result e keeps returns has r
 -- nothing is restored
 pub gives-up : (l : Live) (query : Query) (kept new : Kept) (way : Way) (wanted : List (List (List Bool))) (step : Step) (turn : Turn) (deeds : List Deed) (back : SelectionKey) (result : FrontTurn)
     → result ≡ front_of turn query new → KeepsAs kept kept.anchor notices.NotRestored new → back ≡ selection_of l
-    → ((calls : List Call) × RoundLeads l deeds back calls turn) → RestoresTo l query kept way wanted step result
+    → ((calls : List Call) × QuietRound l deeds back calls turn) → RestoresTo l query kept way wanted step result
 gives-up l query kept new way wanted step turn deeds back result e keeps same r = record {
   deeds = deeds;
   calls = r.0;
   turn = turn;
   new = new;
   is = e;
-  leads = subst (λ (k : SelectionKey). RoundLeads l deeds k r.0 turn) same r.1;
+  leads = subst (λ (k : SelectionKey). QuietRound l deeds k r.0 turn) same r.1;
   keeps = own-word kept new kept.anchor notices.NotRestored keeps;
   done = λ said. absurd (not-done way (sym keeps.word ∙ said));
   returns = λ said. absurd (not-done way (sym keeps.word ∙ said));

@@ -13,7 +13,7 @@ use Rattle.scm_front.specs.declared.layer.Front.{Front}
 use Rattle.scm_front.specs.declared.layer.FrontTurn.{FrontTurn}
 use Rattle.scm_front.specs.Fronts.{Does, passes, types, misses, jumps, seeks, goes, ranges, marks, lacks, restores, ignores, Hears, no_more, ends, goes_on, Input, FrontPath, at_end, by_beginning, by_hearing, by_action, by_presses, by_batch, by_answer, by_screen, beneath_of, front_of}
 use Rattle.scm_front.proofs.BegunLemmas.{jump-path}
-use Rattle.scm_front.proofs.DeedLemmas.{round-path}
+use Rattle.scm_front.proofs.ScrollLemmas.{quiet-path}
 
 pub beneath-is : (turn : Turn) (query : Query) (kept : Kept) → turn ≡ beneath_of (front_of turn query kept)
 beneath-is (turns.Waiting l) query kept = refl
@@ -33,9 +33,9 @@ does-path (jumps e leads) = jump-path leads
 does-path (seeks does) = does-path does
 does-path (goes leads) = jump-path leads
 does-path ranges = still
-does-path (marks turn kept leads keeps remembers) = led-to turn _ kept (round-path leads)
+does-path (marks turn kept leads keeps remembers) = led-to turn _ kept (quiet-path leads)
 does-path (lacks way kept e keeps) = still
-does-path (restores way rest step turn kept e leads keeps done returns) = led-to turn _ kept (round-path leads)
+does-path (restores way rest step turn kept e leads keeps done returns) = led-to turn _ kept (quiet-path leads)
 does-path ignores = still
 
 -- so are all that are heard

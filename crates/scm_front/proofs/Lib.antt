@@ -28,6 +28,8 @@ pub mod EffectLemmas
 pub mod ReachLemmas
 -- what is kept of an action leads back
 pub mod RememberLemmas
+-- the way back of the screen
+pub mod ScrollLemmas
 -- what is kept of a range leads back
 pub mod RangeReachLemmas
 -- marks after an undo

@@ -163,7 +163,7 @@ deeds-files (does {l = l} {next = next} {deed = deed} {deeds = deeds} {turn = tu
     ends-same turn _ _ (ap (λ (fs : List File). after_deeds fs deeds) left.files) (deeds-files later left.free)
 deeds-files (ends {deed = deed} {deeds = deeds} {turn = turn} due d e) f = not-waiting turn _ e
 
-abbrev HasFiles : Turn → List File → Type 0
+abbrev pub HasFiles : Turn → List File → Type 0
 HasFiles (Waiting l) files = files_of l ≡ files
 HasFiles (Editing a) files = Unit {0}
 HasFiles (Accepted state) files = Unit {0}

@@ -32,7 +32,9 @@ use Rattle.scm_front.specs.declared.recording.Author.TheVariants.{User}
 use Rattle.scm_front.specs.Recording.{RecordsAt, RemembersAt, reach_of}
 use Rattle.scm_front.proofs.EffectLemmas.{After, as_was, by_all, by_item}
 use Rattle.scm_front.proofs.RangeLemmas.{selecting-files}
+use Rattle.scm_front.specs.Scrolling.{QuietRound, quiet}
 use Rattle.scm_front.proofs.RememberLemmas.{FilesAt, calm-event, event-after, turn-remembers, weaker}
+use Rattle.scm_front.proofs.ScrollLemmas.{round-calm, scrolls-keep, selecting-calm}
 
 -- ---- deeds in some files
 
@@ -63,13 +65,6 @@ module _ (given : List File) (first last : ℕ) where
   nothing-stays files new (as_was e) h = subst Stays (sym e) h
   nothing-stays files new (by_item k is e) h = absurd (cc is)
   nothing-stays files new (by_all is e) h = absurd (cc is)
-
-  selecting-calm : (l : Live) (key : SelectionKey) → l.session.pending ≡ [] → (after_selecting l key).session.pending ≡ []
-  selecting-calm l key calm = by-can (can_select l key)
-    where
-      by-can : (can : Bool) → (cond can (after_jump l key) l).session.pending ≡ []
-      by-can true = refl
-      by-can false = calm
 
   selected : (l : Live) (key : SelectionKey) (can : Bool) → can ≡ true → selection_of (cond can (after_jump l key) l) ≡ key
   selected l key true e = refl
@@ -104,6 +99,10 @@ module _ (given : List File) (first last : ℕ) where
       → list_all (marks_within first last) deeds ≡ true → l.session.pending ≡ [] → Stays (files_of l) → FilesAt Stays turn
   round-stays (returns {mid = mid} {back = back} d j) all calm h = subst Stays (sym (selecting-files mid back)) (deeds-stay d all calm h)
   round-stays (leaves d f) all calm h = deeds-stay d all calm h
+
+  quiet-stays : {l : Live} {deeds : List Deed} {back : SelectionKey} {calls : List Call} {turn : Turn} → QuietRound l deeds back calls turn
+      → list_all (marks_within first last) deeds ≡ true → l.session.pending ≡ [] → Stays (files_of l) → FilesAt Stays turn
+  quiet-stays (quiet round more e) all calm h = scrolls-keep Stays more (round-calm round calm) (round-stays round all calm h)
 
 -- ---- the deeds of a range
 
@@ -161,9 +160,9 @@ module _ (l : Live) (anchor : SelectionKey) where
   -- so what is kept of a range leads back
   pub range-remembers : (turn : Turn) (old new : History) (before : Option (List Run)) {deeds : List Deed} {back : SelectionKey} → l.session.pending ≡ []
       → IfSome before (λ (runs : List Run). runs ≡ runs_of_range anchor (selection_of l) (files_of l)) → deeds ≡ range_deeds l anchor
-      → ((calls : List Call) × RoundLeads l deeds back calls turn) → RecordsAt User old before turn new → RemembersAt (marks_of_files (files_of l)) old turn new
+      → ((calls : List Call) × QuietRound l deeds back calls turn) → RecordsAt User old before turn new → RemembersAt (marks_of_files (files_of l)) old turn new
   range-remembers turn old new before {deeds} {back} calm taken same led r =
-      let round = subst (λ (list : List Deed). RoundLeads l list back led.0 turn) same led.1 in
+      let round = subst (λ (list : List Deed). QuietRound l list back led.0 turn) same led.1 in
       turn-remembers (files_of l) (runs_of_range anchor (selection_of l) (files_of l)) (Stays (files_of l) first_file last_file)
       (λ after h. files-restore (files_of l) after h.sizes first_file last_file h.outside) (runs-of-files-own (files_of l) first_file last_file) old new before taken turn
-      (round-stays (files_of l) first_file last_file round range-inside calm (record { sizes = refl; outside = λ f out. refl })) r
+      (quiet-stays (files_of l) first_file last_file round range-inside calm (record { sizes = refl; outside = λ f out. refl })) r

@@ -45,7 +45,7 @@ use Rattle.scm_front.specs.declared.layer.FrontTurn.TheVariants.{Waiting, Editin
 use Rattle.scm_front.specs.Actions.{action_of}
 use Rattle.scm_front.specs.Asking.{after_typing, with_word}
 use Rattle.scm_front.specs.Begun.{JumpLeads}
-use Rattle.scm_front.specs.Deeds.{RoundLeads}
+use Rattle.scm_front.specs.Scrolling.{QuietRound}
 use Rattle.scm_front.specs.Keeping.{KeepsAs, saying, after_range, is_none, steps_of, done_word, nothing_left}
 use Rattle.scm_front.specs.Presses.{PressesLead, calls_of}
 use Rattle.scm_front.specs.Recording.{BeginsAnewAt, RemembersAt, Returns, back_of}
@@ -217,20 +217,20 @@ pub data Does : Front → Action → List Call → FrontTurn → Type 0 where
   -- a range begins or ends, and the session is as it was
   ranges : {f : Front}
       → Does f Range [] (Waiting (front f.beneath (with_word f.query false) (after_range f.kept (selection_of f.beneath))))
-  -- the lines of a range are set, what was selected is selected again, the range ends, and the marks before it are kept if it changed some
+  -- the lines of a range are set, what was selected is selected again where the screen began, the range ends, and the marks before it are kept if it changed some
   marks : {f : Front} {calls : List Call} (turn : Turn) (kept : Kept)
-      → RoundLeads f.beneath (range_deeds f.beneath f.kept.anchor) (selection_of f.beneath) calls turn
+      → QuietRound f.beneath (range_deeds f.beneath f.kept.anchor) (selection_of f.beneath) calls turn
       → KeepsAs f.kept keys.None notices.Nothing kept
       → RemembersAt (marks_of_files (files_of f.beneath)) f.kept.history turn kept.history
       → Does f Mark calls (front_of turn (with_word f.query false) kept)
   -- there is nothing to undo, or to do again; a range stays begun
   lacks : {f : Front} (way : Way) (kept : Kept) → steps_of way f.kept.history ≡ [] → KeepsAs f.kept f.kept.anchor (nothing_left way) kept
       → Does f (restoring way) [] (Waiting (front f.beneath (with_word f.query false) kept))
-  -- Marks are restored, by toggles and jumps, and what was selected is selected again. If the word says so, all marks are those that the
+  -- Marks are restored, by toggles and jumps, and what was selected is selected again where the screen began. If the word says so, all marks are those that the
   -- newest step keeps, and the other ones as before; and a step to go back is kept. A range stays begun.
   restores : {f : Front} {calls : List Call} {deeds : List Deed} (way : Way) (rest : List Step) (step : Step) (turn : Turn) (kept : Kept)
       → steps_of way f.kept.history ≡ rest ++ step ∷ []
-      → RoundLeads f.beneath deeds (selection_of f.beneath) calls turn
+      → QuietRound f.beneath deeds (selection_of f.beneath) calls turn
       → KeepsAs f.kept f.kept.anchor kept.word kept
       → (kept.word ≡ done_word way → HasMarks turn (marks_with step (marks_of_files (files_of f.beneath))))
       → (kept.word ≡ done_word way → Returns way rest (back_of (files_of f.beneath) step) f.kept.history kept.history)

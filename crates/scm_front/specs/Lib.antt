@@ -22,6 +22,7 @@ pub mod Keeping
 pub mod Recording
 -- marks that are restored
 pub mod Restoring
+pub mod Scrolling
 -- fronts: what they do with what they hear, and the calls of the session beneath
 pub mod Fronts
 -- what the layer makes of a turn to which events led

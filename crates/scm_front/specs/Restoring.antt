@@ -9,12 +9,12 @@ use Rattle.scm_front_items.specs.declared.targets.Deed.{Deed}
 use Rattle.scm_front.specs.declared.asking.Query.{Query}
 use Rattle.scm_front.specs.declared.kept.Kept.{Kept}
 use Rattle.scm_front.specs.declared.layer.FrontTurn.{FrontTurn}
-use Rattle.scm_front.specs.Deeds.{RoundLeads}
+use Rattle.scm_front.specs.Scrolling.{QuietRound}
 use Rattle.scm_front.specs.Keeping.{KeepsAs, done_word, steps_of}
 use Rattle.scm_front.specs.Fronts.{HasMarks, front_of, selection_of}
 use Rattle.scm_front.specs.Recording.{Returns}
 
--- deeds and a jump back lead from a session to the turn, and if the word says that it is done, the marks are those that were wanted, and
+-- deeds and the way back lead from a session to the turn, and if the word says that it is done, the marks are those that were wanted, and
 -- `back` is kept to go back
 pub record RestoresTo (l : Live) (query : Query) (kept : Kept) (way : Way) (wanted : List (List (List Bool))) (back : Step) (result : FrontTurn) : Type 0 where
   pub deeds : List Deed
@@ -22,7 +22,7 @@ pub record RestoresTo (l : Live) (query : Query) (kept : Kept) (way : Way) (want
   pub turn : Turn
   pub new : Kept
   pub is : result ≡ front_of turn query new
-  pub leads : RoundLeads l deeds (selection_of l) calls turn
+  pub leads : QuietRound l deeds (selection_of l) calls turn
   pub keeps : KeepsAs kept kept.anchor new.word new
   pub done : new.word ≡ done_word way → HasMarks turn wanted
   pub returns : new.word ≡ done_word way → Returns way (steps_of way kept.history) back kept.history new.history

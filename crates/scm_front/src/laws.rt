@@ -22,7 +22,7 @@ ghost use Rattle.scm_front.specs.Presses.{PressesLead};
 ghost use Rattle.scm_types.specs.declared.keys.SelectionKey.{SelectionKey};
 ghost use Rattle.scm_front_items.specs.declared.places.Place.{Place};
 ghost use Rattle.scm_front_items.specs.Targets.{after_deeds};
-ghost use Rattle.scm_front.specs.Deeds.{RoundLeads};
+ghost use Rattle.scm_front.specs.Scrolling.{QuietRound};
 ghost use Rattle.scm_front.specs.Free.{IsFree};
 ghost use Rattle.scm_front.specs.Fronts.{Does, FrontPath, Input, beneath_of, files_of, is_restoring, marks_of, range_deeds, selection_of};
 ghost use Rattle.scm_front.specs.Recording.{Recalls};
@@ -91,7 +91,7 @@ pub fn logged_calls_are_runs()
 /// This is a law: the function does nothing, and is there for its contract.
 pub fn ranges_are_toggles()
     ensures { (l last : Live) (anchor : SelectionKey) (calls : List Call) → IsFree l
-        → RoundLeads l (range_deeds l anchor) (selection_of l) calls (Waiting last)
+        → QuietRound l (range_deeds l anchor) (selection_of l) calls (Waiting last)
         → files_of last ≡ after_deeds (files_of l) (range_deeds l anchor) }
 {}
 

@@ -30,7 +30,6 @@ use crate::accepted::AcceptedState;
 use crate::actions::{Action, Mode, OwnKey, action_of, has_key};
 use crate::asking::{Query, Typing, after_typing, new_query, with_word};
 use crate::begun::{Begun, BegunEdit, BegunTurn};
-use crate::deeds::do_round;
 use crate::kept::{Kept, Notice};
 use crate::logging::Logging;
 use crate::marking::{
@@ -39,6 +38,7 @@ use crate::marking::{
 };
 use crate::presses::press_each;
 use crate::recording::{Author, history_after, runs_before, runs_before_all};
+use crate::scrolling::do_quiet_round;
 use crate::starting::{Folds, fold_at_start, select_first};
 use scm_front_items::{History, Place, Run, Step, Way, is_towards, item_around};
 use scm_record::keys::is_key;
@@ -356,7 +356,7 @@ fn given_up<'state>(
 {
     let kept = without_steps(kept);
     let back = selection_of(&beneath);
-    let turn = do_round(beneath, &[], back)?;
+    let turn = do_quiet_round(beneath, &[], back)?;
     Ok(front_turn(turn, query, kept))
 }
 
@@ -744,7 +744,7 @@ impl<'state> Front<'state> {
         let before = runs_of_range(kept.alloc, &beneath, anchor);
         let deeds = range_deeds(kept.alloc, &beneath, anchor)?;
         let back = selection_of(&beneath);
-        let turn = do_round(beneath, deeds.as_slice(), back)?;
+        let turn = do_quiet_round(beneath, deeds.as_slice(), back)?;
         let kept = anchored(
             recorded(kept, Author::User, before, &turn),
             SelectionKey::None,

@@ -18,6 +18,7 @@ mod logging;
 mod marking;
 mod presses;
 mod recording;
+mod scrolling;
 mod starting;
 mod typed;
 

@@ -11,9 +11,11 @@ ghost use Rattle.scm_front.specs.Deeds.{SomeDeedsLead, SomeRoundLeads};
 ghost use Rattle.scm_front.specs.Driving.{turn_of};
 ghost use Rattle.scm_front.specs.Fronts.{HasMarks, destination, files_of, range_deeds, selection_of};
 ghost use Rattle.scm_front.specs.Recording.{back_of};
+ghost use Rattle.scm_front.specs.Scrolling.{SomeQuietRound};
 
 use crate::begun::{Begun, BegunTurn};
 use crate::deeds::{do_deeds, do_round};
+use crate::scrolling::scroll_back;
 use scm_front_items::places::moved_to;
 use scm_front_items::plans::{self, Part};
 use scm_front_items::{Deed, Marks, Place, Run, Step, ranges, runs, steps};
@@ -209,7 +211,7 @@ fn last_part<'state>(
 
 /// Sets the marks of `session` to `wanted` by toggles, folds again what that unfolds, and selects what is
 /// selected now again.
-pub(crate) fn restore<'state>(
+fn restore_marks<'state>(
     alloc: Global,
     session: Begun<'state>,
     wanted: &Marks,
@@ -225,6 +227,22 @@ pub(crate) fn restore<'state>(
         BegunTurn::Editing(editing) => Ok(BegunTurn::Editing(editing)),
         BegunTurn::Accepted(state) => Ok(BegunTurn::Accepted(state)),
     }
+}
+
+/// Sets the marks of `session` to `wanted`, as `restore_marks` does, and scrolls back to where the screen
+/// began.
+pub(crate) fn restore<'state>(
+    alloc: Global,
+    session: Begun<'state>,
+    wanted: &Marks,
+) -> Result<BegunTurn<'state>, RecordError>
+    ensures ok { IfOk result (λ turn.
+        SomeQuietRound session.entry (selection_of session.entry) (turn_of turn)) }
+    ensures err { IfErr result (λ e. e ≡ OutOfMemory) }
+{
+    let scroll = session.live().scroll();
+    let turn = restore_marks(alloc, session, wanted)?;
+    scroll_back(turn, scroll)
 }
 
 /// Returns whether the session of `turn` waits with exactly the marks `wanted`.

@@ -4,7 +4,7 @@ use Rattle.scm_record.specs.declared.live.Turn.TheVariants.{Editing, Accepted}
 use Rattle.scm_front.specs.Driving.{turn_of}
 use Rattle.scm_front.specs.Fronts.{selection_of}
 use Rattle.scm_front.proofs.DeedLemmas.{part-leaves, parts-lead}
-use Rattle.scm_front.proofs.marking.restore.Goals as goal
+use Rattle.scm_front.proofs.marking.restore_marks.Goals as goal
 
 pub returns-in-Waiting-clause-ok : goal.returns-in-Waiting-clause-ok
 returns-in-Waiting-clause-ok c =
