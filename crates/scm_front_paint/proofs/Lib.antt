@@ -26,3 +26,5 @@ pub mod LabelLemmas
 pub mod HeaderLemmas
 -- the cells of a view
 pub mod ViewCellLemmas
+-- the status row alone
+pub mod StatusRowLemmas

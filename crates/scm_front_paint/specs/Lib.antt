@@ -42,3 +42,5 @@ pub mod Restyling
 pub mod ShownView
 -- a view as cells
 pub mod ViewCells
+-- the status row of a view, as a program reads it
+pub mod StatusRow
