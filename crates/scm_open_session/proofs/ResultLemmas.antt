@@ -36,6 +36,6 @@ pub text_closed : (old : Option OpenSession) → old ≡ None → IsCode (is_som
 text_closed old e = rw e IsCode.known
 
 pub writes_text : (old : Option OpenSession) (h before : OpenSession) (text : List ℕ) (out new : List ℕ) (answer : ℕ)
-    → old ≡ Some h → before ≡ h → IsText before.stage text → answer ≡ length text → new ≡ over text out → Writes old out new answer
+    → old ≡ Some h → before ≡ h → IsText before.stage before.painter text → answer ≡ length text → new ≡ over text out → Writes old out new answer
 writes_text old h before text out new answer e f is l w =
-    record { text = text; is_read = rw e (IsRead.of_stage (subst (λ (x : OpenSession). IsText x.stage text) f is)); length_told = l; written = w }
+    record { text = text; is_read = rw e (IsRead.of_stage (subst (λ (x : OpenSession). IsText x.stage x.painter text) f is)); length_told = l; written = w }

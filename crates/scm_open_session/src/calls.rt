@@ -5,7 +5,7 @@ ghost use Rattle.scm_open_session.specs.Boxes.{box_value};
 ghost use Rattle.scm_open_session.specs.Stages.{Begins, ChangesStage, Clicks, HandsIn, Idles, IsOpenAt, ChangesDecoder, Presses, Resizes, Says, Types, code_of_session, end_of_session};
 ghost use Rattle.scm_c_values.specs.Screens.{screen_of};
 ghost use Rattle.scm_c_values.specs.Codes.{IsCode, code_of_json, is_message, words_of_code};
-ghost use Rattle.scm_open_session.specs.Results.{Writes, code_of_answer, code_of_call, code_of_press, code_of_repaint, symbol_of_session, is_session_waiting};
+ghost use Rattle.scm_open_session.specs.Results.{Writes, code_of_answer, code_of_call, code_of_press, code_of_repaint, is_session_waiting};
 ghost use Rattle.scm_c_values.specs.Pieces.{event_of_bytes, events_of_bytes};
 ghost use Rattle.scm_c_values.specs.Buffers.{over};
 ghost use Rattle.scm_open_session.specs.Owners.{key_of_session, owner_of_session, selected_of_session};
@@ -316,8 +316,8 @@ pub fn repaint(session: &mut Session) -> u32
 }
 
 /// Writes to `out` the text of the stage, clipped to the length of `out`, and its whole length in
-/// bytes to `written`: the screen's rows, the message to edit, the accepted state and its sides, or
-/// the error. Returns the code of the call.
+/// bytes to `written`: the screen's rows with a layer's status row, the message to edit, the accepted
+/// state and its sides, or the error. Returns the code of the call.
 pub fn text(alloc: Global, session: &Session, out: &mut [u8], written: &mut usize) -> u32
     ensures code { IsCode (is_some (box_value session.now))
         (code_of_repaint (box_value session.now)) result }
@@ -371,19 +371,6 @@ pub fn selected(session: &Session, key: &mut Key) -> u32
             None => codes::NOT_NOW,
         },
         None => codes::CLOSED,
-    }
-}
-
-/// Writes to `out` the symbol that begins at `row` and `column` of the screen, both counted from 0,
-/// clipped to the length of `out`. Returns the whole length, in bytes.
-pub fn symbol(session: &Session, row: u16, column: u16, out: &mut [u8]) -> usize
-    ensures len { result ≡ length (symbol_of_session (box_value session.now) row column) }
-    ensures written { out.new
-        ≡ over (symbol_of_session (box_value session.now) row column) out.old }
-{
-    match session {
-        Some(inner) => write_text(inner.symbol(row, column).as_bytes(), out),
-        None => write_text(&[], out),
     }
 }
 

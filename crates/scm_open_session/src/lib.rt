@@ -17,6 +17,7 @@ mod own_keys;
 pub mod painters;
 pub mod question_calls;
 pub mod running;
+pub mod screen_calls;
 pub mod select_calls;
 pub mod state_calls;
 pub mod structure_calls;

@@ -5,7 +5,7 @@ ghost use Rattle.scm_open_session.specs.declared.open_session.Stage.TheVariants.
 ghost use Rattle.scm_open_session.specs.Stages.{Begins, Clicks, Idles, Presses, Resizes, Says, Types, click_at, is_editing, code_of_stage, end_of_stage, is_waiting};
 ghost use Rattle.scm_c_values.specs.Screens.{screen_of};
 ghost use Rattle.scm_c_values.specs.Codes.{IsCode, code_of_json, done_code};
-ghost use Rattle.scm_open_session.specs.Results.{IsText, symbol_of_stage};
+ghost use Rattle.scm_open_session.specs.Results.{IsText};
 ghost use Rattle.scm_open_session.specs.Owners.{key_of_stage, owner_of_stage, selected_of_stage};
 ghost use Rattle.scm_open_session.specs.Paint.{ForgetsOpen, Updates, UpdatesStage};
 ghost use Rattle.scm_open_session.specs.Painters.{AreNew};
@@ -25,6 +25,7 @@ use crate::running::{
     MessageEdit, Running, after_batch, after_bytes, after_event, after_message, after_silence,
     try_resize,
 };
+use crate::screen_calls::running_text;
 use scm_c_values::additions::add_to_builder;
 use scm_c_values::buffers::write_text;
 use scm_c_values::codes;
@@ -580,15 +581,15 @@ impl OpenSession {
         self.painter.forget();
     }
 
-    /// Returns the text of the stage: the screen's rows, the message to edit, the error's sentence,
-    /// or the accepted state. With the accepted state come each file's two sides. It is empty while
+    /// Returns the text of the stage: the screen's rows with a layer's status row, the message to edit, the
+    /// error's sentence, or the accepted state. With the accepted state come each file's two sides. It is empty while
     /// the state is made. Returns `None` if an allocation failed.
     pub fn text(&self, alloc: Global) -> Option<String>
-        ensures { IfSome result (λ text. IsText self.now.stage (string_bytes text)) }
+        ensures { IfSome result (λ text. IsText self.now.stage self.now.painter (string_bytes text)) }
     {
         match &self.stage {
             Stage::Building(_) => Some(String::new(alloc)),
-            Stage::Waiting(session) => session.live().grid().view().ok(),
+            Stage::Waiting(session) => running_text(alloc, session, &self.painter),
             Stage::Editing(edit) => String::from_str(alloc, edit.live().message()).ok(),
             Stage::Accepted(accepted) => accepted_text(alloc, accepted.state()),
             Stage::Ended(error) => sentence(alloc, error),
@@ -619,21 +620,6 @@ impl OpenSession {
         match &self.stage {
             Stage::Waiting(session) => Some(Key::of_item(session.live().view_state().selection)),
             Stage::Building(_) | Stage::Editing(_) | Stage::Accepted(_) | Stage::Ended(_) => None,
-        }
-    }
-
-    /// Returns the symbol that begins at `row`, `column` of the screen, or the empty text. Both
-    /// count from 0.
-    pub fn symbol(&self, row: u16, column: u16) -> &str
-        ensures { result.now ≡ symbol_of_stage self.now.stage row column }
-    {
-        match &self.stage {
-            Stage::Waiting(session) => {
-                let grid = session.live().grid();
-                let symbol = grid.symbol(row as usize, session.offset() as usize + column as usize);
-                symbol.unwrap_or("")
-            }
-            Stage::Building(_) | Stage::Editing(_) | Stage::Accepted(_) | Stage::Ended(_) => "",
         }
     }
 }

@@ -8,7 +8,7 @@ pub returns-in-Some-text-clause-text : goal.returns-in-Some-text-clause-text
 returns-in-Some-text-clause-text c = λ done.
     writes_text (box_value c.args.session.now) c.in-Some.inner.value c.deref.result.now c.as_bytes.result.now c.args.out.now c.write_text.new.out c.write_text.result
     (ap box_value c.in-Some.is) c.deref.ensures
-    (subst (λ (bytes : List ℕ). IsText c.deref.result.now.stage bytes) (sym c.as_bytes.ensures.value) c.in-Some-text.ensures)
+    (subst (λ (bytes : List ℕ). IsText c.deref.result.now.stage c.deref.result.now.painter bytes) (sym c.as_bytes.ensures.value) c.in-Some-text.ensures)
     c.write_text.ensures.len c.write_text.ensures.written
 
 pub returns-in-Some-text-clause-code : goal.returns-in-Some-text-clause-code
