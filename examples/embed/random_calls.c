@@ -34,7 +34,7 @@ static gabro_session session, twin;
 static uint64_t seed;
 static unsigned long counts[CODES];
 static bool may_lack_memory;
-static bool has_labels; /* headers may show labels, which `gabro_symbol` does not tell */
+static bool has_labels; /* headers may show labels, which `gabro_symbol` and `gabro_text` do not tell */
 static char long_text[LONGEST + 2];
 
 static uint32_t random_below(uint32_t limit) {
@@ -426,15 +426,28 @@ static uint32_t answer(void) {
     return one_of(is_long ? gabro_answer(&session, long_text, LONGEST + 1) : gabro_answer(&session, text, length), wanted, wanted, wanted);
 }
 
-/* Looks that a cell has the symbol of its place, or that it is on the last row, which may be a status row. */
+/* Looks that a cell has the symbol of its place, also on the status row. The last row has no label. */
 static void check_cell(const gabro_cell *cell, const char *text, size_t place, const gabro_screen_info *info) {
     static char symbol[ROOM];
     size_t row = place / info->columns, column = place % info->columns;
     size_t length = gabro_symbol(&session, (uint16_t)row, (uint16_t)column, symbol, sizeof symbol);
     bool is_it = length == cell->length && memcmp(symbol, text + cell->start, length) == 0;
-    assert(is_it || has_labels || (row + 1 == info->rows && length == 0));
+    assert(is_it || (has_labels && row + 1 < info->rows));
     assert(cell->foreground <= GABRO_WHITE && cell->background == GABRO_COLOUR_NONE && cell->flags < 16);
     assert(cell->length > 0 ? cell->columns > 0 && column + cell->columns <= info->columns : cell->columns == 0 && cell->flags == 0);
+}
+
+/* Looks that the text of the screen ends with the last row of its cells. */
+static void check_last_row(const gabro_cell *cells, const char *text, const gabro_screen_info *info) {
+    static char all[16 * ROOM], row[4 * ROOM];
+    size_t length = 77, end = 0;
+    assert(gabro_text(&session, all, sizeof all, &length) == GABRO_DONE && length <= sizeof all);
+    for (size_t place = info->columns * (info->rows - 1); place < info->columns * info->rows; place++) {
+        memcpy(row + end, text + cells[place].start, cells[place].length);
+        end += cells[place].length;
+    }
+    assert(length >= end + 3 && all[length - end - 3] == '"' && memcmp(all + length - end - 2, row, end) == 0);
+    assert(memcmp(all + length - 2, "\"\n", 2) == 0);
 }
 
 /* Reads the screen as cells, into buffers that may be too short. */
@@ -462,6 +475,9 @@ static uint32_t read_cells(void) {
         }
     }
     assert(places > count || begins == length);
+    if (places > 0 && places <= count && length <= room) {
+        check_last_row(cells, text, &info);
+    }
     for (size_t i = length < room ? length : room; i < sizeof text; i++) {
         assert(text[i] == GUARD);
     }

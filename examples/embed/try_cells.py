@@ -44,6 +44,17 @@ def check(session, width, height, where):
                 assert column not in painted, (where, row, column)
 
 
+def check_symbols(session, width, is_whole, where):
+    """Compares the cells with the symbols that are asked for one by one and with the text of the screen: all of them if `is_whole`, and
+    else those of the last row."""
+    rows = [[cell.symbol for cell in cells] for cells in session.cells()]
+    first = 0 if is_whole else len(rows) - 1
+    for row in range(first, len(rows)):
+        assert rows[row] == [session.symbol(row, column) for column in range(width)], (where, row)
+    assert session.text().endswith('"%s"\n' % "".join(rows[-1])), where
+    assert session.symbol(len(rows), 0) == session.symbol(len(rows) - 1, width) == "", where
+
+
 def empty():
     """Returns the place where no symbol begins."""
     return scm.Cell("", 0, scm.Colour.NONE, scm.Colour.NONE, False, False, False, False)
@@ -75,18 +86,19 @@ def main():
                 session.begin(width, height)
                 session.press(*words.split())
                 check(session, width, height, (width, height, words))
-                # a row without the status row is as `symbol` says
-                for row, cells in enumerate(session.cells()):
-                    assert [cell.symbol for cell in cells] == [session.symbol(row, column) for column in range(width)], (width, height, words)
+                check_symbols(session, width, True, (width, height, words))
         for theme in scm.THEMES:
             for words, typed in ((words, typed) for words in WORDS[:4] for typed in TYPED):
                 with made() as session:
                     session.begin_layer(width, height)
                     session.paint_in(theme)
-                    session.label(0, 2, "theirs \u4e2d")
                     session.say_of_accepting("c commits")
                     session.press(*words.split())
                     session.type(typed)
+                    # with labels too, which `symbol` and `text` leave out, the status row is theirs
+                    check_symbols(session, width, True, (width, height, theme, words, typed))
+                    session.label(0, 2, "theirs \u4e2d")
+                    check_symbols(session, width, False, (width, height, theme, words, typed))
                     check(session, width, height, (width, height, theme, words, typed))
     with made() as session:
         assert is_refused(session) == "not_now"

@@ -88,10 +88,10 @@ def refused(call, *arguments):
     return None
 
 
-def is_no_number(call, *arguments):
+def is_no_number(call, *arguments, **named):
     """Returns whether a call raises ValueError."""
     try:
-        call(*arguments)
+        call(*arguments, **named)
     except ValueError:
         return True
     return False
@@ -141,7 +141,10 @@ def drive_a_layer():
         session.press("space", "c")
         assert session.end == "accepted" and session.marks(0) == [False, False, True] and refused(session.paint_in, "dark") == "not_now"
     with scm.Session.of_json(json.dumps(WANTED), 80, 24, has_layer=True) as session:
-        assert session.symbol(23, 0) == "" and session.text().count("\n") == 23
+        # the status row is the last one, which clicks and words do not count
+        checked = [line["is_checked"] for file in WANTED["files"] for part in file["sections"] for line in part.get("Changed", {}).get("lines", [])]
+        last = "".join(session.symbol(23, column) for column in range(80))
+        assert len(last) == 80 and f"lines: {sum(checked)}, files: " in last and session.text().split("\n")[23:] == [f'"{last}"', ""]
         session.start()
         session.type("\x03\x03")
         assert session.end == "cancelled"
@@ -250,6 +253,19 @@ def check_numbers():
         for call in (session.side, session.side_bytes, session.marks, session.message, session.mark):
             assert is_no_number(call, 1 << 64) and is_no_number(call, -1) and refused(call, 1) == "no_item"
         assert is_no_number(session.line, 0, 0, 1 << 64) and is_no_number(session.add_mode, 1 << 64)
+        for number in (-1, 1 << 64, -(1 << 63)):
+            for call in (session.path, session.old_path, session.item, session.run, scm.words):
+                assert is_no_number(call, number)
+            for call in (session.mark, session.item, session.line):
+                assert all(is_no_number(call, *(number if place == at else 0 for at in range(3))) for place in range(3))
+            assert all(is_no_number(session.select, scm.Key(*(number if place == at else 0 for at in range(4)))) for place in range(4))
+            assert is_no_number(session.label, number, 0, "x") and is_no_number(session.label, 0, number, "x")
+            assert is_no_number(session.set_marks, number, [True]) and is_no_number(session.add_file, "g", number)
+            assert is_no_number(session.add_texts, "g", "a", "b", old_mode=number) and is_no_number(session.add_texts, "g", "a", "b", new_mode=number)
+            assert all(is_no_number(scm.tree_shown, *(number if place == at else 0 for at in range(3))) for place in range(3))
+            for place in range(3):
+                assert is_no_number(scm.tree_side, 0, 0, 0, tuple(number if place == at else 0 for at in range(3)))
+            assert is_no_number(scm.marked_bytes, b"a", b"b", b"c", [], marker_length=number)
         assert (session.text(), session.selected) == (before, selected)
         assert refused(session.start, scm.Folds.ALL_OPEN, scm.Key(0, 0, 0, 0)) == "not_now"
         assert is_no_number(session.start, "all_open", scm.Key(0, 1 << 64, 0, 0))
@@ -464,7 +480,9 @@ def check_replay():
         session.resize(50, 12)
         session.type(b"/w\r ")
         replay(again, session.logged())
-        assert (again.text(), again.selected, sides_of(again)) == (session.text(), session.selected, sides_of(session))
+        # below the rows of the session the layer has its status row
+        rows = again.text().split("\n")[:-1]
+        assert session.text().split("\n")[:-2] == rows and (again.selected, sides_of(again)) == (session.selected, sides_of(session))
         session.press("c")
         replay(again, session.logged().splitlines()[-1])
         assert again.stage == scm.ACCEPTED and sides_of(again) == sides_of(session) and again.message() == "second"

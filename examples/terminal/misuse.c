@@ -344,6 +344,25 @@ static void take_bytes(void) {
     assert(reads("cancelled by user") && gabro_dialog(&session) == GABRO_NO_DIALOG);
 }
 
+/* The status row is told as the rows above it are: by its symbols, and as the last row of the text. It takes memory to tell it. */
+static void tell_status_row(void) {
+    static const char row[] = "\"f   lines: 1, files: 1  \"\n";
+    char symbol[8] = "zz";
+    assert(before.length > HEIGHT * (WIDTH + 3) && memcmp(before.text + before.length - (WIDTH + 3), row, WIDTH + 3) == 0);
+    for (uint16_t column = 0; column < WIDTH; column++) {
+        assert(gabro_symbol(&session, HEIGHT, column, symbol, sizeof symbol) == 1 && symbol[0] == row[column + 1] && symbol[1] == 'z');
+    }
+    assert(gabro_symbol(&session, HEIGHT, WIDTH, symbol, sizeof symbol) == 0 && gabro_symbol(&session, HEIGHT + 1, 0, symbol, sizeof symbol) == 0);
+#ifdef __GLIBC__
+    size_t length = 77;
+    is_refused = true;
+    size_t on_status_row = gabro_symbol(&session, HEIGHT, 4, symbol, sizeof symbol), above_it = gabro_symbol(&session, 0, 1, symbol, 1);
+    uint32_t code_of_text = gabro_text(&session, symbol, sizeof symbol, &length);
+    is_refused = false;
+    assert(on_status_row == 0 && above_it == 1 && symbol[0] == 'F' && code_of_text == GABRO_NO_MEMORY && length == 77);
+#endif
+}
+
 /* With a layer, keys, clicks and places are those of the terminal, whose last row is the status row. */
 static void take_layer(void) {
     gabro_key key = {0, 0, 0, 0};
@@ -351,7 +370,8 @@ static void take_layer(void) {
     size_t length = strlen(STATE);
     done(gabro_new_layer(&session, STATE, length, WIDTH, HEIGHT + 1), GABRO_WAITING);
     assert(is_owner(2, 1, GABRO_BUTTON, 0, GABRO_NO_INDEX, GABRO_NO_INDEX, GABRO_NO_INDEX));
-    assert(owner(HEIGHT, 0).code == GABRO_NOBODY && gabro_symbol(&session, HEIGHT, 0, out, sizeof out) == 0);
+    assert(owner(HEIGHT, 0).code == GABRO_NOBODY);
+    tell_status_row();
     refuse_logged(GABRO_NOT_NOW);
     refused(gabro_log(&session), GABRO_DONE);
     check_logged("size 24 4\n");
@@ -362,7 +382,7 @@ static void take_layer(void) {
     refused(gabro_keys(&session, "x=undo x", 8), GABRO_NO_KEY);
     refused(gabro_keys(&session, "=j", 2), GABRO_NO_KEY);
     refused(gabro_theme(&session, GABRO_NO_COLOURS), GABRO_DONE);
-    refused(gabro_accept_text(&session, "c stages", 8), GABRO_DONE);
+    done(gabro_accept_text(&session, "c stages", 8), GABRO_WAITING); /* the status row says so, if it has room */
     refused(gabro_keys(&session, "ctrl-x=j  x=undo", 16), GABRO_DONE);
     done(gabro_start(&session, GABRO_ALL_OPEN, &key), GABRO_WAITING);
     assert(ask_selected(&key) == GABRO_DONE && key.file == 0 && key.section == 0 && key.line == 0);

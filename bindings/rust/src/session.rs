@@ -936,8 +936,8 @@ impl Session {
         Ok(Key::from(key))
     }
 
-    /// Returns the symbol that begins at a place of the screen. It is empty at the second column of a wide symbol, and outside
-    /// the screen.
+    /// Returns the symbol that begins at a place of the screen, also on the status row of a layer. It is empty at the second column of
+    /// a wide symbol, and outside the screen; on the status row also if an allocation failed.
     #[must_use]
     pub fn symbol(&self, row: u16, column: u16) -> String {
         let symbol = bytes_of(SYMBOL_ROOM, |out, room, length| {
@@ -947,8 +947,8 @@ impl Session {
         symbol.map(text).unwrap_or_default()
     }
 
-    /// Returns the text of the stage: the rows of the screen, each in quotes; the message before an edit; the sentence of an
-    /// error; or a report of what is accepted.
+    /// Returns the text of the stage: the rows of the screen, each in quotes, with the status row of a layer below them; the message
+    /// before an edit; the sentence of an error; or a report of what is accepted.
     ///
     /// # Errors
     ///

@@ -147,7 +147,13 @@ fn calls_beneath_a_layer_are_logged() {
 fn a_state_in_json_has_a_layer() {
     let json = r#"{"is_read_only":false,"commits":[{"message":null}],"files":[]}"#;
     let mut session = Session::layer_of_json(json, 40, 8).unwrap();
-    assert_eq!(session.text().unwrap().lines().count(), 7);
+    // the status row is the last one
+    let last: String = (0..40).map(|column| session.symbol(7, column)).collect();
+    let text = session.text().unwrap();
+    assert_eq!(text.lines().count(), 8);
+    assert_eq!(text.lines().last(), Some(&*format!("\"{last}\"")));
+    assert!(last.contains("lines: 0, files: 0"), "{last}");
+    assert_eq!(session.symbol(8, 0), "");
     session.press("q").unwrap();
     assert_eq!(session.end(), Some(End::Cancelled));
 }

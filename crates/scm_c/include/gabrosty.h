@@ -75,8 +75,8 @@
  *
  *     A code is never a length. A call that returns a code writes a length to its own parameter (`written`, `count`,
  *     `side->length`), and only if the code is GABRO_DONE: ask for the code first, since any call that takes memory may fail.
- *     gabro_symbol and gabro_words return a length, and cannot fail. With GCC and Clang, GABRO_USE_CODE makes the compiler warn of a
- *     caller who drops the code of a call that writes a length.
+ *     gabro_symbol and gabro_words return a length. gabro_words cannot fail, and gabro_symbol only on the status row of a layer. With GCC
+ *     and Clang, GABRO_USE_CODE makes the compiler warn of a caller who drops the code of a call that writes a length.
  *
  * VERSION
  *     GABRO_VERSION is that of this header, and gabro_version returns that of the library. Within one major version a program
@@ -370,9 +370,9 @@ uint32_t gabro_new(gabro_session *session, const char *json, size_t length, uint
  * one. Without such a call there is no layer.
  *
  * The last row of the terminal is the status row. The other rows show the session's screen, from a column on that the user
- * chooses: `gabro_owner`, `gabro_symbol` and `gabro_click` take places of the terminal, and the status row is nobody's. Words
- * ("click:3:7") are events of the session beneath, so a click in a word is at a column of its whole screen, which `gabro_text`
- * writes. `gabro_type_to_key` tells keys that mean something to the layer too, but none while it asks for a text: then it hears all
+ * chooses: `gabro_owner`, `gabro_symbol` and `gabro_click` take places of the terminal. The status row is nobody's: `gabro_symbol`,
+ * `gabro_text` and `gabro_cells` tell it, too. Words ("click:3:7") are events of the session beneath, so a click in a word is at a column
+ * of its whole screen, which `gabro_text` writes. `gabro_type_to_key` tells keys that mean something to the layer too, but none while it asks for a text: then it hears all
  * keys. What words and clicks change is not the user's to undo: if marks change, nothing before is undone either. */
 
 /* Begins the session as `gabro_begin` does, with a layer, on a terminal of `width` columns and `height` rows.
@@ -616,14 +616,15 @@ GABRO_USE_CODE uint32_t gabro_selected(const gabro_session *session, gabro_key *
 
 /* Writes the symbol that begins at `row`, `column` of the screen to `out`, clipped to `length` bytes.
  *
- * Returns the whole length in bytes. Returns 0 at the second column of a wide symbol, outside the screen, on the status row of a
- * layer, and while the session waits for no event. */
+ * Returns the whole length in bytes. Returns 0 at the second column of a wide symbol, outside the screen, and while the session waits for
+ * no event. The status row of a layer is the row below the session's rows. It takes memory to tell it: if an allocation fails, the
+ * call returns 0 there. */
 size_t gabro_symbol(const gabro_session *session, uint16_t row, uint16_t column, char *out, size_t length);
 
 /* Writes the text of the session's stage to `out`, clipped to `length` bytes, and the whole length in bytes to `written`.
  *
- * The text of GABRO_WAITING is the screen's rows, without the status row of a layer, each in quotes and with a line end; of
- * GABRO_EDITING the message before the edit; of GABRO_ENDED the error's sentence ("cancelled by user" if the user cancelled). That of
+ * The text of GABRO_WAITING is the screen's rows, each in quotes and with a line end, and below them the status row of a layer, which is
+ * as wide as the terminal; of GABRO_EDITING the message before the edit; of GABRO_ENDED the error's sentence ("cancelled by user" if the user cancelled). That of
  * GABRO_BUILDING is empty. The text of GABRO_ACCEPTED is a report for scripts: the line `accepted`, a line with the state's JSON form,
  * and three lines for each file: `file I`, `selected MODE C` and `unselected MODE C`. I is the file's index, counted from 0. The
  * last two lines are the file's two sides: MODE is octal digits or `<absent>`. C is `unchanged`, `text "T"` or `binary OLD NEW`,

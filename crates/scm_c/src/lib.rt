@@ -9,7 +9,7 @@ ghost use Rattle.scm_open_session.specs.Stages.{Begins, ChangesDecoder, ChangesS
 ghost use Rattle.scm_open_session.specs.Dialogs.{dialog_of};
 ghost use Rattle.scm_c_values.specs.Screens.{screen_of};
 ghost use Rattle.scm_c_values.specs.Codes.{IsCode, code_of_json, is_message, words_of_code};
-ghost use Rattle.scm_open_session.specs.Results.{Writes, code_of_answer, code_of_call, code_of_press, code_of_repaint, is_session_waiting, symbol_of_session};
+ghost use Rattle.scm_open_session.specs.Results.{Writes, WritesOrFails, code_of_answer, code_of_call, code_of_press, code_of_repaint, is_session_waiting, is_status_row, symbol_of_session};
 ghost use Rattle.scm_c_values.specs.Pieces.{event_of_bytes, events_of_bytes};
 ghost use Rattle.scm_c_values.specs.Buffers.{over};
 ghost use Rattle.scm_open_session.specs.Owners.{key_of_session, owner_of_session, selected_of_session};
@@ -32,7 +32,7 @@ pub mod tree_calls;
 
 use crate::c_session::{CSession, give_back, take};
 use scm_c_values::owners::Key;
-use scm_open_session::{calls, dialog_calls};
+use scm_open_session::{calls, dialog_calls, screen_calls};
 use std::alloc::Global;
 
 /// Opens `session` over the state with the JSON form `json`. Its screen has `width` columns and
@@ -294,8 +294,8 @@ pub extern "C" fn gabro_repaint(alloc: Global, session: &mut CSession) -> u32
 }
 
 /// Writes to `out` the text of the stage, clipped to the length of `out`, and its whole length in
-/// bytes to `written`: the screen's rows, the message to edit, the accepted state and its sides, or
-/// the error. Returns the code of the call.
+/// bytes to `written`: the screen's rows with a layer's status row, the message to edit, the accepted
+/// state and its sides, or the error. Returns the code of the call.
 #[unsafe(no_mangle)]
 pub extern "C" fn gabro_text(
     alloc: Global,
@@ -351,7 +351,8 @@ pub extern "C" fn gabro_selected(alloc: Global, session: &mut CSession, key: &mu
 }
 
 /// Writes to `out` the symbol that begins at `row` and `column` of the screen, both counted from 0,
-/// clipped to the length of `out`. Returns the whole length, in bytes.
+/// clipped to the length of `out`. Returns the whole length, in bytes, and 0 on a layer's status row if an
+/// allocation failed.
 #[unsafe(no_mangle)]
 pub extern "C" fn gabro_symbol(
     alloc: Global,
@@ -360,13 +361,12 @@ pub extern "C" fn gabro_symbol(
     column: u16,
     out: &mut [u8],
 ) -> usize
-    ensures len { result ≡ length (symbol_of_session session.old.pointer.value row column) }
-    ensures written { out.new
-        ≡ over (symbol_of_session session.old.pointer.value row column) out.old }
+    ensures symbol { WritesOrFails (is_status_row session.old.pointer.value row)
+        (symbol_of_session session.old.pointer.value row column) out.old out.new result }
     ensures kept { session.new.pointer.value ≡ session.old.pointer.value }
 {
     let inner = take(alloc, session);
-    let len = calls::symbol(&inner, row, column, out);
+    let len = screen_calls::symbol(alloc, &inner, row, column, out);
     give_back(alloc, session, inner);
     len
 }

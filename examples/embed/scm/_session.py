@@ -320,8 +320,8 @@ class Session:
         self._call("repaint")
 
     def text(self) -> str:
-        """Returns the text of the stage: the rows of the screen, the message before an edit, the sentence of an error, or a report of
-        what is accepted."""
+        """Returns the text of the stage: the rows of the screen, with the status row of a layer below them; the message before an edit;
+        the sentence of an error; or a report of what is accepted."""
         return self._read("text").decode()
 
     # ---- at a terminal
@@ -435,7 +435,8 @@ class Session:
         return owner, key_of(key)
 
     def symbol(self, row: int, column: int) -> str:
-        """Returns the symbol that begins at a place of the screen, or nothing if none does."""
+        """Returns the symbol that begins at a place of the screen, also on the status row of a layer, or nothing if none does. On the
+        status row nothing is returned if an allocation failed, too."""
         room = 64
         while True:
             out = ctypes.create_string_buffer(room)
