@@ -6,9 +6,12 @@
  * First each request for memory of one call of `gabro_state_texts` is refused in turn. It prints how many calls had each code, and stops at
  * the first answer that is otherwise. */
 #undef NDEBUG
+#define _POSIX_C_SOURCE 200809L
 #include "gabrosty.h"
 
 #include <assert.h>
+#include <errno.h>
+#include <fcntl.h>
 #include <inttypes.h>
 #include <stdio.h>
 #include <stdlib.h>
@@ -36,6 +39,7 @@ static unsigned long counts[CODES];
 static bool may_lack_memory;
 static bool has_labels; /* headers may show labels, which `gabro_symbol` and `gabro_text` do not tell */
 static char long_text[LONGEST + 2];
+static int nowhere; /* an open file that is no terminal */
 
 static uint32_t random_below(uint32_t limit) {
     seed = seed * 6364136223846793005u + 1442695040888963407u;
@@ -144,7 +148,9 @@ static uint64_t structure_sum(uint64_t sum, size_t file) {
 static uint64_t asked(void) {
     uint32_t stage = gabro_stage(&session), code;
     uint64_t sum = mixed(0, &stage, sizeof stage);
-    uint32_t end = gabro_end(&session);
+    uint32_t end = gabro_end(&session), dialog = gabro_dialog(&session);
+    assert(dialog <= GABRO_HELP && (stage == GABRO_WAITING || dialog == GABRO_NO_DIALOG));
+    sum = mixed(sum, &dialog, sizeof dialog);
     assert(end <= GABRO_END_NO_MEMORY && (end == GABRO_END_ACCEPTED) == (stage == GABRO_ACCEPTED));
     assert((end >= GABRO_END_CANCELLED) == (stage == GABRO_ENDED));
     gabro_key selected;
@@ -484,6 +490,31 @@ static uint32_t read_cells(void) {
     return code;
 }
 
+/* Has the session run on an open file that is no terminal, or on none: the call says so, at any stage, and the session is as it was. */
+static uint32_t run_nowhere(void) {
+    gabro_hooks hooks = {NULL, NULL, NULL, NULL};
+    refused_after = 0; /* what it asks takes memory */
+    uint64_t before = asked();
+    int terminal = random_below(2) ? -1 : nowhere, end = random_below(2) ? gabro_run(&session, terminal, NULL)
+                                                                       : gabro_run_with(&session, terminal, "a title", random_below(2) ? &hooks : NULL);
+    assert(end == -1 && errno == (terminal == -1 ? EBADF : ENOTTY) && asked() == before);
+    counts[GABRO_DONE]++;
+    return GABRO_DONE;
+}
+
+/* Asks for the sentences of codes, and for the version. */
+static uint32_t read_words(void) {
+    char out[ROOM];
+    uint32_t code = random_below(CODES + 3);
+    size_t room = random_below(2) ? random_below(20) : ROOM;
+    memset(out, GUARD, sizeof out);
+    size_t length = gabro_words(code, out, room);
+    assert((length > 0) == (code < CODES) && gabro_version() == GABRO_VERSION);
+    check_buffer(out, room, length, true);
+    counts[GABRO_DONE]++;
+    return GABRO_DONE;
+}
+
 /* Reads into a buffer that may be too short. */
 static uint32_t read_out(void) {
     static char out[ROOM];
@@ -491,9 +522,9 @@ static uint32_t read_out(void) {
     uint32_t stage = gabro_stage(&session), wanted = stage == GABRO_NONE ? GABRO_CLOSED : GABRO_DONE;
     gabro_key key;
     memset(out, GUARD, sizeof out);
-    uint32_t which = random_below(5), code;
-    if (which == 4) {
-        return read_cells();
+    uint32_t which = random_below(7), code;
+    if (which >= 4) {
+        return which == 4 ? read_cells() : which == 5 ? run_nowhere() : read_words();
     }
     if (which == 0) {
         code = one_of(gabro_text(&session, out, room, &length), wanted, wanted, wanted);
@@ -751,6 +782,8 @@ int main(int argc, char **argv) {
     unsigned long count = argc > 1 ? strtoul(argv[1], NULL, 10) : 100000;
     seed = argc > 2 ? strtoull(argv[2], NULL, 10) : 1;
     memset(long_text, 'x', sizeof long_text);
+    nowhere = open("/dev/null", O_RDWR);
+    assert(nowhere >= 0);
     if (CAN_REFUSE) {
         refuse_texts();
     }

@@ -705,6 +705,68 @@ static void end_by_memory(void) {
 static void end_by_memory(void) {}
 #endif
 
+/* Asks for an item, for a path and for a message, and looks that a call that is refused wrote nothing. */
+static void ask_structure(const gabro_key *key, uint32_t code_of_item, bool is_old, uint32_t code_of_path, size_t commit, uint32_t code_of_message) {
+    uint32_t kind = 77;
+    size_t parts = 77, length = 77;
+    char out[] = "............";
+    refused(gabro_item(&session, key, &kind, &parts), code_of_item);
+    assert(code_of_item == GABRO_DONE ? kind == GABRO_FILE && parts == 1 : kind == 77 && parts == 77);
+    refused(gabro_path(&session, key->file, is_old, out, sizeof out, &length), code_of_path);
+    assert(code_of_path == GABRO_DONE ? length == 1 && strcmp(out, "f...........") == 0 : length == 77 && strcmp(out, "............") == 0);
+    out[0] = '.';
+    length = 77;
+    refused(gabro_message(&session, commit, out, 2, &length), code_of_message);
+    assert(code_of_message == GABRO_DONE ? length == 5 && strcmp(out, "he..........") == 0 : length == 77 && strcmp(out, "............") == 0);
+}
+
+/* The structure of a state, and marks that are handed in, at the stages at which they are refused, and where they are not. */
+static void tell_structure(void) {
+    gabro_key first = {0, 0, GABRO_NO_INDEX, GABRO_NO_INDEX}, none = {0, 1, GABRO_NO_INDEX, GABRO_NO_INDEX}, line = {0, 0, 0, 1};
+    assert(gabro_version() == GABRO_VERSION);
+    before = look();
+    ask_structure(&first, GABRO_CLOSED, false, GABRO_CLOSED, 0, GABRO_CLOSED);
+    refused(gabro_state_section(&session, true), GABRO_CLOSED);
+    refused(gabro_state_marks(&session, 0, "\1", 1), GABRO_CLOSED);
+    done(begin(STATE), GABRO_WAITING);
+    ask_structure(&first, GABRO_DONE, false, GABRO_DONE, 0, GABRO_DONE);
+    ask_structure(&none, GABRO_NO_ITEM, false, GABRO_NO_ITEM, 2, GABRO_NO_ITEM);
+    ask_structure(&line, GABRO_NO_ITEM, true, GABRO_NO_ITEM, 1, GABRO_NO_ITEM);
+    refused(gabro_state_section(&session, true), GABRO_NOT_NOW);
+    refused(gabro_state_marks(&session, 0, "\1", 1), GABRO_NOT_NOW);
+    done(press("e"), GABRO_EDITING);
+    ask_structure(&first, GABRO_NOT_NOW, false, GABRO_NOT_NOW, 0, GABRO_NOT_NOW);
+    done(gabro_state_new(&session, false), GABRO_BUILDING);
+    refused(gabro_state_section(&session, true), GABRO_NO_ITEM);
+    refused(gabro_state_marks(&session, 0, NULL, 0), GABRO_NO_ITEM);
+    done(gabro_state_file(&session, "f", 1, "", 0, 0100644), GABRO_BUILDING);
+    done(gabro_state_section(&session, true), GABRO_BUILDING);
+    done(gabro_state_changes(&session, true, false, "a\nb\n", 4), GABRO_BUILDING);
+    refused(gabro_state_marks(&session, 0, "\1", 1), GABRO_NO_ITEM);
+    refused(gabro_state_marks(&session, 1, NULL, 0), GABRO_NO_ITEM);
+    char marks[3] = {7, 7, 7};
+    size_t count = 77;
+    assert(gabro_marks(&session, 0, marks, sizeof marks, &count) == GABRO_DONE && count == 2 && memcmp(marks, "\0\0\7", 3) == 0);
+    done(gabro_state_marks(&session, 0, "\2\1", 2), GABRO_BUILDING);
+    assert(gabro_marks(&session, 0, marks, sizeof marks, &count) == GABRO_DONE && count == 2 && memcmp(marks, "\0\1\7", 3) == 0);
+    close_session();
+}
+
+/* A run on a file that is no terminal, or on none: the call says so, and the session is as it was. */
+static void refuse_terminals(void) {
+    int nowhere = open("/dev/null", O_RDWR);
+    assert(nowhere >= 0);
+    done(begin(STATE), GABRO_WAITING);
+    int end = gabro_run_with(&session, nowhere, NULL, NULL), error = errno;
+    assert(end == -1 && error == ENOTTY);
+    refused(GABRO_DONE, GABRO_DONE);
+    close(nowhere);
+    end = gabro_run(&session, -1, NULL), error = errno;
+    assert(end == -1 && error == EBADF);
+    refused(GABRO_DONE, GABRO_DONE);
+    close_session();
+}
+
 /* ---- Null pointers, where the length is 0 ---- */
 
 static void take_null(void) {
@@ -1073,6 +1135,8 @@ int main(void) {
     refuse_messages();
     refuse_after_the_end();
     end_by_memory();
+    tell_structure();
+    refuse_terminals();
     take_null();
     decide_paths();
     decide_without_memory();

@@ -5,8 +5,11 @@
  * A shape is FILESxSECTIONSxLINES: FILES files, each of SECTIONS changed sections, each of LINES added lines. A shape
  * FILESxSECTIONSxLINES:KIND:COUNT has lines of COUNT characters in place of short ones. KIND is `letters`, `wide` (two
  * columns each), `marked` (letters, each with a combining mark) or `tabs`. FILESxSECTIONSxLINES:pairs:COUNT has lines of COUNT
- * words, removed and added in turn: the last word of an added line is not that of the removed line before it. With `,both` behind
- * it the screen shows both commits, and with `,layer` the session has the layer.
+ * words, removed and added in turn: the last word of an added line is not that of the removed line before it. With `turns` in place
+ * of `pairs` a removed line is COUNT times `a b `, and an added one COUNT times `a c `; and with `code` they are COUNT calls, of which the
+ * argument of each fourth one differs. With `,both` behind it the screen shows both commits, and with `,layer` the session has the layer.
+ *
+ * timing SHAPE first: prints the processor milliseconds of the first paint, and how many bytes it has.
  *
  * timing SHAPE COUNT PAINT WORD ..: hands in the words in turn, COUNT of them, and then prints how many bytes
  * the last paint has. PAINT is `none`, `changed` to paint after each word, `twice` to paint once more then, or `all` to paint
@@ -24,14 +27,16 @@ enum { REPEATS = 30, ROOM_OF_AN_ITEM = 120 };
 
 static gabro_session session;
 
+/* How the lines of a pair differ, if removed and added lines take turns. */
+typedef enum { NO_PAIRS, LAST_WORD, EACH_OTHER_WORD, SOME_ARGUMENTS } difference;
+
 /* What a state is made of. */
 typedef struct {
     size_t files, sections, lines;
     /* The character that each line consists of, as JSON, and how often; a line is short if it is empty. */
     const char *character;
     size_t count;
-    /* Whether removed and added lines take turns. */
-    bool has_pairs;
+    difference pairs;
     /* Whether the screen shows both commits. */
     bool shows_both;
     /* Whether the session has the layer. */
@@ -52,11 +57,11 @@ static bool is_read_as(const char *words, shape *read) {
             read->character = characters[i].character;
         }
     }
-    read->has_pairs = strcmp(kind, "pairs") == 0;
+    read->pairs = strcmp(kind, "pairs") == 0 ? LAST_WORD : strcmp(kind, "turns") == 0 ? EACH_OTHER_WORD : strcmp(kind, "code") == 0 ? SOME_ARGUMENTS : NO_PAIRS;
     const char *end = strchr(words, ',');
     read->shows_both = end && strcmp(end, ",both") == 0;
     read->has_layer = end && strcmp(end, ",layer") == 0;
-    return (numbers == 3 || (numbers == 5 && (*read->character || read->has_pairs))) && (!end || read->shows_both || read->has_layer);
+    return (numbers == 3 || (numbers == 5 && (*read->character || read->pairs))) && (!end || read->shows_both || read->has_layer);
 }
 
 static double now(void) {
@@ -66,6 +71,15 @@ static double now(void) {
 }
 
 static char *add_words(char *end, const shape *of, size_t index) {
+    for (size_t i = 0; of->pairs == EACH_OTHER_WORD && i < of->count; i++) {
+        end += sprintf(end, index % 2 ? "a c " : "a b ");
+    }
+    for (size_t i = 0; of->pairs == SOME_ARGUMENTS && i < of->count; i++) {
+        end += sprintf(end, "f%zu(%zu);", i % 7, index % 2 && i % 4 == 0 ? i + 1 : i);
+    }
+    if (of->pairs != LAST_WORD) {
+        return end;
+    }
     for (size_t i = 1; i < of->count; i++) {
         end += sprintf(end, "word ");
     }
@@ -73,7 +87,7 @@ static char *add_words(char *end, const shape *of, size_t index) {
 }
 
 static char *add_text(char *end, const shape *of, size_t index) {
-    if (of->has_pairs) {
+    if (of->pairs) {
         return add_words(end, of, index);
     }
     if (!*of->character) {
@@ -90,7 +104,7 @@ static char *add_text(char *end, const shape *of, size_t index) {
 static char *add_section(char *end, const shape *of) {
     end += sprintf(end, "{\"Changed\":{\"lines\":[");
     for (size_t i = 0; i < of->lines; i++) {
-        const char *kind = of->has_pairs && i % 2 == 0 ? "Removed" : "Added";
+        const char *kind = of->pairs && i % 2 == 0 ? "Removed" : "Added";
         end += sprintf(end, "%s{\"is_checked\":false,\"change_type\":\"%s\",\"line\":\"", i ? "," : "", kind);
         end = add_text(end, of, i);
         end += sprintf(end, "\\n\"}");
@@ -99,7 +113,7 @@ static char *add_section(char *end, const shape *of) {
 }
 
 static char *state_of(const shape *of) {
-    size_t room = ROOM_OF_AN_ITEM + (strlen(of->character) + (of->has_pairs ? 5 : 0)) * of->count;
+    size_t room = ROOM_OF_AN_ITEM + (strlen(of->character) + (of->pairs ? 13 : 0)) * of->count;
     char *json = malloc((of->files * (of->sections * (of->lines + 1) + 1) + 1) * room);
     char *end = json;
     if (!json) {
@@ -169,6 +183,18 @@ static void paint_keys(int count, const char *kind, int words, char **word) {
     printf("%zu bytes\n", length);
 }
 
+static double processor_time(void) {
+    struct timespec time;
+    clock_gettime(CLOCK_PROCESS_CPUTIME_ID, &time);
+    return (double)time.tv_sec * 1e3 + (double)time.tv_nsec / 1e6;
+}
+
+static void print_first_paint(void) {
+    double begun = processor_time();
+    size_t length = paint();
+    printf("%.2f ms %zu bytes\n", processor_time() - begun, length);
+}
+
 static void print_keys(void) {
     time_of_key("l");
     time_of_key("l");
@@ -180,7 +206,8 @@ static void print_keys(void) {
 
 int main(int argc, char **argv) {
     shape of;
-    bool is_read = (argc == 2 || argc > 4) && is_read_as(argv[1], &of);
+    bool is_first = argc == 3 && strcmp(argv[2], "first") == 0;
+    bool is_read = (argc == 2 || is_first || argc > 4) && is_read_as(argv[1], &of);
     char *json = is_read ? state_of(&of) : NULL;
     double begun = now();
     if (!json || (of.has_layer ? gabro_new_layer : gabro_new)(&session, json, strlen(json), 80, 24) != GABRO_DONE) {
@@ -192,6 +219,11 @@ int main(int argc, char **argv) {
     time_of_key("shift-F");
     if (of.shows_both) {
         time_of_key("view");
+    }
+    if (is_first) {
+        print_first_paint();
+        gabro_free(&session);
+        return 0;
     }
     if (argc > 4) {
         paint_keys(atoi(argv[2]), argv[3], argc - 4, argv + 4);
