@@ -565,9 +565,9 @@ uint32_t gabro_resize(gabro_session *session, uint16_t width, uint16_t height);
 
 /* Writes the bytes that make the terminal show the session, in colours, to `out`, if they fit into its `length` bytes, and
  * their number to `written`. The terminal has the session's size. The first call writes every row. A later call writes the
- * rows that changed since the last call, and expects that nobody else wrote to the terminal. The bytes are one synchronized
- * update (`ESC [ ? 2026 h` to `ESC [ ? 2026 l`), also if no row changed: then it has 20 bytes, which show nothing. After it no colour
- * is set. While rows are written no symbol wraps (`ESC [ ? 7 l`), and after them symbols wrap (`ESC [ ? 7 h`).
+ * rows that changed since the last call, and expects that nobody else wrote to the terminal. If no row changed, there are no bytes. Else
+ * they are one synchronized update (`ESC [ ? 2026 h` to `ESC [ ? 2026 l`), after which no colour is set. While rows are written no symbol
+ * wraps (`ESC [ ? 7 l`), and after them symbols wrap (`ESC [ ? 7 h`).
  *
  * The terminal that shows these bytes
  * - reads UTF-8, and follows moves of the cursor, styles, and the modes `ESC [ ? 7 l` and `ESC [ ? 7 h`;
@@ -578,8 +578,6 @@ uint32_t gabro_resize(gabro_session *session, uint16_t width, uint16_t height);
  * Then each printable ASCII character of the screen is in its column in its style, and no row changes but those that are
  * written. If the terminal also has the widths of Unicode 18, it shows exactly the screen, with `?` and blanks for a symbol
  * that might not have room on its row.
- *
- * If the terminal shows the session already, there are no bytes.
  *
  * Returns GABRO_DONE, GABRO_CLOSED, or GABRO_NOT_NOW if the session waits for no event. If `written` is more than `length` after
  * GABRO_DONE, no byte was written, and the next call writes every row: call again with a larger buffer. Or returns GABRO_NO_MEMORY;
