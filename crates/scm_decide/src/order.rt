@@ -1,7 +1,7 @@
 //! Places in the order of their paths.
-ghost use Rattle.std.specs.Prelude.{◌≡◌, OnOk};
+ghost use Rattle.std.specs.Prelude.{◌≡◌, OnOk, true};
 ghost use Rattle.std.specs.List.Sorted.{IsPermutation};
-ghost use Rattle.std.specs.Ordering.{is_lt};
+ghost use Rattle.std.specs.Ordering.{is_eq, is_gt, is_lt};
 ghost use Rattle.scm_tree.specs.Paths.{is_before};
 ghost use Rattle.scm_decide.specs.Places.{AreSorted};
 
@@ -12,7 +12,9 @@ use std::cmp::Ordering;
 
 /// Compares two paths in the order of paths.
 fn path_order(path: &[u8], other: &[u8]) -> Ordering
-    ensures { is_lt result ≡ is_before path.now other.now }
+    ensures less { is_lt result ≡ is_before path.now other.now }
+    ensures greater { is_gt result ≡ is_before other.now path.now }
+    ensures equal { is_eq result ≡ true → path.now ≡ other.now }
 {
     if is_before(path, other) {
         Ordering::Less
