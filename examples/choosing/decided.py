@@ -25,6 +25,10 @@ FAULTS = {
 }
 
 
+class Undecided(Stop):
+    """Why nothing is decided."""
+
+
 class Decided:
     """What becomes of paths: `outcomes` has the version of each path that is shown, and `left_out` each file that is left out, with a
     path of its own that would come, and a path that stays, of which one would lie in the other."""
@@ -34,7 +38,7 @@ class Decided:
         records = iter((record[:1], record[2:]) for record in split_by_zeros(output))
         for letter, path in records:
             if letter in FAULTS:
-                raise Stop("%s is refused: %s" % (shown(path) if path else "the choice", FAULTS[letter]))
+                raise Undecided("%s is refused: %s" % (shown(path) if path else "the choice", FAULTS[letter]))
             if letter == "x":
                 self.left_out[files[path]] = path, next(records)[1]
             else:
@@ -50,6 +54,11 @@ def row_of(path, now, goal, wanted, file):
     that the marks ask for."""
     letter = ABSENT if wanted[0] == NO_FILE else NOW if wanted == now else GOAL if wanted == goal else CHOSEN
     return Row(path, now[0] != NO_FILE, goal[0] != NO_FILE, letter, file)
+
+
+def row_that_goes(path):
+    """Returns the row of a path that is there now, and is to be gone."""
+    return Row(path, True, False, ABSENT, path)
 
 
 def version_by(letter, now, goal, wanted):
@@ -71,7 +80,8 @@ def head_of(row, is_second):
 
 
 def decide(rows):
-    """Has scm-select decide what becomes of the paths of `rows`, each of which has one. Stops if they are not those of two trees."""
+    """Has scm-select decide what becomes of the paths of `rows`, each of which has one. Stops if they are not those of two trees (Undecided), or
+    if it cannot be run."""
     pipes = dict.fromkeys(("stdin", "stdout", "stderr"), subprocess.PIPE)
     try:
         status, output, said = run_to_end([*own_front_end(), "--decide"], given_of(rows), **pipes)

@@ -13,6 +13,7 @@ import re
 import stat
 
 from .change import ABSENT, LINK, digest_of
+from .decided import ABSENT as GOES, GOAL, Row, Undecided, decide
 from .folders import IS_PLAIN, closing, identity_of, is_ours, read_whole
 from .locks import lock_open
 from .paths import fault_in
@@ -198,9 +199,24 @@ class Plan:
         for fault in (*map(fault_of_entry, entries), *map(fault_of_folder, folders)):
             if fault:
                 raise self.stop(fault)
-        if len({path for path, _, _ in entries}) < len(entries):
-            raise self.stop("a path is in it twice")
+        self.check_decided(entries, folders)
         return Planned(inode, [Entry(number, *entry) for number, entry in enumerate(entries)], folders_in(folders))
+
+    def check_decided(self, entries, folders):
+        """Stops if a folder is above none of the files, or if the library, which decides of their paths as of those of a choice in which
+        all is marked, refuses one of them."""
+        above = {path[:at] for path, _, _ in entries for at, sign in enumerate(path) if sign == "/"}
+        if not above.issuperset(path for path, *_ in folders):
+            raise self.stop("a folder is above none of the files")
+        try:
+            decide([row_of_entry(number, *entry) for number, entry in enumerate(entries)])
+        except Undecided as error:
+            raise self.stop(error) from None
+
+
+def row_of_entry(number, path, old, new):
+    """Returns the row of the path of an entry, which is to have its new side."""
+    return Row(path, old[0] != ABSENT, new[0] != ABSENT, GOES if new[0] == ABSENT else GOAL, number)
 
 
 def lines_of(folders):

@@ -6,7 +6,7 @@ import stat
 
 from choosing.change import ABSENT, LINK, digest_of
 from choosing.cut_off import names_within
-from choosing.decided import GOAL, KEPT, Row, decide, row_of, version_by
+from choosing.decided import GOAL, KEPT, Row, decide, row_of, row_that_goes, version_by
 from choosing.files import ABSENT_SIDE, Files
 from choosing.folders import MOST_BYTES, TOO_LARGE, below
 from choosing.git import Git
@@ -192,6 +192,7 @@ class Folders:
         decided = decide(self.rows(wanted))
         for paths in sorted(map(sorted, decided.left_out.values())):
             raise Stop("%s and %s cannot both be there, as what is marked asks for" % tuple(map(shown, paths)))
+        self.check_gone()
         entries, total = [], 0
         # what was left out, also by LEFT alone, is not among them
         for path in sorted({*decided.outcomes, *(self.digests or ())}):
@@ -210,6 +211,12 @@ class Folders:
         others = (path for path in self.there if path not in self.pairs and path not in (self.digests or ()))
         rows += [Row(path, path in self.there, True, GOAL, path) for path in sorted(alike)]
         return [*rows, *(Row(path, True, False, KEPT, None) for path in others)]
+
+    def check_gone(self):
+        """Stops if a path is refused that OUTPUT has and neither LEFT nor RIGHT, and which goes. It is in neither of the two trees."""
+        gone = [path for path, (mode, _) in (self.digests or {}).items() if mode == ABSENT and path in self.there]
+        if gone:
+            decide([row_that_goes(path) for path in gone])
 
     def entry(self, path, letter, wanted):
         """Returns the entry of a path, if it is to be changed: to the version that was decided (`letter`), which may be the one that its
@@ -281,10 +288,12 @@ class TwoFiles:
     def entries(self, choices):
         old, new = self.pair
         wanted = next(((mode, data) for _, mode, data in choices), new)
-        rows = [row_of(self.target_name, old, new, wanted, self.target_name)] if old != new else []
-        outcomes = decide(rows).outcomes.values()
-        # OUTPUT gets what both have alike
-        version = next((version_by(letter, old, new, wanted) for letter in outcomes), new)
+        is_in_none = old[0] == new[0] == ABSENT
+        if is_in_none and self.now[0] == ABSENT:
+            return []
+        # OUTPUT gets what both have alike, and loses what neither has
+        row = row_that_goes(self.target_name) if is_in_none else row_of(self.target_name, old, new, wanted, self.target_name)
+        version = version_by(decide([row]).outcomes[self.target_name], old, new, wanted)
         return [(self.target_name, self.now, version)] if self.now != version else []
 
     def folders_for(self, entries):

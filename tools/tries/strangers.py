@@ -119,6 +119,10 @@ def plans_that_do_not_fit(first, second):
         yield [first, [inode, [*entries, [path, *entries[0][1:]]], folders]]
         yield [first, [inode, entries, [[path, 0o700, 0, []]]]]
     path, old, new = entries[0]
+    # one file in another one, before or behind it, and a folder that no file is in: Python alone does not see the first two
+    yield [first, [inode, [*entries, [path + "/x", ["000000", EMPTY], new]], folders]]
+    yield [first, [inode, [*entries, [path + "/x", old, ["000000", EMPTY]]], folders]]
+    yield [first, [inode, entries, [[path, 0o700, 0, []], *folders]]]
     sides = [], ["100644"], ["104755", old[1]], ["100644", old[1][1:]], ["000000", old[1]], [old[1], "100644"], [1, 2], "x", None
     for side in (*sides, ["040000", EMPTY]):
         yield [first, [inode, [[path, side, new], *entries[1:]], folders]]
