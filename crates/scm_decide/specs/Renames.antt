@@ -1,9 +1,7 @@
 -- Renamed files.
 use Rattle.std.specs.Prelude.{◌≡◌, ℕ, ◌<◌, ◌==◌, ◌&&◌, List, Bool, true, false, not, is_some, length, slice_index_or, if◌then◌else◌}
-use Rattle.std.specs.List.{All}
 use Rattle.scm_tree.specs.declared.row.Row.{Row}
 use Rattle.scm_decide.specs.declared.rename.Rename.{Rename}
-use Rattle.scm_decide.specs.declared.rename.RenameFault.{RenameFault}
 
 -- whether exactly one of the two holds
 abbrev pub is_one : Bool → Bool → Bool
@@ -22,13 +20,3 @@ pub record IsRename (rows : List Row) (rename : Rename) : Type 0 where
 -- The rows of the rename are not both there, or not those of a renamed file.
 pub record IsBadRename (rows : List Row) (rename : Rename) : Type 0 where
   pub is_none : rename.old < length rows → rename.new < length rows → (d : Row) → is_one_of (slice_index_or rows rename.old d) (slice_index_or rows rename.new d) ≡ false
-
--- each rename is one
-abbrev pub AreRenames : List Row → List Rename → Type 0
-AreRenames rows renames = All (λ (r : Rename). IsRename rows r) renames
-
--- The fault names the first rename that is none.
-pub record IsFaultOf (rows : List Row) (renames : List Rename) (fault : RenameFault) : Type 0 where
-  pub within : fault.rename < length renames
-  pub before : (k : ℕ) (d : Rename) → k < fault.rename → IsRename rows (slice_index_or renames k d)
-  pub is_bad : (d : Rename) → IsBadRename rows (slice_index_or renames fault.rename d)

@@ -12,5 +12,4 @@ mod rows;
 pub use decision::{DecideError, Decision, Moved, Outcome, decide, decision_is_as_promised};
 pub use find::row_number;
 pub use place::{Entry, Mark, Wish};
-pub use rename::{Rename, RenameFault, check_renames};
 pub use rows::{GatherError, rows_of};

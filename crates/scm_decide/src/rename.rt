@@ -1,27 +1,17 @@
 //! Renamed files.
-ghost use Rattle.std.specs.Prelude.{◌≡◌, ◌<◌, MatchResult, false, length, slice_index_or, true};
-ghost use Rattle.std.specs.List.{All};
-ghost use Rattle.scm_tree.specs.declared.row.Row.{Row};
-ghost use Rattle.scm_decide.specs.declared.rename.Rename.{Rename};
-ghost use Rattle.scm_decide.specs.Renames.{AreRenames, IsBadRename, IsFaultOf, IsRename, is_one, is_one_of};
+ghost use Rattle.std.specs.Prelude.{◌≡◌, false, true};
+ghost use Rattle.scm_decide.specs.Renames.{IsBadRename, IsRename, is_one, is_one_of};
 
 use scm_tree::Row;
 
 /// The two paths of a renamed file, as numbers of rows.
-#[derive(Clone, Copy, Debug, PartialEq, Eq)]
-pub struct Rename {
+#[derive(Clone, Copy)]
+pub(crate) struct Rename {
     /// The row of the old path.
-    pub old: usize,
+    pub(crate) old: usize,
 
     /// The row of the new path.
-    pub new: usize,
-}
-
-/// A rename that is none: its number in the list.
-#[derive(Clone, Copy, Debug, PartialEq, Eq)]
-pub struct RenameFault {
-    /// The number of the rename.
-    pub rename: usize,
+    pub(crate) new: usize,
 }
 
 /// Returns whether exactly one of the two holds.
@@ -52,32 +42,4 @@ pub(crate) fn is_rename(rows: &[Row<'_>], rename: Rename) -> bool
         return false;
     }
     is_one_of(&rows[rename.old], &rows[rename.new])
-}
-
-/// Returns whether the rows of rename `i` are those of a renamed file.
-fn is_rename_at(rows: &[Row<'_>], renames: &[Rename], i: usize) -> bool
-    requires { i < length renames.now }
-    ensures yes { result ≡ true
-        → (d : Rename) → IsRename rows.now (slice_index_or renames.now i d) }
-    ensures no { result ≡ false
-        → (d : Rename) → IsBadRename rows.now (slice_index_or renames.now i d) }
-{
-    is_rename(rows, renames[i])
-}
-
-/// Checks that each rename is one: that both rows have one file, which is there at one of them, and asked for at one
-/// of them.
-///
-/// # Errors
-/// `RenameFault`: the first rename that is none.
-pub fn check_renames(rows: &[Row<'_>], renames: &[Rename]) -> Result<(), RenameFault>
-    ensures { MatchResult result (λ _. AreRenames rows.now renames.now)
-        (IsFaultOf rows.now renames.now) }
-{
-    for i in 0..renames.len() {
-        if !is_rename_at(rows, renames, i) {
-            return Err(RenameFault { rename: i });
-        }
-    }
-    Ok(())
 }
