@@ -1,5 +1,5 @@
 -- What becomes of each path.
-use Rattle.std.specs.Prelude.{◌≡◌, ℕ, ◌+◌, ◌<◌, nat_lt, List, Bool, true, false, ◌||◌, Option, Some, None, is_some, is_none, length, slice_index_or, if◌then◌else◌}
+use Rattle.std.specs.Prelude.{◌≡◌, ℕ, ◌+◌, ◌<◌, nat_lt, List, Bool, true, false, ◌||◌, Option, None, is_some, is_none, length, slice_index_or, if◌then◌else◌}
 use Rattle.std.specs.List.{All}
 use Rattle.scm_paths.specs.declared.names.PathFault.{PathFault}
 use Rattle.scm_paths.specs.Names.{fault_of}

@@ -1,5 +1,5 @@
 -- Renamed files.
-use Rattle.std.specs.Prelude.{◌≡◌, ℕ, ◌<◌, ◌==◌, ◌&&◌, List, Bool, true, false, not, is_some, length, slice_index_or, if◌then◌else◌}
+use Rattle.std.specs.Prelude.{◌≡◌, ◌<◌, ◌==◌, ◌&&◌, List, Bool, true, false, not, is_some, length, slice_index_or, if◌then◌else◌}
 use Rattle.scm_tree.specs.declared.row.Row.{Row}
 use Rattle.scm_decide.specs.declared.rename.Rename.{Rename}
 
