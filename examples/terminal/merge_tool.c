@@ -12,6 +12,7 @@
 #include <signal.h>
 #include <stdio.h>
 #include <string.h>
+#include <sys/ioctl.h>
 
 static const char HELP[] =
     "usage: " NAME " [OPTION ..] BASE OURS THEIRS OUTPUT\n\n"
@@ -54,6 +55,8 @@ typedef struct task {
     layer layer;
     merge merge;
     size_t open; /* how many conflicts the marks leave open */
+    int terminal;
+    size_t columns; /* of the terminal, when the status row last got its words */
     chosen chosen; /* in the first session: after that the marks are the user's work */
     bool has_run;
 } task;
@@ -116,11 +119,37 @@ static bool add_count(text *into, const task *task) {
     return append_words(into, all == 1 ? "1 conflict" : "%zu conflicts", all) && (open == all || append_words(into, ", %zu open", open));
 }
 
-/* Has the status row say how many conflicts are open, before what accepting does. */
+/* Returns how many columns the terminal has. */
+static size_t columns_of(int terminal) {
+    struct winsize size = {0};
+    bool is_known = ioctl(terminal, TIOCGWINSZ, &size) == 0 && size.ws_col > 0;
+    return is_known ? size.ws_col : WIDTH;
+}
+
+/* Returns how many characters UTF-8 has: that many columns, unless some are wide. */
+static size_t characters_of(const char *words) {
+    size_t count = 0;
+    for (; *words; words++) {
+        count += (*words & 0xc0) != 0x80;
+    }
+    return count;
+}
+
+/* Adds two blanks and words, if `into` then has at most `room` characters. */
+static bool add_if_it_fits(text *into, const char *words, size_t room) {
+    bool fits = characters_of(into->bytes) + 2 + characters_of(words) <= room;
+    return !fits || append_words(into, "  %s", words);
+}
+
+/* Has the status row say how many conflicts are open, before what accepting does. The row leaves out words that do not fit, all of them: so
+ * those that can be missed are left out here. The numbers of lines and files come before them. */
 static void show_open(gabro_session *session, const task *task) {
     text words = {0};
-    const char *next = task->open > 0 ? "  ]: next" : "";
-    if (append_words(&words, "open: %zu/%zu%s  %s", task->open, task->merge.conflicts, next, task->layer.accept)) {
+    size_t numbers = (size_t)snprintf(NULL, 0, "  lines: %zu, files: 1  ", task->merge.marks.length);
+    size_t room = task->columns > numbers ? task->columns - numbers : 0;
+    bool is_made = append_words(&words, "open: %zu/%zu", task->open, task->merge.conflicts);
+    is_made = is_made && (task->open == 0 || add_if_it_fits(&words, "]: next", room)) && add_if_it_fits(&words, task->layer.accept, room);
+    if (is_made) {
         gabro_accept_text(session, words.bytes, words.length);
     }
     free(words.bytes);
@@ -152,9 +181,10 @@ static void begin(gabro_session *session, const task *task, int terminal) {
 static void follow_marks(void *context, gabro_session *session) {
     task *task = context;
     if (gabro_stage(session) == GABRO_WAITING && keep_marks(session, &task->merge) == GABRO_DONE) {
-        size_t open = open_by_marks(&task->merge);
-        bool is_other = open != task->open;
+        size_t open = open_by_marks(&task->merge), columns = columns_of(task->terminal);
+        bool is_other = open != task->open || columns != task->columns;
         task->open = open;
+        task->columns = columns;
         if (is_other) {
             show_open(session, task);
         }
@@ -254,6 +284,8 @@ static void write_output(task *task) {
 /* Has the user choose once. Returns whether that was accepted, and else sets `status`. */
 static bool choose(task *task, int terminal, int *status) {
     gabro_session session = {0};
+    task->terminal = terminal;
+    task->columns = columns_of(terminal);
     begin(&session, task, terminal);
     bool is_there = run(&session, task, terminal), is_accepted = gabro_stage(&session) == GABRO_ACCEPTED;
     if (is_accepted) {

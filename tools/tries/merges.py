@@ -147,6 +147,28 @@ def ways_to_open_conflicts(place):
     return status == 0 and read_data(paths[3]) == texts[1].replace(b"ours 0", b"theirs 0")
 
 
+def last_row(typed):
+    return typed.screen().decode().strip().split("\n")[-1].strip('"').strip()
+
+
+def rows_that_are_narrow(place):
+    """Where the status row has no columns for all that it says, it still says how many conflicts are open: also after the terminal got another
+    width."""
+    ends = []
+    for count, rows in ((1, {30: "", 32: "open: 1/1", 40: "open: 1/1  ]: next", 58: "open: 1/1  ]: next", 60: "open: 1/1  ]: next  c writes the merge"}),
+                        (120, {36: "", 38: "open: 120/120", 46: "open: 120/120  ]: next", 66: "open: 120/120  ]: next  c writes the merge"})):
+        for width, words in rows.items():
+            paths = files_of(place, *distant_conflicts(count))
+            with shown(place, [NAME, *paths], width=width) as typed:
+                wanted = "lines: %d, files: 1" % count + ("  " + words if words else "")
+                ends.append(last_row(typed) == wanted)
+                # another width, and a key
+                typed.resize(80, 24)
+                typed.press("j")
+                ends.append(last_row(typed).endswith("open: %d/%d  ]: next  c writes the merge" % (count, count)))
+    return all(ends)
+
+
 def many_open_conflicts(place):
     """Of many open conflicts the first ones are named. Without the layer there is neither the row nor its keys."""
     paths = files_of(place, *distant_conflicts(12))
@@ -253,6 +275,82 @@ def labels_of_versions(place):
     named = b"Conflict 1/1: ours (ma\\x1b[31min) ", b"Conflict 1/1: base  ", b"Conflict 1/1: theirs (topic\\x0a>>>>>>> x) "
     conflict = b"<<<<<<< ma\x1b[31min\nours\n|||||||\nold\n=======\ntheirs\nmore\n>>>>>>>\n"
     return status == 1 and all(words in rows for words in named) and read_data(paths[3]) == b"1\n" + conflict + b"3\n4\nfive\n"
+
+
+def long_labels(place):
+    """Labels of 100,000 bytes are cut on any screen, also where no column of them is left, and are whole behind the markers. What is no UTF-8
+    comes back."""
+    ends = []
+    ours, theirs = b"\xff" + b"x" * 99_999, "\u6f22".encode() * 33_333
+    marks = [b"<<<<<<< " + ours, b"|||||||", b"=======", b">>>>>>> " + theirs]
+    wanted = b"1\n%s\nours\n%s\nold\n%s\ntheirs\nmore\n%s\n3\n4\nfive\n" % tuple(marks)
+    for width, row in (10, "  ( ) \u2026(-)"), (20, "  ( ) Conflict 1\u2026(-)"), (40, "  ( ) Conflict 1/1: ours (\\xffxxxxxx\u2026(-)"):
+        paths = files_of(place)
+        with shown(place, [NAME, "--markers", "--ours-label", ours, "--theirs-label", theirs, *paths], width=width) as typed:
+            rows = typed.screen()
+            is_narrow = all(max(row) < width for row in typed.shown.rows.values() if row)
+            leave_open(typed, b"l", ASKED_FOR_MARKERS)
+            ends.append(typed.end() == 1 and is_narrow and row.encode() in rows and read_data(paths[3]) == wanted)
+    return all(ends)
+
+
+def outputs_that_are_versions(place):
+    """OUTPUT may be one of the other three also where there is a conflict: it gets the merge, or the markers, or stays."""
+    versions = [BASE, OURS, THEIRS]
+    left = b"1\n<<<<<<<\nours\n|||||||\nold\n=======\ntheirs\nmore\n>>>>>>>\n3\n4\nfive\n"
+    ends = []
+    for place_of in range(3):
+        for options, merged in ([], b"1\nours\n3\n4\nfive\n"), (["--markers"], left), ([], None):
+            paths = files_of(place)[:3]
+            command = [NAME, *options, *paths, paths[place_of]]
+            if options:
+                with shown(place, command) as typed:
+                    leave_open(typed, b"l", ASKED_FOR_MARKERS)
+                    status = typed.end()
+            else:
+                status, _ = type_into(place, ["space", "c"] if merged else ["q", "enter"], command)
+            wanted = versions[:place_of] + [merged or versions[place_of]] + versions[place_of + 1 :]
+            ends.append((status, [read_data(path) for path in paths]) == (0 if merged and not options else 1, wanted))
+    return all(ends)
+
+
+# conflicts where line ends differ, or a side has no line: the base, ours and theirs
+ODD_ENDS = (
+    (b"1\n2", b"1\no", b"1\nt\n"), (b"1\n2", b"1\no\n", b"1\nt"), (b"1\n2\n", b"1\no", b"1\nt"), (b"", b"o", b"t\n"), (b"1\n2\n", b"", b"1\nt\n"), (b"1\n2", b"1\nt", b""),
+    (b"1\r\n2\r\n", b"1\r\no\r\n", b"1\r\nt\r\n"), (b"1\r\n2\r\n", b"1\r\no", b"1\r\nt\r\n"), (b"1\r\n2\r\n", b"1\r\no\r\n", b"1\r\nt"),
+)
+
+
+def markers_by_line_ends(place):
+    """Where a last line has no line end, line ends are CR and LF, or a side is empty, the markers are those that git writes."""
+    for texts in ODD_ENDS:
+        found = output_with_markers(place, texts)
+        paths = files_of(place, *texts)
+        by_git = ["git", "merge-file", "-p", "-q", "--diff3", "-L", "", "-L", "", "-L", "", paths[1], paths[0], paths[2]]
+        # git has a blank behind a marker without a label
+        wanted = re.sub(rb"(?m)^((<|\||>)\2{6}) (\r?)$", rb"\1\3", subprocess.run(by_git, stdout=subprocess.PIPE).stdout)
+        if found != (1, wanted):
+            print("markers by line ends, %r: %r and not %r" % (texts, found, wanted))
+            return False
+    return True
+
+
+def a_thousand_conflicts(place):
+    """Of a thousand conflicts in 100,000 lines each is open at first. `[` goes to the last one, which is settled, and the others have markers."""
+    count, between = 1000, b"".join(b"%d\n" % number for number in range(99))
+    texts = [b"".join(b"%s %d\n" % (name, number) + between for number in range(count)) for name in (b"old", b"ours", b"theirs")]
+    paths = files_of(place, *texts)
+    with shown(place, [NAME, "--markers", *paths]) as typed:
+        is_all = b"open: 1000/1000" in typed.screen()
+        typed.press("[")
+        typed.press("space")
+        is_last = b"Conflict 1000/1000: " in typed.screen() and b"open: 999/1000" in typed.screen()
+        asked = leave_open(typed, b"l", ASKED_FOR_MARKERS)
+        status = typed.end()
+    is_named = b"999 of 1000 conflicts are open (1, 2, 3, 4, 5, 6, 7, 8, 9, 10 ..). " in asked
+    rows = b"<<<<<<<\nours %d\n|||||||\nold %d\n=======\ntheirs %d\n>>>>>>>\n"
+    wanted = b"".join((rows % (number, number, number) if number < count - 1 else b"ours %d\n" % number) + between for number in range(count))
+    return status == 1 and is_all and is_last and is_named and read_data(paths[3]) == wanted
 
 
 def left_by_the_user(place):
@@ -943,7 +1041,8 @@ def options_that_shells_complete(place):
 
 
 ALL = (
-    each_version, each_width, deleted_lines, open_conflicts, ways_to_open_conflicts, many_open_conflicts, conflict_markers, lengths_of_markers, labels_of_versions, left_by_the_user, without_a_conflict,
+    each_version, each_width, deleted_lines, open_conflicts, ways_to_open_conflicts, rows_that_are_narrow, many_open_conflicts, conflict_markers, lengths_of_markers, labels_of_versions, long_labels,
+    markers_by_line_ends, outputs_that_are_versions, a_thousand_conflicts, left_by_the_user, without_a_conflict,
     what_comes_to_output_meanwhile, outputs_with_names_of_options, refused_files, named_in_another_way, git_mergetool, git_mergetool_on_a_changed_mode, git_mergetool_that_is_left, git_mergetool_with_backups,
     git_mergetool_on_an_added_file, git_mergetool_on_a_deleted_file, git_mergetool_on_a_renamed_file, git_mergetool_on_a_real_conflict, git_merge_driver, git_rerere, hg_resolve, jj_resolve, jj_resolve_of_lines_like_markers, random_choices,
     beside_git_merge_file, library_beside_git_merge_file, each_call_that_fails, each_call_that_fails_behind_a_choice, full_disk,
