@@ -18,8 +18,8 @@ use Rattle.scm_diff.specs.Bytes.{bytes_of_text}
 use Rattle.scm_diff.specs.Sides.{IsLine, text_of}
 use Rattle.scm_diff.proofs.LineLemmas.{lines_are_lines, text_of-lines_of}
 use Rattle.scm_merge.specs.declared.region.Region.{Region}
-use Rattle.scm_merge.specs.Regions.{AreRegions, IsChangedRegion}
-use Rattle.scm_merge.specs.Parts.{Agreed, AreMerged, Outcome, are_two_same, conflict_of, lines_by, outcomes_from, outcomes_of, part_at, same_lines, shared_end, shared_start, whole_region}
+use Rattle.scm_merge.specs.Regions.{AreRegions, AreRegionsBy, IsChangedRegion}
+use Rattle.scm_merge.specs.Parts.{Agreed, AreMerged, AreMergedBy, Outcome, are_two_same, conflict_of, lines_by, outcomes_from, outcomes_of, part_at, same_lines, shared_end, shared_start, whole_region}
 use Rattle.scm_merge.specs.Sections.{file_with_texts, nothing_chosen, section_with_texts, sections_from}
 use Rattle.scm_merge.specs.Merge.{AreMergeSections, IsMerge, merged_bytes}
 use Rattle.scm_merge.specs.Laws.{GivesBytesByChoice, HasByte, HasBytes, IsClean}
@@ -52,11 +52,25 @@ merged-whole base ours theirs rs same e = record {
   least = λ s. let wrong : true ≡ false = sym same ∙ s in cc;
 }
 
-pub merged-parts : (base ours theirs : List (List ℕ)) (rs : List Region) (hs ks : List Hunk) → are_two_same base ours theirs ≡ false → AreRegions base ours theirs rs → AreHunks base ours hs → AreHunks base theirs ks → AllByRecursion (IsChangedRegion hs ks) rs → AreMerged base ours theirs rs
-merged-parts base ours theirs rs hs ks other h a b c = record {
+pub merged-parts : (base ours theirs : List (List ℕ)) (rs : List Region) (hs ks : List Hunk) → are_two_same base ours theirs ≡ false → AreRegions base ours theirs rs → AreHunks base ours hs → AreHunks base theirs ks → AllByRecursion (IsChangedRegion hs ks) rs → AreRegionsBy hs ks 0 rs → AreMerged base ours theirs rs
+merged-parts base ours theirs rs hs ks other h a b c m = record {
   are_regions = h;
   whole = λ s. let wrong : true ≡ false = sym s ∙ other in cc;
-  least = λ s. record { ours_hunks = hs; theirs_hunks = ks; are_ours = a; are_theirs = b; changed = c };
+  least = λ s. record { ours_hunks = hs; theirs_hunks = ks; by = record { are_ours = a; are_theirs = b; made = m; changed = c } };
+}
+
+pub merged-parts-by : (base ours theirs : List (List ℕ)) (rs : List Region) (hs ks : List Hunk) → are_two_same base ours theirs ≡ false → AreRegions base ours theirs rs → AreHunks base ours hs → AreHunks base theirs ks → AllByRecursion (IsChangedRegion hs ks) rs → AreRegionsBy hs ks 0 rs → AreMergedBy base ours theirs hs ks rs
+merged-parts-by base ours theirs rs hs ks other h a b c m = record {
+  are_regions = h;
+  whole = λ s. let wrong : true ≡ false = sym s ∙ other in cc;
+  least = λ s. record { are_ours = a; are_theirs = b; made = m; changed = c };
+}
+
+pub merged-whole-by : (base ours theirs : List (List ℕ)) (rs : List Region) (hs ks : List Hunk) → are_two_same base ours theirs ≡ true → rs ≡ whole_region base ours theirs ∷ [] → AreMergedBy base ours theirs hs ks rs
+merged-whole-by base ours theirs rs hs ks same e = record {
+  are_regions = (merged-whole base ours theirs rs same e).are_regions;
+  whole = λ s. e;
+  least = λ s. let wrong : true ≡ false = sym same ∙ s in cc;
 }
 
 -- ---- each line has a byte

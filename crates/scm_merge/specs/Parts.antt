@@ -3,7 +3,8 @@ use Rattle.std.specs.Prelude.{◌≡◌, ℕ, ◌-◌, Bool, true, false, nat_eq
 use Rattle.std.specs.Cmp.Lexicographic.{pointwise}
 use Rattle.std.specs.List.{common_prefix_len}
 use Rattle.scm_merge.specs.declared.region.Region.{Region}
-use Rattle.scm_merge.specs.Regions.{AreLeast, AreRegions}
+use Rattle.scm_diff.specs.declared.hunk.Hunk.{Hunk}
+use Rattle.scm_merge.specs.Regions.{AreLeast, AreLeastBy, AreRegions}
 
 -- whether the lines are equal, one by one
 abbrev pub same_lines : List (List ℕ) → List (List ℕ) → Bool
@@ -112,3 +113,9 @@ pub record AreMerged (base ours theirs : List (List ℕ)) (regions : List Region
   pub whole : are_two_same base ours theirs ≡ true → regions ≡ whole_region base ours theirs ∷ []
   -- otherwise the regions are no greater than the differences ask for
   pub least : are_two_same base ours theirs ≡ false → AreLeast base ours theirs regions
+
+-- The regions are those that the merge is made of, by these differences of both sides.
+pub record AreMergedBy (base ours theirs : List (List ℕ)) (ours_hunks theirs_hunks : List Hunk) (regions : List Region) : Type 0 where
+  pub are_regions : AreRegions base ours theirs regions
+  pub whole : are_two_same base ours theirs ≡ true → regions ≡ whole_region base ours theirs ∷ []
+  pub least : are_two_same base ours theirs ≡ false → AreLeastBy base ours theirs ours_hunks theirs_hunks regions

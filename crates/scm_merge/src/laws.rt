@@ -2,7 +2,7 @@
 ghost use Rattle.std.specs.Prelude.{◌≡◌, filter, map, true};
 ghost use Rattle.std.specs.List.{AllByRecursion, flat_map};
 ghost use Rattle.scm_merge.specs.Laws.{AreToldApart, GivesBytesByChoice, HasBytes, IsClean, IsConflictOfThree, IsTrimmed, ShowsConflicts, all_ours, all_theirs, conflict_count, exchanged, exchanged_region, file_by, ours_first, parts_from, theirs_first};
-ghost use Rattle.scm_merge.specs.Parts.{AreMerged, Choice, Part, lines_by, outcomes_from};
+ghost use Rattle.scm_merge.specs.Parts.{AreMerged, AreMergedBy, Choice, Part, lines_by, outcomes_from};
 ghost use Rattle.scm_embed.specs.Lines.{lines_of};
 ghost use Rattle.scm_diff.specs.Bytes.{text_of_bytes};
 ghost use Rattle.scm_diff.specs.Change.{unchecked};
@@ -17,6 +17,7 @@ ghost use Rattle.scm_types.specs.Split.{side_lines};
 
 use crate::labels::Labels;
 use crate::region::Region;
+use scm_diff::Hunk;
 use scm_types::{File, FileMode, Text};
 
 /// Proves that a merge in which a side is equal to the base is the other side, and that a merge of two
@@ -63,6 +64,44 @@ pub fn exchanged_merges_are_merges(
     ensures open { conflict_count
         (outcomes_from base.now theirs.now ours.now 0 (map exchanged_region regions.now))
         ≡ conflict_count (outcomes_from base.now ours.now theirs.now 0 regions.now) }
+{}
+
+/// Proves that the differences of both sides decide the merge: two merges of the same three lists by the
+/// same hunks have the same regions.
+pub fn same_hunks_give_the_same_merge(
+    base: &[Text<'_>],
+    ours: &[Text<'_>],
+    theirs: &[Text<'_>],
+    our_hunks: &[Hunk],
+    their_hunks: &[Hunk],
+    first: &[Region],
+    second: &[Region],
+)
+    requires first { AreMergedBy base.now ours.now theirs.now
+        our_hunks.now their_hunks.now first.now }
+    requires second { AreMergedBy base.now ours.now theirs.now
+        our_hunks.now their_hunks.now second.now }
+    ensures { second.now ≡ first.now }
+{}
+
+/// Proves that two merges by the same hunks, of which the second one has the sides exchanged, are the same
+/// except for the exchange: two calls that get the same hunks need not know of each other.
+pub fn same_hunks_give_the_exchanged_merge(
+    base: &[Text<'_>],
+    ours: &[Text<'_>],
+    theirs: &[Text<'_>],
+    our_hunks: &[Hunk],
+    their_hunks: &[Hunk],
+    regions: &[Region],
+    others: &[Region],
+)
+    requires first { AreMergedBy base.now ours.now theirs.now
+        our_hunks.now their_hunks.now regions.now }
+    requires second { AreMergedBy base.now theirs.now ours.now
+        their_hunks.now our_hunks.now others.now }
+    ensures regions { others.now ≡ map exchanged_region regions.now }
+    ensures outcomes { outcomes_from base.now theirs.now ours.now 0 others.now
+        ≡ map exchanged (outcomes_from base.now ours.now theirs.now 0 regions.now) }
 {}
 
 /// Proves that a part is a conflict exactly if no two of its three lists are equal.

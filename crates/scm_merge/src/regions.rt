@@ -2,7 +2,7 @@
 ghost use Rattle.std.specs.Prelude.{◌≡◌, ◌≤◌, IfNone, IfOk, IfSome, drop, length};
 ghost use Rattle.std.specs.List.{AllByRecursion};
 ghost use Rattle.scm_diff.specs.Hunks.{AreHunks};
-ghost use Rattle.scm_merge.specs.Regions.{AreAt, AreAtEnd, AreRegions, IsAbsorbed, IsEnd, IsFound, IsFullyGrown, IsGrown, earlier, first_start, IsChangedRegion};
+ghost use Rattle.scm_merge.specs.Regions.{AreAt, AreAtEnd, AreRegions, AreRegionsBy, IsAbsorbed, IsEnd, IsFound, IsFullyGrown, IsGrown, IsMadeFrom, IsNeeded, earlier, first_start, IsChangedRegion};
 
 use crate::cursor::{Cursor, advanced, is_due, passed};
 use crate::region::Region;
@@ -55,9 +55,11 @@ fn absorbed(
     theirs_hunks: &[Hunk],
     growth: Growth,
 ) -> Option<Growth>
-    requires { IsGrown base.now ours.now theirs.now ours_hunks.now theirs_hunks.now growth }
+    requires grown { IsGrown base.now ours.now theirs.now ours_hunks.now theirs_hunks.now growth }
+    requires needed { IsNeeded ours_hunks.now theirs_hunks.now growth }
     ensures some { IfSome result
         (IsAbsorbed base.now ours.now theirs.now ours_hunks.now theirs_hunks.now growth) }
+    ensures needed { IfSome result (IsNeeded ours_hunks.now theirs_hunks.now) }
     ensures none { IfNone result (IsEnd ours_hunks.now theirs_hunks.now growth) }
 {
     if is_due(ours_hunks, growth.ours, growth.end) {
@@ -90,9 +92,11 @@ fn fully_grown(
     theirs_hunks: &[Hunk],
     first: Growth,
 ) -> Growth
-    requires { IsGrown base.now ours.now theirs.now ours_hunks.now theirs_hunks.now first }
-    ensures { IsFullyGrown base.now ours.now theirs.now
+    requires grown { IsGrown base.now ours.now theirs.now ours_hunks.now theirs_hunks.now first }
+    requires needed { IsNeeded ours_hunks.now theirs_hunks.now first }
+    ensures grown { IsFullyGrown base.now ours.now theirs.now
         ours_hunks.now theirs_hunks.now first result }
+    ensures needed { IsNeeded ours_hunks.now theirs_hunks.now result }
 {
     let mut growth = first;
     'grow: while let Some(more) = absorbed(base, ours, theirs, ours_hunks, theirs_hunks, growth) {
@@ -136,7 +140,8 @@ fn region_at(
     requires at { AreAt base.now ours.now theirs.now ours_hunks.now theirs_hunks.now cursors }
     requires first { Some start ≡ earlier (first_start (drop cursors.ours.next ours_hunks.now))
         (first_start (drop cursors.theirs.next theirs_hunks.now)) }
-    ensures { IsFound base.now ours.now theirs.now ours_hunks.now theirs_hunks.now cursors result }
+    ensures found { IsFound base.now ours.now theirs.now ours_hunks.now theirs_hunks.now cursors result }
+    ensures made { IsMadeFrom ours_hunks.now theirs_hunks.now cursors result }
 {
     let our_start = advanced(base, ours, ours_hunks, cursors.ours, start);
     let their_start = advanced(base, theirs, theirs_hunks, cursors.theirs, start);
@@ -177,6 +182,7 @@ fn next_region(
     requires { AreAt base.now ours.now theirs.now ours_hunks.now theirs_hunks.now cursors }
     ensures some { IfSome result
         (IsFound base.now ours.now theirs.now ours_hunks.now theirs_hunks.now cursors) }
+    ensures made { IfSome result (IsMadeFrom ours_hunks.now theirs_hunks.now cursors) }
     ensures none { IfNone result (AreAtEnd ours_hunks.now theirs_hunks.now cursors) }
 {
     let first = start_of(ours_hunks, cursors.ours);
@@ -211,6 +217,8 @@ pub(crate) fn regions_of(
         (λ regions. AreRegions base.now ours.now theirs.now regions.items) }
     ensures changed { IfOk result (λ regions. AllByRecursion
         (IsChangedRegion ours_hunks.now theirs_hunks.now) regions.items) }
+    ensures made { IfOk result
+        (λ regions. AreRegionsBy ours_hunks.now theirs_hunks.now 0 regions.items) }
 {
     let mut regions = Vec::new(alloc);
     let begin = Cursor {

@@ -1,6 +1,8 @@
 //! Tables of texts that are merged.
-use scm_diff::lines_of;
-use scm_merge::{Region, merge_regions, merged_bytes, merged_file, open_conflicts};
+use scm_diff::{hunks, lines_of};
+use scm_merge::{
+    Region, merge_regions, merge_regions_by, merged_bytes, merged_file, open_conflicts,
+};
 use scm_types::{File, FileMode, Section, Text};
 use std::alloc::{AllocError, Global};
 use std::process::Abort;
@@ -112,6 +114,18 @@ fn marks_give_the_merge(rt: HostRuntime) -> Result<(), Fail> {
     Ok(())
 }
 
+/// Returns the region with these ends in the base, in ours and in theirs.
+fn region(ends: (usize, usize, usize, usize, usize, usize)) -> Region {
+    Region {
+        base_start: ends.0,
+        base_end: ends.1,
+        ours_start: ends.2,
+        ours_end: ends.3,
+        theirs_start: ends.4,
+        theirs_end: ends.5,
+    }
+}
+
 #[test]
 fn changes_that_touch_are_one_region(rt: HostRuntime) -> Result<(), Fail> {
     let alloc = rt.alloc();
@@ -128,5 +142,36 @@ fn changes_that_touch_are_one_region(rt: HostRuntime) -> Result<(), Fail> {
         theirs_end: 2,
     };
     assert!(rt; found.as_slice() == [wanted].as_slice());
+    Ok(())
+}
+
+#[test]
+fn the_same_hunks_make_the_exchanged_regions(rt: HostRuntime) -> Result<(), Fail> {
+    let alloc = rt.alloc();
+    let base = lines_of(alloc, "a\nb\nc\nd\n")?;
+    let ours = lines_of(alloc, "a\nx\nc\nd\n")?;
+    let theirs = lines_of(alloc, "a\nb\nc\ny\nz\n")?;
+    let our_hunks = hunks(alloc, base.as_slice(), ours.as_slice())?;
+    let their_hunks = hunks(alloc, base.as_slice(), theirs.as_slice())?;
+    let found = merge_regions_by(
+        alloc,
+        base.as_slice(),
+        ours.as_slice(),
+        theirs.as_slice(),
+        our_hunks.as_slice(),
+        their_hunks.as_slice(),
+    )?;
+    let exchanged = merge_regions_by(
+        alloc,
+        base.as_slice(),
+        theirs.as_slice(),
+        ours.as_slice(),
+        their_hunks.as_slice(),
+        our_hunks.as_slice(),
+    )?;
+    // line 1 of ours alone, and then line 3 of theirs alone, which became two lines
+    let first = (1, 2, 1, 2, 1, 2);
+    assert!(rt; found.as_slice() == [region(first), region((3, 4, 3, 4, 3, 5))].as_slice());
+    assert!(rt; exchanged.as_slice() == [region(first), region((3, 4, 3, 5, 3, 4))].as_slice());
     Ok(())
 }

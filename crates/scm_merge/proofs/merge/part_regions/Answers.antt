@@ -12,3 +12,4 @@ returns c =
     (subst (AreHunks b o) (sym c.as_slice.ensures.value) c.in_ok-our_hunks.ensures)
     (subst (AreHunks b t) (sym c.as_slice-2.ensures.value) c.in_ok-their_hunks.ensures)
     c.in_ok-regions.ensures.changed
+    c.in_ok-regions.ensures.made
