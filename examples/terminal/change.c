@@ -140,6 +140,13 @@ static size_t pass_own(short_text *text, const short_text *other) {
     return text->place - begun;
 }
 
+/* Passes the next lines of two texts that are not in the other one. Returns how many they are: none if both go on with the same line. */
+static size_t pass_both(short_text *ours, short_text *theirs) {
+    bool go_on = ours->place < ours->count && theirs->place < theirs->count;
+    bool is_common = go_on && are_equal(ours->lines[ours->place], theirs->lines[theirs->place]);
+    return is_common ? 0 : pass_own(ours, theirs) + pass_own(theirs, ours);
+}
+
 /* Sets `count` to the number of lines that differ, if two texts are short, and are the same without the lines that one of them alone has:
  * then these are the lines that differ, since no line that both have needs a search. Returns false if they are not. */
 static bool count_own_lines(piece old, piece new, size_t *count) {
@@ -147,11 +154,11 @@ static bool count_own_lines(piece old, piece new, size_t *count) {
     if (!cut(old, &ours) || !cut(new, &theirs)) {
         return false;
     }
-    *count = pass_own(&ours, &theirs) + pass_own(&theirs, &ours);
+    *count = pass_both(&ours, &theirs);
     while (ours.place < ours.count && theirs.place < theirs.count && are_equal(ours.lines[ours.place], theirs.lines[theirs.place])) {
         ours.place++;
         theirs.place++;
-        *count += pass_own(&ours, &theirs) + pass_own(&theirs, &ours);
+        *count += pass_both(&ours, &theirs);
     }
     return ours.place == ours.count && theirs.place == theirs.count;
 }
@@ -330,8 +337,10 @@ uint32_t label_rename(gabro_session *session, size_t file, const change *change)
 
 /* ---- From a state ---- */
 
-static uint32_t read_bytes(gabro_session *session, size_t file, bool is_selected, text *into) {
-    size_t length = 0;
+/* Sets `into` to the bytes of a side. They come at once if they are no more than the longer version, with the line ends that two last lines
+ * may get. */
+static uint32_t read_bytes(gabro_session *session, size_t file, const change *change, bool is_selected, text *into) {
+    size_t old = change->old.bytes.length, new = change->new.bytes.length, length = (old < new ? new : old) + 2;
     uint32_t code = GABRO_DONE;
     do {
         if (!make_room(into, length)) {
@@ -340,6 +349,7 @@ static uint32_t read_bytes(gabro_session *session, size_t file, bool is_selected
         code = gabro_side_bytes(session, file, is_selected, into->bytes, into->room, &length);
     } while (code == GABRO_DONE && length > into->room);
     end_at(into, code == GABRO_DONE ? length : 0);
+    leave_room(into);
     return code;
 }
 
@@ -356,7 +366,7 @@ uint32_t read_side(gabro_session *session, size_t file, const change *change, bo
     const version *version = found.contents == GABRO_OF_NEW ? &change->new : &change->old;
     *side = (struct side){found.mode, found.old_path_mode, version->bytes, found.contents == GABRO_OF_SIDE, found.contents == GABRO_OF_NEW};
     if (side->has_lines) {
-        code = read_bytes(session, file, is_selected, into);
+        code = read_bytes(session, file, change, is_selected, into);
         side->bytes = (piece){into->bytes, into->length};
     }
     return code;

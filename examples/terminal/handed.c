@@ -7,7 +7,7 @@
 #include <stdlib.h>
 #include <string.h>
 
-enum { FIRST_CHANGES = 64, LONGEST_NUMBER = 19, EIGHT = 8, TEN = 10, LONGEST_WORDS = 4096 };
+enum { FIRST_CHANGES = 64, LONGEST_NUMBER = 19, EIGHT = 8, TEN = 10, LONGEST_HEAD = 64, LONGEST_WORDS = 4096 };
 
 static const char NO_ROOM[] = "not enough memory", BAD_FORM[] = "it has no records of changes: see the man page";
 
@@ -196,16 +196,15 @@ const char *mark_handed(gabro_session *session, const handed *handed) {
 /* ---- Records that are written ---- */
 
 static bool add_record(text *into, const char *word, piece bytes) {
-    return append_words(into, "%s %zu\n", word, bytes.length) && append(into, bytes.bytes, bytes.length) && append(into, "\n", 1);
+    char head[LONGEST_HEAD];
+    int length = snprintf(head, sizeof head, "%s %zu\n", word, bytes.length);
+    return append(into, head, (size_t)length) && append(into, bytes.bytes, bytes.length) && append(into, "\n", 1);
 }
 
 /* Adds the mode of a side, unless the file does not exist on it. */
 static bool add_mode(text *into, const char *word, size_t mode) {
-    text digits = {0};
-    bool is_added = mode == GABRO_ABSENT
-                    || (append_words(&digits, "%zo", mode) && add_record(into, word, (piece){digits.bytes, digits.length}));
-    free(digits.bytes);
-    return is_added;
+    char digits[LONGEST_HEAD];
+    return mode == GABRO_ABSENT || add_record(into, word, (piece){digits, (size_t)snprintf(digits, sizeof digits, "%zo", mode)});
 }
 
 /* Returns whether a version has the bytes of a side, which are lines. The bytes of a link are not handed in. */
