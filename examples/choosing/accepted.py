@@ -1,11 +1,20 @@
 """What a front end wrote of an accepted choice: the sides of each file, the marks, and the messages. And marks that are kept."""
+import functools
+import re
+
 from .change import ABSENT, digest_of
 from .named import read_named
-from .records import records_in
+from .records import record_at
 from .words import Stop, shown
 
 
-SIDES = "selected", "unselected"
+SIDES, NO_MODE = ("selected", "unselected"), ABSENT.encode()
+# the records of a file whose sides are versions that are there, in one piece: most are such
+OF_VERSIONS = re.compile(
+    rb"marks ([0-9]{1,9})\n([01]*)\n"
+    rb"selected-mode 6\n([0-7]{6})\nselected-is 3\n(old|new)\nunselected-mode 6\n([0-7]{6})\nunselected-is 3\n(old|new)\n"
+)
+WORDS_OF_VERSIONS = "marks", "selected-mode", "selected-is", "unselected-mode", "unselected-is"
 
 
 class Accepted:
@@ -37,15 +46,22 @@ class Accepted:
 def files_in(data, first):
     """Returns the messages in the records of a front end, of which the first one has the word `first`, and the records of each file by their
     words."""
-    messages, files = [], []
-    for number, (word, value) in enumerate(records_in(data)):
-        if (word == first) != (number == 0):
+    messages, files, place = [], [], 0
+    while place < len(data):
+        versions = OF_VERSIONS.match(data, place) if place else None
+        if versions and int(versions[1]) == len(versions[2]):
+            files.append(dict(zip(WORDS_OF_VERSIONS, versions.groups()[1:])))
+            place = versions.end()
+            continue
+        begun = place
+        word, value, place = record_at(data, place)
+        if (word == first) != (begun == 0):
             raise ValueError(word)
         if word == "message":
             messages.append(value.decode())
         elif word == "marks":
             files.append({word: value})
-        elif number:
+        elif begun:
             files[-1][word] = value
     return messages, files
 
@@ -71,12 +87,19 @@ def left_marks(path, changes):
     return kept_text(changes, marks, messages) if is_whole else None
 
 
+@functools.lru_cache(maxsize=None)
+def words_of(side, modes):
+    """Returns the words of the records that have a side's modes, and that of the one that names its contents."""
+    return ["%s-%s" % (side, word) for word in modes], side + "-is"
+
+
 def side_in(file, side, change):
     """Returns the mode that a side has at each path of a file, and the side's bytes, by the records of the file. Contents may be named
     by the version that has them."""
-    modes = [file.get("%s-%s" % (side, word), ABSENT.encode()).decode("ascii") for word in change.modes]
+    mode_words, contents_word = words_of(side, change.modes)
+    modes = [file.get(word, NO_MODE).decode("ascii") for word in mode_words]
     versions = {b"old": change.old_data, b"new": change.new_data}
-    return modes, file[side] if side in file else versions[file[side + "-is"]]
+    return modes, file[side] if side in file else versions[file[contents_word]]
 
 
 def sides_of(change):

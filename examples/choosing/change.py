@@ -7,6 +7,8 @@ from .records import record
 from .words import shown
 
 ABSENT, LINK, SUBMODULE = "000000", "120000", "160000"
+# the modes of sides that are no file: their bytes are no lines
+NO_FILES = ABSENT, LINK
 # a text of no more bytes has no line that is too long for the front end, which counts a byte that is no UTF-8 as four of 1,000,000
 SURELY_SHOWN = 250_000
 
@@ -47,10 +49,14 @@ class Change:
 
     def __init__(self, path, sides, contents):
         self.path, (self.old, self.new) = path, sides
-        self.old_data, self.new_data = [b"" if side.mode == ABSENT else contents[side.name] for side in sides]
-        files = [data for side, data in zip(sides, (self.old_data, self.new_data)) if side.mode not in (ABSENT, LINK)]
-        self.is_unread = any([isinstance(data, Unread) for data in files])
-        self.has_lines = bool(files) and not self.is_unread and not any([b"\0" in data for data in files])
+        self.old_data = b"" if self.old.mode == ABSENT else contents[self.old.name]
+        self.new_data = b"" if self.new.mode == ABSENT else contents[self.new.name]
+        # nothing stands for what is no file
+        old = None if self.old.mode in NO_FILES else self.old_data
+        new = None if self.new.mode in NO_FILES else self.new_data
+        self.is_unread = isinstance(old, Unread) or isinstance(new, Unread)
+        has_zero = (old is not None and b"\0" in old) or (new is not None and b"\0" in new)
+        self.has_lines = not (old is None and new is None) and not self.is_unread and not has_zero
 
     def versions(self):
         """Returns both sides, each with its word in a record and its bytes."""
@@ -67,7 +73,9 @@ class Change:
         if not has_words and ABSENT not in (self.old.mode, self.new.mode):
             old, new = self.old_data, self.new_data
             versions = self.old.mode.encode(), len(old), old, self.new.mode.encode(), len(new), new
-            return OF_A_TEXT % (len(path), path, *versions) + self.more_records()
+            made = OF_A_TEXT % (len(path), path, *versions)
+            # most have no more
+            return made + self.more_records() if self.note or self.marks else made
         made = record("path", path)
         for word, side, data in self.versions():
             if side.mode != ABSENT:
@@ -82,9 +90,6 @@ class Change:
 
     def more_records(self):
         """Returns the records of what is said and marked of it."""
-        if not self.note and not self.marks:
-            # most have none
-            return b""
         return b"".join([record(word, text) for word, text in (("note", self.note), ("marks", self.marks)) if text])
 
     def paths(self):

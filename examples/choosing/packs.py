@@ -9,20 +9,16 @@ BLOB = 3
 
 @functools.lru_cache(maxsize=None)
 def digest_of_nothing(algorithm):
+    """Returns the digest of no bytes. A copy of it is made sooner than a new one."""
     return hashlib.new(algorithm, usedforsecurity=False)
-
-
-def digest(algorithm, *parts):
-    """Returns the digest of bytes that follow one another. A copy is made sooner than a new one."""
-    made = digest_of_nothing(algorithm).copy()
-    for part in parts:
-        made.update(part)
-    return made
 
 
 def name_of(data, algorithm):
     """Returns git's name of the object that has these bytes. `algorithm` is `sha1` or `sha256`."""
-    return digest(algorithm, b"blob %d\0" % len(data), data).hexdigest()
+    made = digest_of_nothing(algorithm).copy()
+    made.update(b"blob %d\0" % len(data))
+    made.update(data)
+    return made.hexdigest()
 
 
 def head_of(size):
@@ -36,8 +32,9 @@ def head_of(size):
 
 
 def compressed(data):
-    """Returns bytes as an object has them. A window that is no longer than they are need not be made ready each time."""
-    packer = zlib.compressobj(1, wbits=min(max(len(data).bit_length(), 9), zlib.MAX_WBITS))
+    """Returns bytes as an object has them. A window and a table that are no larger than they need are sooner made ready."""
+    bits = len(data).bit_length()
+    packer = zlib.compressobj(1, wbits=min(max(bits, 9), zlib.MAX_WBITS), memLevel=min(max(bits - 5, 1), zlib.DEF_MEM_LEVEL))
     return packer.compress(data) + packer.flush()
 
 
@@ -45,4 +42,4 @@ def pack_of(contents, algorithm):
     """Returns a pack with an object for each of `contents`."""
     objects = [head_of(len(data)) + compressed(data) for data in contents]
     pack = b"".join([b"PACK", struct.pack(">LL", 2, len(objects)), *objects])
-    return pack + digest(algorithm, pack).digest()
+    return pack + hashlib.new(algorithm, pack, usedforsecurity=False).digest()

@@ -7,14 +7,19 @@ def record(word, data=b""):
     return b"%s %d\n%s\n" % (word.encode(), len(data), data)
 
 
+def record_at(data, place):
+    """Returns the word and the bytes of the record at a place, and the place behind it. Raises ValueError if there is none."""
+    head = data.index(b"\n", place)
+    word, length = data[place:head].split(b" ")
+    end = head + 1 + int(length)
+    if data[end : end + 1] != b"\n":
+        raise ValueError("a record is cut off")
+    return word.decode(), data[head + 1 : end], end + 1
+
+
 def records_in(data):
     """Yields the word and the bytes of each record. Raises ValueError where there is none."""
     place = 0
     while place < len(data):
-        head = data.index(b"\n", place)
-        word, length = data[place:head].split(b" ")
-        end = head + 1 + int(length)
-        if data[end : end + 1] != b"\n":
-            raise ValueError("a record is cut off")
-        yield word.decode(), data[head + 1 : end]
-        place = end + 1
+        word, value, place = record_at(data, place)
+        yield word, value

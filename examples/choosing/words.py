@@ -42,6 +42,9 @@ def printable(text):
 
 def shown(path):
     """Returns a path as it can stand on a screen. A backslash is doubled, so two paths are never shown alike."""
+    if isinstance(path, str) and path.isprintable() and "\\" not in path:
+        # most are
+        return path
     return printable(os.fsdecode(path).replace("\\", "\\\\"))
 
 

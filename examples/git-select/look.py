@@ -10,15 +10,20 @@ from choosing.change import LINK, Side, Unread
 from choosing.folders import MOST_BYTES, TOO_LARGE, folder_of
 from choosing.git import split_by_zeros
 from choosing.packs import name_of
-from repository import FALSE, NO_FILE
+from repository import FALSE, NO_FILE, lines_of
 
 # how many bytes are read in all; the largest files beyond that are not
 MOST_READ = 20_000_000
 # the attributes by which git stores other bytes than a file has; line ends change only where there is a CR
 CONVERSIONS = "filter", "ident", "working-tree-encoding"
 NO_CONVERSION = "unspecified", "unset"
+# what git says of a path for which none of them is set
+NONE_SET = "".join(["%%s\0%s\0%s\0" % (name, NO_CONVERSION[0]) for name in CONVERSIONS])
 # has git not hand on each answer alone
 AT_ONCE = {"GIT_FLUSH": "0"}
+
+# how a file is opened: what took its place meanwhile is not followed, and not waited for
+TO_BE_READ = os.O_RDONLY | os.O_NOFOLLOW | os.O_NONBLOCK | os.O_CLOEXEC
 
 # how long ago a file has to be written to be known by its times: some disks have one time for two writes within that, in nanoseconds
 REST = 2_000_000_000
@@ -30,7 +35,7 @@ Found = collections.namedtuple("Found", "sides left_out unread contents names")
 
 def mark_of(found):
     """Returns what shows that a file is still the same, by what stat says of it."""
-    return "%d %d %d %d" % (found.st_ino, found.st_size, found.st_mtime_ns, found.st_ctime_ns)
+    return found.st_ino, found.st_size, found.st_mtime_ns, found.st_ctime_ns
 
 
 def beyond(sizes, most):
@@ -65,7 +70,7 @@ class Folders(contextlib.ExitStack):
 
 def read_file(folder, name):
     """Returns the bytes of a file in a folder that is open. What is swapped for a link or a pipe meanwhile is not read."""
-    opened = os.open(name, os.O_RDONLY | os.O_NOFOLLOW | os.O_NONBLOCK | os.O_CLOEXEC, dir_fd=folder)
+    opened = os.open(name, TO_BE_READ, dir_fd=folder)
     try:
         found = os.fstat(opened)
         if not stat.S_ISREG(found.st_mode):
@@ -134,17 +139,23 @@ class Look:
         """Returns the paths of those files that git is to store, as it may store other bytes than they have."""
         if self.scratch.setting("core.safecrlf") not in (*FALSE, "warn", None):
             return set(paths)
-        given, words = os.fsencode("".join([path + "\0" for path in paths])), ("check-attr", "--stdin", "-z", *CONVERSIONS)
-        parts = split_by_zeros(self.scratch.git(*words, given=given, **AT_ONCE)) if paths else []
+        given, words = lines_of(paths), ("check-attr", "--stdin", "-z", *CONVERSIONS)
+        output = self.scratch.git(*words, given=given, **AT_ONCE) if paths else b""
+        if output == os.fsencode("".join([NONE_SET % (path, path, path) for path in paths])):
+            # most have none of them
+            return set()
+        parts = split_by_zeros(output)
         return {path for path, value in zip(parts[0::3], parts[2::3]) if value not in NO_CONVERSION}
 
     def read(self, path, by_git, folders):
         """Returns the side of a file, and keeps its contents, if they were not read before. Adds its path to `by_git` if git is to store
         it, or says why it is left out; then it has no side."""
         found = self.stats[path]
-        key, is_link = (path, mark_of(found)), stat.S_ISLNK(found.st_mode)
-        if key in self.before:
-            return Side(self.mode_of(path), self.before[key])
+        key = path, mark_of(found)
+        name = self.before.get(key)
+        if name:
+            return Side(self.mode_of(path), name)
+        is_link = stat.S_ISLNK(found.st_mode)
         try:
             folder, name = folders.of(path)
             data = os.fsencode(os.readlink(name, dir_fd=folder)) if is_link else read_file(folder, name)
@@ -162,6 +173,6 @@ class Look:
 
     def unread_side(self, path):
         """Returns the side of a file that is not read. Its name says what shows that it is still the same."""
-        name = mark_of(self.stats[path])
+        name = "%d %d %d %d" % mark_of(self.stats[path])
         self.contents[name] = Unread(name.encode(), self.stats[path].st_size)
         return Side(self.mode_of(path), name)

@@ -33,7 +33,7 @@ def contents_in(output, names):
     found, place = {}, 0
     for name in names:
         end = output.index(b"\n", place)
-        size = output[place:end].split()[-1]
+        size = output[output.rindex(b" ", place, end) + 1 : end]
         if not size.isdigit():
             raise Stop("git has no object %s" % name)
         place = end + 1 + int(size)
@@ -143,8 +143,9 @@ class Scratch(Git):
     def contents(self, names):
         """Returns the bytes of objects, by name."""
         names = set(names)
-        read = {name: self.known[name] for name in names & self.known.keys()}
-        return {**read, **self.stored_contents(sorted(names - read.keys()))}
+        missing = names - self.known.keys()
+        read = {name: self.known[name] for name in names - missing}
+        return {**read, **self.stored_contents(sorted(missing))} if missing else read
 
     def stored_contents(self, names):
         """Returns the bytes of objects that git has, by name."""

@@ -43,7 +43,8 @@ def changed_in_tree(way, scratch, only=None, is_new_shown=True):
     `only`, a set of paths, others are passed over."""
     has_untracked = is_new_shown and way.shows_untracked()
     found, left_out, notes = candidates(way.repository, way.options.paths, way.start, has_untracked)
-    found = {path: found[path] for path in sorted(found.keys() - left_out.keys()) if only is None or path in only}
+    # git names most of them in order, so they are soon sorted
+    found = {path: found[path] for path in sorted([path for path in found if path not in left_out and (only is None or path in only)])}
     # what is not read is found out once
     sizes = scratch.sizes((side.name for side, _ in found.values() if side.name), way.most_read()) if way.unread is None else {}
     old_sizes = {path: sizes[side.name] for path, (side, _) in found.items() if side.name in sizes}

@@ -210,14 +210,16 @@ class Stage(Way):
         self.repository.update(entries, GIT_INDEX_FILE=index)
 
     def reports(self, choices):
-        emptied = [choice.change.path for choice in choices if self.is_emptied(*choice)]
-        others = [choice.change.path for choice in choices if choice.change.path not in set(emptied)]
+        emptied = dict.fromkeys(choice.change.path for choice in choices if self.is_emptied(*choice))
+        others = [choice.change.path for choice in choices if choice.change.path not in emptied]
         return [*self.lines(others), *("%s: %s, as an empty file" % (self.done, shown(path)) for path in emptied)]
 
     def is_emptied(self, change, mode, data):
         """Whether a choice leaves an empty file where the goal is none, or one with lines."""
+        if data or mode == ABSENT:
+            return False
         goal_mode, goal_data = version_in(change, self.use.goal)
-        return mode != ABSENT and not data and (goal_mode == ABSENT or bool(goal_data))
+        return goal_mode == ABSENT or bool(goal_data)
 
 
 class Unstage(Stage):
