@@ -19,6 +19,9 @@ from typed import Typed  # noqa: E402
 # the columns of its table
 HEAD = "What changed, and where it is installed", "Seconds, the median", "The least", "Processor seconds"
 RUNS = 5
+# how long the files lie there before they are looked at, in seconds. One that was written within the last two is read again after the choice, as
+# git does; but who chooses among files has not written all of them right before
+REST = 3
 GIVE_UP, ACCEPT_ALL = b"q", b"Ac"
 chance = random.Random(1)
 
@@ -61,11 +64,12 @@ def write(folder, files, side):
 
 
 def make(folder, files):
-    """Makes a repository whose working tree has the files as they are afterwards."""
+    """Makes a repository whose working tree has the files as they are afterwards. They have their rest then."""
     write(folder, files, 0)
     for words in (["init", "--quiet"], ["add", "--all"], ["commit", "--quiet", "--message=base"]):
         subprocess.run(["git", *words], cwd=folder, env={**os.environ, **SETTINGS}, check=True)
     write(folder, files, 1)
+    time.sleep(REST)
 
 
 def processor_seconds():
