@@ -11,6 +11,8 @@ use std::process::Command;
 /// The names of the library: as it is installed, and as a clone builds it.
 const LIBRARIES: [&str; 2] = ["gabrosty", "scm_c"];
 const MEMORY: &str = "liblibc_c.a";
+/// Where a clone builds the library.
+const BUILT: &str = "crates/scm_c/out";
 /// The file that says of an installed library that nothing was proved.
 const UNPROVED: &str = "gabrosty/unproved";
 const MISSING: &str = "the library for C is not found. An archive of Gabrosty has it beside this crate: there the crate is lib/gabrosty/rust, and finds
@@ -98,13 +100,18 @@ fn owner_of(path: &Path) -> Option<u32> {
 }
 
 /// Returns whether `place` has a library of the user `owner` or of root, and none of another user: others may put theirs into a folder above
-/// this crate, as into `/tmp`.
+/// this crate, as into `/tmp`. The folders of a clone that lead to it have to be so, too: they could lead elsewhere when it is linked.
 fn has_own_library(place: &Path, owner: Option<u32>) -> bool {
     let is_of_another =
         |path: &Path| owner_of(path).map_or(false, |found| found != 0 && Some(found) != owner);
-    let places = |name| [place.to_owned(), file_of(place, name), place.join(MEMORY)];
+    let folders = if place.ends_with(BUILT) { 3 } else { 1 };
     library_in(place).map_or(false, |name| {
-        !places(name).iter().any(|path| is_of_another(path))
+        let files = [file_of(place, name), place.join(MEMORY)];
+        let mut found = place
+            .ancestors()
+            .take(folders)
+            .chain(files.iter().map(|file| file.as_path()));
+        !found.any(is_of_another)
     })
 }
 
@@ -114,7 +121,7 @@ fn found_folder() -> Option<PathBuf> {
     let owner = owner_of(&crate_folder);
     let above = crate_folder
         .ancestors()
-        .flat_map(|place| [place.join("crates/scm_c/out"), place.to_owned()]);
+        .flat_map(|place| [place.join(BUILT), place.to_owned()]);
     installed_folder()
         .filter(|place| library_in(place).is_some())
         .or_else(|| {

@@ -194,9 +194,11 @@ static bool write_held(const target *target, piece bytes, mode_t permissions) {
 /* Returns whether nothing is there, or a file. */
 static bool is_nothing_or_file(mode_t mode) { return mode == 0 || S_ISREG(mode); }
 
-/* Returns whether what is at a place can have come there by this user: it is the user's, or what was there `before`. */
+/* Returns whether what is at a place can have come there by this user: it is the user's, or what was there `before`. A new file of another
+ * user may have the number of one that is gone. */
 static bool is_own_or_same(const struct stat *now, const struct stat *before) {
-    return now->st_uid == geteuid() || (now->st_dev == before->st_dev && now->st_ino == before->st_ino);
+    bool is_same = now->st_dev == before->st_dev && now->st_ino == before->st_ino && now->st_uid == before->st_uid;
+    return is_same || now->st_uid == geteuid();
 }
 
 /* Returns whether a file has the permissions and the group of another one, or is that one. */
@@ -230,16 +232,4 @@ bool replace_target(target *target, piece bytes, mode_t permissions) {
     }
     bool is_file = is_nothing_or_file(target->status.st_mode);
     return is_file ? write_held(target, bytes, permissions) : write_onto(target, bytes);
-}
-
-bool replace_file(const char *path, piece bytes, mode_t permissions) {
-    target target;
-    if (!find_target(path, &target)) {
-        return false;
-    }
-    bool is_done = replace_target(&target, bytes, permissions);
-    int error = errno;
-    close(target.folder);
-    errno = error;
-    return is_done;
 }

@@ -44,13 +44,9 @@ bool read_source(const char *path, text *into, mode_t *permissions);
  * set if that fails, and then it is not there. */
 bool write_new_file(int folder, const char *name, const access_rules *access, piece bytes);
 
-/* Replaces the file at `path`. Returns false with errno set if that fails, and then the file is as it was: the bytes are written beside
- * it first, and no signal comes between. It keeps its access, and a new file has no others than `permissions`. What is no file (a pipe, a
- * device) is written to. */
-bool replace_file(const char *path, piece bytes, mode_t permissions);
-
-/* Replaces a target that was found before, in the same way. Returns false with errno set if that fails: to ESTALE if something of another
- * kind, or of another user, came there since. */
+/* Replaces a target that was found before. Returns false with errno set if that fails, to ESTALE if something of another kind, or of another
+ * user, came there since; then the file is as it was: the bytes are written beside it first, and no signal comes between. It keeps its
+ * access, and a new file has no others than `permissions`. What is no file (a pipe, a device) is written to. */
 bool replace_target(target *target, piece bytes, mode_t permissions);
 
 /* Holds back all signals but those by which the program itself fails, and that of a file that is too large, which is an error of the write

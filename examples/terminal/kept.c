@@ -1,29 +1,21 @@
 /* The marks of a session that goes on, kept in a file. No proof covers this file. */
 #define _GNU_SOURCE
 #include "kept.h"
-#include "target.h"
 
 #include <fcntl.h>
 #include <string.h>
 #include <unistd.h>
 
-/* Opens the file at `path` to be written to, and follows no link of another user to it. Returns -1 if it is no file, or another user's in a
- * folder that all may write to: who put it there could read what is kept. */
-static int open_kept(const char *path) {
-    target target;
-    if (!find_target(path, &target)) {
-        return -1;
-    }
-    bool is_file = S_ISREG(target.status.st_mode);
-    int file = is_file ? openat(target.folder, target.name, O_WRONLY | O_NOFOLLOW | O_NONBLOCK | O_CLOEXEC) : -1;
-    close(target.folder);
-    return file;
+/* Returns whether an open file is empty, and the one that was found: another one could be read by who put it there. */
+static bool can_keep(int file, const target *target) {
+    struct stat now;
+    return fstat(file, &now) == 0 && now.st_dev == target->status.st_dev && now.st_ino == target->status.st_ino && now.st_size == 0;
 }
 
-keeper begin_keeping(const char *path, const handed *handed) {
-    struct stat found;
-    int file = open_kept(path);
-    if (file >= 0 && (fstat(file, &found) != 0 || !S_ISREG(found.st_mode) || found.st_size > 0)) {
+keeper begin_keeping(const target *target, const handed *handed) {
+    bool is_file = S_ISREG(target->status.st_mode);
+    int file = is_file ? openat(target->folder, target->name, O_WRONLY | O_NOFOLLOW | O_NONBLOCK | O_CLOEXEC) : -1;
+    if (file >= 0 && !can_keep(file, target)) {
         close(file);
         file = -1;
     }

@@ -3,6 +3,7 @@
 #define KEPT_H
 
 #include "handed.h"
+#include "target.h"
 
 /* Where marks are kept. The file is -1 if they are not. */
 typedef struct keeper {
@@ -11,8 +12,8 @@ typedef struct keeper {
     text kept; /* what the file has */
 } keeper;
 
-/* Keeps marks in the file at `path`, if that is an empty file: what another one has is left alone until the user accepts. */
-keeper begin_keeping(const char *path, const handed *handed);
+/* Keeps marks in the file that was found as `target`, if that is an empty file: what another one has is left alone until the user accepts. */
+keeper begin_keeping(const target *target, const handed *handed);
 
 /* Keeps the marks as they are now. `keeper` leads to a keeper: a run calls this where the user rests. */
 void keep_on(void *keeper, gabro_session *session);

@@ -208,17 +208,8 @@ static const char *wrong_line(const char *path, size_t number, const char *at, u
     return words;
 }
 
-/* Opens the file of keys. One that the user does not name has to be this user's or root's: HOME may be another user's. */
-static int open_keys(const char *path, bool is_named) {
-    struct stat found;
-    int file = open_named_file(path);
-    if (file >= 0 && !is_named && (fstat(file, &found) != 0 || (found.st_uid != 0 && found.st_uid != geteuid()))) {
-        close(file);
-        file = -1;
-        errno = EPERM;
-    }
-    return file;
-}
+/* Opens the file of keys. HOME may be another user's, so one that the user does not name has to be this user's or root's. */
+static int open_keys(const char *path, bool is_named) { return is_named ? open_named_file(path) : open_own_file(path); }
 
 const char *take_keys(gabro_session *session, const layer *layer) {
     char path[PATH_MAX];

@@ -47,6 +47,7 @@ typedef struct task {
     bool is_as_json;
     const char *from, *to; /* the paths of what is shown; `to` is NULL for a state */
     const char *output;    /* the file to write to, or NULL for standard output */
+    target target;         /* that file, in a folder that is open */
     const char *marks;     /* the file with marks that are taken up, or NULL */
     uint64_t known;        /* by what the two versions that are shown are known */
     mode_t permissions;    /* that all files have that were read */
@@ -192,21 +193,27 @@ static void free_task(task *task) {
     free_difference(&task->file);
     free_folders(&task->folders);
     free_handed(&task->handed);
+    if (task->output) {
+        close(task->target.folder);
+    }
 }
 
 /* ---- The run, and what is written ---- */
 
+/* Opens the folder of the file to write to, before the user chooses: nothing that comes there meanwhile leads elsewhere. */
+static void find_output(task *task) { check(!task->output || find_target(task->output, &task->target), task->output, NULL); }
+
 /* Writes bytes to the file of a task, or to standard output. A limit of the size of files is an error of the write. */
-static void write_output(const task *task, piece bytes) {
+static void write_output(task *task, piece bytes) {
     const char *path = task->output;
     signal(SIGXFSZ, SIG_IGN);
-    bool is_written = path ? replace_file(path, bytes, task->permissions)
+    bool is_written = path ? replace_target(&task->target, bytes, task->permissions)
                            : write_bytes(STDOUT_FILENO, bytes.bytes, bytes.length) && close(STDOUT_FILENO) == 0;
     check(is_written, path ? path : "standard output", NULL);
 }
 
 /* Writes the text of accepted changes, or the records of those that were handed in. */
-static void write_text(gabro_session *session, const task *task) {
+static void write_text(gabro_session *session, task *task) {
     text accepted = {0};
     bool is_handed = task->form == HANDED_IN && !task->is_as_json;
     text plain = {0};
@@ -223,7 +230,7 @@ static void write_text(gabro_session *session, const task *task) {
 }
 
 /* Writes the selected side of the file. */
-static void write_file(gabro_session *session, const task *task) {
+static void write_file(gabro_session *session, task *task) {
     text bytes = {0};
     side side;
     check_code(read_side(session, 0, &task->file.change, true, &bytes, &side), "cannot go on");
@@ -306,7 +313,7 @@ static bool run(gabro_session *session, const task *task, int terminal) {
         return run_again(session, task, terminal);
     }
     bool is_kept = task->form == HANDED_IN && !task->is_as_json;
-    keeper keeper = is_kept ? begin_keeping(task->output, &task->handed) : (struct keeper){.file = -1};
+    keeper keeper = is_kept ? begin_keeping(&task->target, &task->handed) : (struct keeper){.file = -1};
     watched watched = {.keep = keep_on, .marks = &keeper};
     bool is_there = run_watched(session, task, terminal, &watched);
     end_keeping(&keeper);
@@ -405,6 +412,7 @@ int main(int argc, char **argv) {
     fill_standard_files();
     read_environment(&task.layer);
     hear_ends();
+    find_output(&task);
     open_session(&session, &task);
     bool is_chosen = !has_nothing(&task);
     int status = is_chosen ? select_changes(&session, &task) : 0;

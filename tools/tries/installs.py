@@ -255,9 +255,23 @@ def is_linked_if_own(place, folder):
         for path, owner in zip(("libscm_c.a", "liblibc_c.a", "gabrosty/unproved"), owners):
             os.chown(os.path.join(folder, path), owner, owner)
         ends.append(place.call(*environment, program))
+    is_led = is_led_elsewhere(place, folder, [*environment, program])
     of_own = "cargo:warning=gabrosty: words\ncargo:warning=gabrosty: cargo:rustc-link-arg=/nowhere\n"
     is_told = ["rustc-link-arg" in said for _, said in ends] == [False, False, False, True] and of_own in ends[-1][1]
-    return [status for status, _ in ends] == [1, 1, 0, 0] and is_told
+    return [status for status, _ in ends] == [1, 1, 0, 0] and is_told and not is_led
+
+
+def is_led_elsewhere(place, folder, command):
+    """Whether a folder of another user, in the place of one on the way to what a clone builds, leads the crate to a library. It could lead to
+    another one by the time of linking. A link of the user's own does."""
+    built = place.folder("built/scm_c/out", {"libscm_c.a": b"", "liblibc_c.a": b""})
+    os.unlink(folder + "/libscm_c.a")
+    os.symlink(os.path.dirname(os.path.dirname(built)), folder + "/crates")
+    ends = []
+    for owner in NOBODY, 0:
+        os.chown(folder + "/crates", owner, owner, follow_symlinks=False)
+        ends.append(place.call(*command)[0])
+    return ends != [1, 0]
 
 
 def a_module_of_another(place):

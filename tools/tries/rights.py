@@ -184,8 +184,47 @@ def what_takes_the_place_of_output(place):
     return found == [(0, 0o600), (0, 0o755)]
 
 
+def what_comes_to_the_place_of_an_output(place):
+    """A link that another user puts in the place of the file of -o, or of ACCEPTED, while the user chooses, is not followed, and neither is one in
+    the place of its folder: also without a sticky bit. A file of theirs there stays. All of it is named."""
+    if os.geteuid():
+        return NOT_ROOT
+    private = place.folder("private", {"x": b"x\n"})
+    handed, ends = os.path.join(place.top, "handed"), []
+    changed.write_file(handed, records(("path", "f"), ("old-mode", "100644"), ("old", OLD.decode()), ("new-mode", "100644"), ("new", NEW.decode())))
+    for commands in (["-o", *two(place)], ["--changes", handed]):
+        for number, (what, was_there) in enumerate(((what, it) for what in ("link", "file", "folder") for it in (True, False))):
+            folder = place.folder("group-%d" % number, {"out/x": b""} if was_there else {"out/other": b""})
+            output = folder + "/out/x"
+            for path in folder, folder + "/out":
+                os.chmod(path, 0o777)
+
+            def exchange(at=folder, what=what):
+                """Does what another user may do in a folder that all may write to."""
+                if what == "folder":
+                    os.rename(at + "/out", at + "/moved")
+                    os.symlink(private, at + "/out")
+                    return
+                with contextlib.suppress(FileNotFoundError):
+                    os.unlink(at + "/out/x")
+                os.symlink(private + "/x", at + "/out/x") if what == "link" else changed.write_file(at + "/out/x", b"theirs\n")
+                os.chown(at + "/out/x", NOBODY, NOBODY, follow_symlinks=False)
+
+            words = ["scm-select", "-o", output, *commands[1:]] if commands[0] == "-o" else ["scm-select", *commands, output]
+            status, said = place.type(words, ["a", "c"], before_last=exchange)
+            if what == "folder":
+                ends.append(status == 0 and bool(changed.read(folder + "/moved").get("x")))
+            else:
+                left = os.readlink(output) if what == "link" else data_of(output)
+                ends.append(status == 2 and "%s: it changed meanwhile" % output in said and left in (private + "/x", b"theirs\n"))
+            ends.append(changed.read(private) == {"x": b"x\n"})
+            place.forget_marks()
+    return all(ends)
+
+
 def keys_of_another_home(place):
-    """Keys in a HOME of another user, who could have `q` accept, are not taken, but named. One's own are taken there."""
+    """Keys in a HOME of another user, who could have `q` accept, are not taken, but named; nor are others, to which a link of theirs leads, and
+    nothing waits for a pipe of theirs. One's own are taken there."""
     if os.geteuid():
         return NOT_ROOT
     home = place.folder("home", {".config/gabrosty/keys": b"w c\n"})
@@ -194,7 +233,23 @@ def keys_of_another_home(place):
         os.chown(keys, owner, -1)
         more = {"SELECT_LAYER": "on", "HOME": home, "XDG_CONFIG_HOME": ""}
         ends.append(place.type(["scm-select", "-o", output, *two(place)], ["a", "w"] if owner == 0 else [], **more))
-    return ends[0][0] == 2 and keys + ": Operation not permitted" in ends[0][1] and ends[1][0] == 0 and data_of(output) == NEW
+    is_taken = ends.pop()[0] == 0 and data_of(output) == NEW
+    private = place.folder("private", {"keys": b"w c\n"})
+    for kind in "link", "around", "pipe", "name":
+        home = place.folder("home-" + kind, {} if kind == "around" else {".config/gabrosty/other": b""})
+        theirs = home + ("/.config" if kind == "around" else "/.config/gabrosty/keys")
+        if kind == "pipe":
+            os.mkfifo(theirs)
+        elif kind == "name":
+            os.link(private + "/keys", theirs)
+        else:
+            os.makedirs(private + "/gabrosty", exist_ok=True)
+            changed.write_file(private + "/gabrosty/keys", b"w c\n")
+            os.symlink(private + ("" if kind == "around" else "/keys"), theirs)
+        for path in ([] if kind == "name" else [theirs]) + [home, *([] if kind == "around" else [os.path.dirname(theirs)])]:
+            os.chown(path, NOBODY, NOBODY, follow_symlinks=False)
+        ends.append(place.type(["timeout", "30", "scm-select", "-o", output, *two(place)], [], **{**more, "HOME": home}))
+    return is_taken and all(status == 2 and "/.config/gabrosty/keys: Operation not permitted" in said for status, said in ends)
 
 
 def keys_through_links(place):
@@ -544,7 +599,7 @@ def a_handler_that_comes_late(place):
 
 
 ALL = (
-    group_and_list_stay, no_more_for_another_group, lists_that_cannot_be_read, what_another_user_put_there, what_is_read_through_links, what_takes_the_place_of_output, keys_of_another_home, keys_through_links,
+    group_and_list_stay, no_more_for_another_group, lists_that_cannot_be_read, what_another_user_put_there, what_is_read_through_links, what_takes_the_place_of_output, what_comes_to_the_place_of_an_output, keys_of_another_home, keys_through_links,
     signals_while_it_writes, a_signal_before_the_first_step, what_happens_between, names_of_one_file, a_folder_that_is_moved,
     what_a_new_folder_has, another_folder_where_one_was_made, a_deeper_tree, many_small_files, characters_of_both_lists,
     what_another_program_hands_in, marks_that_another_would_read, json_for_a_terminal, folders_in_one_another, a_handler_that_comes_late,
