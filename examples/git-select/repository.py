@@ -18,6 +18,8 @@ NO_FILE = "it is neither a file nor a link"
 FALSE = "false", "no", "off", "0", ""
 SETTINGS = r"^(core\.(filemode|safecrlf)|status\.showuntrackedfiles)$"
 IS_ANOTHER = "%s is another folder by now"
+# the words by which git takes no bare repository that GIT_DIR does not name: a clone may track the files of one. Git 2.38 knows them
+NAMED = "-c", "safe.bareRepository=explicit"
 # git's letter for a path that a sparse working tree is not to have
 SKIPPED = "S"
 # what git says before a path that it passes over
@@ -56,10 +58,10 @@ def differing_in(output):
 
 def places(git, *questions):
     """Returns the path that `git rev-parse` answers to each question."""
-    lines = os.fsdecode(git.git("rev-parse", *(word for words in questions for word in words))).split("\n")[:-1]
+    lines = os.fsdecode(git.git(*NAMED, "rev-parse", *(word for words in questions for word in words))).split("\n")[:-1]
     if len(lines) != len(questions):
         # a path has a line end, so each is asked for alone
-        lines = [os.fsdecode(git.git("rev-parse", *words)).removesuffix("\n") for words in questions]
+        lines = [os.fsdecode(git.git(*NAMED, "rev-parse", *words)).removesuffix("\n") for words in questions]
     return [os.path.join(git.top, line) for line in lines]
 
 

@@ -1019,6 +1019,38 @@ def texts_of_many_megabytes(place):
 
 
 
+def a_repository_that_a_clone_tracks(place):
+    """A folder of a clone has the files of a repository, with settings that name programs. In it, and below it, no way runs one: git takes no
+    such folder for a repository, unless GIT_DIR names it. Skipped before git 2.38, which asks nobody about that."""
+    ran = os.path.join(place.top, "ran")
+    run = ("run", b"#!/bin/sh\ntouch %s\nexit 1\n" % ran.encode())
+    settings = "[core]\n\trepositoryformatversion = 0\n\tbare = false\n\tworktree = ..\n\tfsmonitor = %s/run\n\thooksPath = %s\n" % (place.top, place.top)
+    bare = {"bare/HEAD": b"ref: refs/heads/x\n", "bare/config": settings.encode(), "bare/objects/x": b"", "bare/refs/x": b""}
+    changed.write(place.folder("programs"), {"run": run, "pre-commit": run})
+    for name in "run", "pre-commit":
+        os.rename(os.path.join(place.top, "programs", name), os.path.join(place.top, name))
+    repository = Repository(place, {**bare, "a": b"1\n"}, {**bare, "a": b"2\n"})
+    if repository.git("-c", "safe.bareRepository=explicit", "rev-parse", check=False) or not runs_in(repository, ran):
+        return "git looks at no such setting, or does not run it"
+    ways = [], ["--unstage"], ["--restore"], ["--stash"], ["--commit", "-m", "x"], ["--amend"], ["--split"], ["--undo"], ["--finish"]
+    ends = []
+    for folder in "bare", "bare/objects":
+        for words in ways:
+            status, said = place.call("git-select", *words, folder=os.path.join(repository.folder, folder))
+            ends.append((status, os.path.exists(ran)) == (1, False) and "cannot use bare repository" in said)
+    is_named = place.call("env", "GIT_DIR=.", "GIT_WORK_TREE=..", "git-select", folder=repository.folder + "/bare")
+    return all(ends) and "cannot use bare repository" not in is_named[1]
+
+
+def runs_in(repository, ran):
+    """Whether git itself runs a program of the folder `bare`, and removes what shows that."""
+    repository.place.call("git", "status", folder=repository.folder + "/bare")
+    is_run = os.path.exists(ran)
+    if is_run:
+        os.unlink(ran)
+    return is_run
+
+
 ALL = (
     a_clone_with_a_plan, a_folder_with_a_plan, plans_that_are_malformed, what_is_kept_and_changed, a_plan_that_fits_to_nothing,
     what_another_user_left, where_no_plan_can_be_kept, bits_that_set_a_user, permissions_of_new_files, what_becomes_a_fifo,
@@ -1030,5 +1062,5 @@ ALL = (
     a_message_in_another_host,
     a_home_of_another_user, a_plan_where_another_leads, a_state_folder_of_a_clone, a_race_for_a_new_folder,
     links_of_another_user, a_file_of_another_user_in_time, a_spare_folder_that_others_may_read, a_lock_that_is_a_pipe,
-    texts_of_many_megabytes, characters_that_disks_leave_out,
+    texts_of_many_megabytes, characters_that_disks_leave_out, a_repository_that_a_clone_tracks,
 )
