@@ -6,10 +6,12 @@
 #include <string.h>
 #include <unistd.h>
 
-/* Returns whether an open file is empty, and the one that was found: another one could be read by who put it there. */
+/* Returns whether an open file is empty, and the one that was found: another one could be read by who put it there. A file with a second name
+ * may be another one of the user's, which someone gave this name. */
 static bool can_keep(int file, const target *target) {
     struct stat now;
-    return fstat(file, &now) == 0 && now.st_dev == target->status.st_dev && now.st_ino == target->status.st_ino && now.st_size == 0;
+    bool is_known = fstat(file, &now) == 0 && now.st_nlink == 1 && now.st_size == 0;
+    return is_known && now.st_dev == target->status.st_dev && now.st_ino == target->status.st_ino;
 }
 
 keeper begin_keeping(const target *target, const handed *handed) {

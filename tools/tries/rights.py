@@ -506,7 +506,7 @@ def what_another_program_hands_in(place):
 
 def marks_that_another_would_read(place):
     """Where all may put files, marks and messages of changes that are handed in are not kept in another user's file, nor where a link of
-    theirs leads to, while the user chooses. In one's own file they are."""
+    theirs leads to, while the user chooses; nor in a file of one's own that has a second name, which they could give it. In one's own file they are."""
     if os.geteuid():
         return NOT_ROOT
     folder, changes, seen = shared(place), os.path.join(place.top, "changes"), []
@@ -515,7 +515,8 @@ def marks_that_another_would_read(place):
     changed.write(folder, {"theirs": b"", "own": b"", "link": ("link", place.folder("private", {"x": b""}) + "/x")})
     for name in "theirs", "link":
         os.chown(os.path.join(folder, name), NOBODY, NOBODY, follow_symlinks=False)
-    for name in "theirs", "link", "own":
+    os.link(os.path.join(place.folder("other", {"x": b""}), "x"), folder + "/second")
+    for name in "theirs", "link", "second", "own":
         path = os.path.join(folder, name)
         typed = Typed(["scm-select", "--changes", changes, path], 60, 20, place.environment, place.top)
         typed.press("a")
@@ -524,7 +525,7 @@ def marks_that_another_would_read(place):
         typed.press("q")
         typed.write(b"\r")
         typed.end()
-    return seen[:2] == [b"", b""] and b"private" in seen[2] and data_of(folder + "/own") == b""
+    return seen[:3] == [b""] * 3 and b"private" in seen[3] and data_of(folder + "/own") == b""
 
 
 def json_for_a_terminal(place):
