@@ -26,11 +26,12 @@ def take_standard_files():
 
 
 def encoding_asked_for():
-    """Returns the encoding that the user asks for, or None."""
+    """Returns the encoding that the user asks for, or None. Some take no text, or do not take each one."""
     name = os.environ.get("PYTHONIOENCODING", "").partition(":")[0]
     try:
+        "\u20ac\n".encode(name or "utf-8", "backslashreplace")
         return codecs.lookup(name).name if name else None
-    except LookupError:
+    except (LookupError, UnicodeError):
         return None
 
 

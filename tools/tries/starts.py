@@ -34,7 +34,8 @@ def a_module_of_the_clone(place):
     repository = Repository(place, {"a": b"1\n", **planted}, {"a": b"2\n", **planted})
     settings = (
         {"PYTHONPATH": ""}, {"PYTHONPATH": ":"}, {"PYTHONPATH": ".:/nowhere"}, {"PYTHONSAFEPATH": "1"},
-        {"PYTHONSTARTUP": "json.py", "PYTHONINSPECT": "1"}, {"PYTHONHOME": "/nowhere"}, {"PYTHONWARNINGS": "error::json.x"},
+        {"PYTHONSTARTUP": "json.py", "PYTHONINSPECT": "1"}, {"PYTHONHOME": "/nowhere"}, {"PYTHONWARNINGS": "error::json.x"}, {"PYTHONIOENCODING": "idna"},
+        {"PYTHONIOENCODING": "rot13"},
     )
     front = os.path.join(place.top, "front")
     changed.write_file(front, b'#!/bin/sh\nexec python3 -IB "$NEXT" "$@"\n')
