@@ -21,7 +21,7 @@ typedef struct walk {
     char rest[2 * PATH_MAX];
     int links;
     bool is_to_be_read; /* what is found: then a file of another user will do */
-    bool is_unnamed;    /* by the user: then no link of another user will do */
+    bool is_led;        /* by a link of another user than this one and root */
 } walk;
 
 /* Returns whether what is in a folder is the user's, or the folder's owner's, or came there by a right that not all have. So the kernel
@@ -35,12 +35,8 @@ static bool is_trusted(int folder, const struct stat *status) {
     return is_own;
 }
 
-/* Returns whether something is this user's or root's. Else errno is EPERM. */
-static bool is_own(const struct stat *status) {
-    bool is_so = status->st_uid == 0 || status->st_uid == geteuid();
-    errno = is_so ? errno : EPERM;
-    return is_so;
-}
+/* Returns whether something is this user's or root's. */
+static bool is_own(const struct stat *status) { return status->st_uid == 0 || status->st_uid == geteuid(); }
 
 /* Goes on in another folder. Returns whether it is open. */
 static bool enter(walk *walk, int folder) {
@@ -119,8 +115,8 @@ static bool step(walk *walk, target *target, bool *is_found) {
         return *is_found && (is_any || is_trusted(walk->folder, status));
     }
     if (S_ISLNK(status->st_mode)) {
-        bool is_any = !walk->is_unnamed || is_own(status);
-        return is_any && is_trusted(walk->folder, status) && follow_link(walk, target->name, is_last);
+        walk->is_led = walk->is_led || !is_own(status);
+        return is_trusted(walk->folder, status) && follow_link(walk, target->name, is_last);
     }
     return enter(walk, openat(walk->folder, target->name, O_PATH | O_DIRECTORY | O_NOFOLLOW | O_CLOEXEC));
 }
@@ -163,15 +159,16 @@ int open_named_file(const char *path) {
 }
 
 int open_own_file(const char *path) {
-    walk walk = {.folder = -1, .is_to_be_read = true, .is_unnamed = true};
+    walk walk = {.folder = -1, .is_to_be_read = true};
     target target;
     struct stat around, found;
     if (!find(&walk, path, &target)) {
         return -1;
     }
     int file = openat(target.folder, target.name, O_RDONLY | O_NOFOLLOW | O_NONBLOCK | O_NOCTTY | O_CLOEXEC);
-    bool is_read = file >= 0 && fstat(target.folder, &around) == 0 && is_own(&around) && fstat(file, &found) == 0 && is_own(&found);
-    int error = errno;
+    bool is_known = file >= 0 && fstat(target.folder, &around) == 0 && fstat(file, &found) == 0;
+    bool is_read = is_known && !walk.is_led && is_own(&around) && is_own(&found);
+    int error = is_known ? EPERM : errno;
     close(target.folder);
     if (file >= 0 && !is_read) {
         close(file);

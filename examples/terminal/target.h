@@ -21,9 +21,8 @@ bool find_target(const char *path, target *target);
  * if that fails. */
 int open_named_file(const char *path);
 
-/* Opens a file that the user does not name, to be read, and waits for no pipe. Follows a link only if it is this user's or root's. The file and the
- * folder that it lies in have to be so, too: else returns -1 with errno EPERM, or with another errno set if the file is not there or cannot be
- * opened. */
+/* Opens a file that the user does not name, to be read, and waits for no pipe. The file, the folder that it lies in, and each link on the way have to
+ * be this user's or root's. Returns -1 with errno set if that fails, to EPERM for another user's. */
 int open_own_file(const char *path);
 
 /* Opens the folder that a path names, in the same way, to be listed. Returns -1 with errno set if that fails. */
