@@ -1,5 +1,5 @@
 -- The status row alone, and below the rows of a session.
-use Rattle.std.proofs.Common.{◌≡◌, ℕ, ◌+◌, ◌-◌, ◌<◌, List, [], ◌∷◌, length, get_or, set, replicate, refl, sym, ap, ◌∙◌, subst, arith}
+use Rattle.std.proofs.Common.{◌≡◌, ℕ, ◌+◌, ◌-◌, ◌<◌, List, [], length, get_or, set, replicate, sym, ap, ◌∙◌, subst, arith}
 use Rattle.std.specs.Prelude.{pos}
 use Rattle.std.proofs.lemmas.List.{get_or-set_same, get_or-replicate, length-set, length-replicate}
 use Rattle.scm_cells.specs.Cell.{Cell, blank}
@@ -44,6 +44,6 @@ module _ (w : ℕ) (l : LeftText) (r : List ℕ) where
       get_or-set_same (with_left h) h (right_on (get_or (with_left h) h [])) [] (left-long h)
       ∙ ap right_on (left-row h)
 
-  -- the status row below rows is the only one of the screen without rows above it
-  pub status-row-alone : (h : ℕ) → (status_screen w 0 l r).rows ≡ get_or (status_screen w h l r).rows h [] ∷ []
-  status-row-alone h = ap (λ (row : List Cell). row ∷ []) (sym (last-row h))
+  -- the status row below `h` rows is that of the screen without rows above it
+  pub status-row-alone : (h : ℕ) → get_or (status_screen w h l r).rows h [] ≡ get_or (status_screen w 0 l r).rows 0 []
+  status-row-alone h = last-row h ∙ sym (last-row 0)

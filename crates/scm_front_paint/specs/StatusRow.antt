@@ -10,12 +10,11 @@ use Rattle.scm_front_paint.specs.Pane.{offset}
 use Rattle.scm_front_paint.specs.Seen.{Seen}
 use Rattle.scm_front_paint.specs.Status.{left_of, right_of, status_screen}
 
--- the row below the session's rows, on the screen that a paint shows of the status row
+-- the status row, on a screen without rows above it; below the session's rows it is the same (`status-row-alone` of StatusRowLemmas)
 abbrev pub status_row : Seen → List ℕ → List Cell
 status_row v accept =
     slice_index_or
-    (status_screen (width_of v) (rows_shown v.front.beneath) (left_of v.front) (right_of v.front (width_of v) (left_of v.front) (offset v.pane v.front.beneath) accept)).rows
-    (rows_shown v.front.beneath) []
+    (status_screen (width_of v) 0 (left_of v.front) (right_of v.front (width_of v) (left_of v.front) (offset v.pane v.front.beneath) accept)).rows 0 []
 
 -- a screen that has this row alone
 pub record HasStatusRow (v : Seen) (accept : List ℕ) (screen : Screen) : Type 0 where
