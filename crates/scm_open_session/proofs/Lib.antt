@@ -4,6 +4,8 @@ pub mod LayeredLemmas
 pub mod StageLemmas
 -- return codes, and the texts that calls write
 pub mod ResultLemmas
+-- the screen of a session with a layer
+pub mod ScreenCallLemmas
 -- what `gabro_paint` writes
 pub mod PaintLemmas
 -- states that grow by calls
