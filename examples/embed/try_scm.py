@@ -207,9 +207,9 @@ def log_a_layer():
         session.press_all("shift-F j j")
         session.type("/two\r")
         session.resize(50, 8)
-        # the range is the selected line: a jump to it, a toggle, and a jump back
+        # the range is the selected line, just below the smaller screen: a jump to it, a toggle, a jump back, and a scroll back
         session.type("v ?")
-        calls += "batch shift-F j j \nselect 0 0 1\nsize 50 7\nselect 0 0 1\nbatch space \nselect 0 0 1\n"
+        calls += "batch shift-F j j \nselect 0 0 1\nsize 50 7\nselect 0 0 1\nbatch space \nselect 0 0 1\nbatch wheel-up \n"
         calls += "batch ? \n"
         assert session.logged() == calls
         session.type("?e")
