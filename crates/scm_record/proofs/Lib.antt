@@ -33,6 +33,7 @@ pub mod AcceptedLemmas
 pub mod QuietLemmas
 -- a session that a program drives: its batches, and its calls
 pub mod HandleLemmas
+pub mod CountLemmas
 pub mod LiveLemmas
 -- paths of its calls
 pub mod PathLemmas

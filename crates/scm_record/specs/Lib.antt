@@ -38,6 +38,8 @@ pub mod Batches
 pub mod Live
 -- the calls of a live session, as steps of runs
 pub mod LiveCalls
+-- how many events of a batch a live session handles
+pub mod HandledCount
 -- a key that is selected at once, as moves would select it
 pub mod Jumps
 -- what the code of a live session keeps of its screen

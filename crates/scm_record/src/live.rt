@@ -32,7 +32,7 @@ pub mod typed;
 
 use self::batches::{BatchEnd, handle_each};
 use crate::frame::DrawnFrame;
-use crate::runs::{draw_anew, is_short, no_such_place, too_long};
+use crate::runs::{draw_anew, no_such_place};
 use crate::session::{ActiveSession, Flow};
 use scm_cells::Grid;
 use scm_input::{Event, TerminalKind};
@@ -305,14 +305,8 @@ impl<'state> LiveSession<'state> {
         ensures ok { IfOk result (λ turn. BatchLeads self.entry events.now turn) }
         ensures err { IfErr result (λ e. BatchFails self.entry events.now e) }
     {
-        let LiveSession {
-            session,
-            frame,
-            kind,
-        } = self;
-        let mut session = session;
-        let end = handle_each(&mut session, &frame, events)?;
-        turn_after(session, frame, kind, end)
+        let mut handled = 0;
+        self.handle_and_count(events, &mut handled)
     }
 
     /// Draws the session on a screen of size `kind`.
@@ -447,24 +441,8 @@ impl<'state> Editing<'state> {
         ensures ok { IfOk result (λ turn. MessageLeads self.entry (string_bytes text) turn) }
         ensures err { IfErr result (λ e. MessageFails self.entry (string_bytes text) e) }
     {
-        let Editing {
-            session,
-            frame,
-            kind,
-            commit,
-            rest,
-        } = self;
-        let mut session = session;
-        if !is_short(&text) {
-            return Err(too_long(session.allocator()));
-        }
-        session.set_message(commit, text);
-        let end = handle_each(&mut session, &frame, &rest)?;
-        let end = BatchEnd {
-            is_kept: false,
-            ..end
-        };
-        turn_after(session, frame, kind, end)
+        let mut handled = 0;
+        self.answer_and_count(text, &mut handled)
     }
 }
 

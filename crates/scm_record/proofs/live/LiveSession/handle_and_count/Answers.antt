@@ -1,15 +1,17 @@
-use Rattle.std.proofs.Common.{◌∙◌, sym, subst}
+use Rattle.std.proofs.Common.{◌≡◌, ℕ, ◌∙◌, refl, sym, subst}
 use Rattle.std.proofs.lemmas.Result.{err_from_is_err_and, IfOk-weaker, IfErr-weaker}
 use Rattle.scm_record.specs.Session.{Session, IsDrawable}
 use Rattle.scm_record.specs.Frames.{IsSceneOf, scene_of}
 use Rattle.scm_record.specs.RunContracts.{IsCurrent}
 use Rattle.scm_record.specs.LiveCalls.{live_setting}
 use Rattle.scm_record.specs.Live.{Live}
+use Rattle.scm_record.specs.HandledCount.{batch_count, counted}
+use Rattle.scm_record.proofs.CountLemmas.{count-same, counts-lost}
 use Rattle.scm_record.proofs.HandleLemmas.{handles-same}
 use Rattle.scm_record.proofs.RunLemmas.{reaches-trans}
 use Rattle.scm_record.proofs.LiveLemmas.{leads-after, fails-after, fails-memory, reads-batch}
 use Rattle.scm_record.proofs.CurrentLemmas.{shown-current}
-use Rattle.scm_record.proofs.live.LiveSession.handle_all.Goals as goal
+use Rattle.scm_record.proofs.live.LiveSession.handle_and_count.Goals as goal
 
 pub handle_each-requires : goal.handle_each-requires
 handle_each-requires c =
@@ -62,3 +64,17 @@ returns-clause-err c =
     (handles.reached (live_setting l.kind reads edits) l.session frames c.self.invariant.shown))
     (fails l.session reads edits frames c.self.invariant.shown))
     c.turn_after.ensures.err)
+
+-- ---- how many events are handled
+
+pub returns-in_err-end-clause-counted : goal.returns-in_err-end-clause-counted
+returns-in_err-end-clause-counted c =
+    let p = err_from_is_err_and c.from_residual.result c.from_residual.ensures.1 in
+    counts-lost (λ (count : ℕ). count ≡ batch_count c.args.self c.args.events.now) c.from_residual.result p.0 0 p.1 (p.2 ∙ c.in_err-end.ensures.err) refl
+
+pub returns-clause-counted : goal.returns-clause-counted
+returns-clause-counted c =
+    let l : Live = record { session = c.self.inside.session.value; kind = c.self.inside.kind } in
+    rw (sym c.self.view_is)
+    (counted (count-same _ c.self.inside.frame.value c.args.events.now c.args.events.now _ c.self.inside.session.value c.in_ok-end.end.handled c.deref.ensures c.deref_mut.ensures.value refl c.in_ok-end.ensures.counted
+    (scene_of l.kind l.session) c.self.invariant.shown))
