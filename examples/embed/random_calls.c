@@ -350,17 +350,28 @@ static uint32_t layer(void) {
     }
 }
 
+/* Presses `count` words as one batch, and counts the events that were handled: all, unless one of them ended the session or asked for a
+ * message. A session with a layer refuses that. */
+static uint32_t press_and_count(const char *text, size_t count, uint32_t wanted) {
+    size_t handled = 77;
+    uint32_t code = one_of(gabro_press_and_count(&session, text, strlen(text), &handled), wanted, wanted == GABRO_DONE ? GABRO_NOT_NOW : wanted, wanted);
+    bool goes_on = gabro_stage(&session) == GABRO_WAITING;
+    assert(code == GABRO_DONE ? handled <= count && (handled == count || !goes_on) : handled == 77);
+    return code;
+}
+
 /* Presses up to three words as one batch. */
 static uint32_t press_batch(const char *const *words, size_t count, uint32_t wanted) {
     char text[64] = "";
     bool is_known = true;
-    for (uint32_t i = random_below(4); i > 0; i--) {
+    uint32_t presses = random_below(4);
+    for (uint32_t i = 0; i < presses; i++) {
         uint32_t which = random_below((uint32_t)count);
         is_known = is_known && which < count - 2;
         strcat(strcat(text, words[which]), random_below(2) ? " " : "   ");
     }
     wanted = is_known ? wanted : GABRO_NO_WORD;
-    return one_of(gabro_press_all(&session, text, strlen(text)), wanted, wanted, wanted);
+    return random_below(2) ? press_and_count(text, presses, wanted) : one_of(gabro_press_all(&session, text, strlen(text)), wanted, wanted, wanted);
 }
 
 /* Decodes bytes, or a silence, into room that may be too short, and presses what they mean as one batch. */
@@ -429,7 +440,13 @@ static uint32_t answer(void) {
     size_t length = random_text(text);
     bool is_long = random_below(50) == 0;
     uint32_t wanted = is_long ? GABRO_TOO_LONG : !is_utf8(text, length) ? GABRO_NOT_TEXT : code_at(GABRO_EDITING);
-    return one_of(is_long ? gabro_answer(&session, long_text, LONGEST + 1) : gabro_answer(&session, text, length), wanted, wanted, wanted);
+    if (random_below(2)) {
+        return one_of(is_long ? gabro_answer(&session, long_text, LONGEST + 1) : gabro_answer(&session, text, length), wanted, wanted, wanted);
+    }
+    size_t handled = 77;
+    uint32_t code = gabro_answer_and_count(&session, is_long ? long_text : text, is_long ? LONGEST + 1 : length, &handled);
+    assert(code == GABRO_DONE ? handled < ROOM : handled == 77);
+    return one_of(code, wanted, wanted == GABRO_DONE ? GABRO_NOT_NOW : wanted, wanted);
 }
 
 /* Looks that a cell has the symbol of its place, also on the status row. The last row has no label. */

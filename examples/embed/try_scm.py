@@ -7,6 +7,7 @@ import json
 import os
 import pathlib
 import pty
+import random
 import select
 import signal
 import termios
@@ -488,6 +489,41 @@ def check_replay():
         assert again.stage == scm.ACCEPTED and sides_of(again) == sides_of(session) and again.message() == "second"
 
 
+def waits_behind(words, message):
+    """Whether a session waits for an event behind words, one batch, of which the first message is answered."""
+    with scm.Session() as session:
+        fill(session)
+        session.begin(60, 10)
+        session.press_all(" ".join(words))
+        if message and session.stage == scm.EDITING:
+            session.answer(message)
+        return session.stage == scm.WAITING
+
+
+def counted(words, message=""):
+    """How many of words are handled, by batches of their first ones: up to the first behind which no session waits."""
+    stops = [count for count in range(1, len(words) + 1) if not waits_behind(words[:count], message)]
+    return (stops or [len(words)])[0]
+
+
+def check_counts():
+    """Batches of random words count what they handle, and so do their messages."""
+    numbers = random.Random(4)
+    for _ in range(150):
+        words = numbers.choices("j k l space a f shift-F c q ctrl-c esc ? e e none view ensure".split(), k=numbers.randrange(9))
+        with scm.Session() as session:
+            fill(session)
+            session.begin(60, 10)
+            count = session.press_and_count(" ".join(words))
+            assert count == counted(words), words
+            if session.stage == scm.EDITING:
+                assert count + session.answer_and_count("m") == counted(words, "m"), words
+    with scm.Session() as layered:
+        fill(layered)
+        layered.begin_layer(60, 10)
+        assert refused(layered.press_and_count, "j") == "not_now"
+
+
 def check_escape():
     """A silence is awaited behind an ESC alone."""
     with scm.Session() as session:
@@ -638,6 +674,7 @@ def main():
     check_select()
     check_replay()
     check_escape()
+    check_counts()
     check_trees()
     check_merges()
     check_docstrings()
@@ -676,6 +713,11 @@ def main():
             assert session.stage == scm.EDITING and refused(session.press_all, "j") == "not_now"
             session.answer(session.text())
         assert session.stage == scm.WAITING
+        assert session.press_and_count("") == 0 and session.press_and_count("  j k  ") == 2
+        assert refused(session.press_and_count, "j nothing") == "no_word" and refused(session.answer_and_count, "m") == "not_now"
+        assert session.press_and_count("j e k e j k") == 2 and session.stage == scm.EDITING
+        assert session.answer_and_count(session.text()) == 2 and session.stage == scm.EDITING
+        assert session.answer_and_count(session.text()) == 2 and session.stage == scm.WAITING
         session.press_all("  j k  ")
         assert session.type_to_key(b"j\tk") == (2, 9) and session.type_to_key(b"kx\x1a") == (2, 120)
         assert session.type_to_key(b"\x1b[200~\x1a\x1b[201~j") == (14, 0)

@@ -101,6 +101,24 @@ static uint32_t ask_selected(gabro_key *key) {
 
 static uint32_t answer(const char *message) { return gabro_answer(&session, message, strlen(message)); }
 
+static size_t handled; /* how many events the last call counted */
+
+/* Looks that a call that was refused counted nothing. */
+static uint32_t counted(uint32_t code) {
+    assert(code == GABRO_DONE || handled == 77);
+    return code;
+}
+
+static uint32_t press_and_count(const char *words) {
+    handled = 77;
+    return counted(gabro_press_and_count(&session, words, strlen(words), &handled));
+}
+
+static uint32_t answer_and_count(const char *message) {
+    handled = 77;
+    return counted(gabro_answer_and_count(&session, message, strlen(message), &handled));
+}
+
 /* Paints, which has to be done, and returns the length of the update. */
 static size_t paint(char *out, size_t length) {
     size_t written = 0;
@@ -142,6 +160,10 @@ static void refuse_calls(uint32_t code) {
     refused(press_all("j k"), code);
     refused(press_all(""), code);
     refused(press_all("j no"), GABRO_NO_WORD);
+    refused(press_and_count("j k"), code);
+    refused(press_and_count(""), code);
+    refused(press_and_count("j no"), GABRO_NO_WORD);
+    refused(answer_and_count("bye"), code);
     refuse_paint(code == GABRO_CLOSED ? GABRO_CLOSED : GABRO_DONE);
 }
 
@@ -262,6 +284,35 @@ static void refuse_words(void) {
     standing begun = before;
     done(press("l"), GABRO_WAITING);
     assert(!is_same(&begun, &before));
+}
+
+/* A batch counts the events up to the one that ends the session or asks for a message, also after the session has ended. */
+static void count_events(void) {
+    done(begin(STATE), GABRO_WAITING);
+    done(press_and_count(""), GABRO_WAITING);
+    assert(handled == 0);
+    done(press_and_count(" j  k none"), GABRO_WAITING);
+    assert(handled == 3);
+    refused(answer_and_count("bye"), GABRO_NOT_NOW);
+    done(press_and_count("j e k e c j"), GABRO_EDITING);
+    assert(handled == 2);
+    refused(press_and_count("j"), GABRO_NOT_NOW);
+    refused(answer_and_count("\xe6\x97"), GABRO_NOT_TEXT);
+    done(answer_and_count("one"), GABRO_EDITING);
+    assert(handled == 2);
+    done(answer_and_count("two"), GABRO_ACCEPTED);
+    assert(handled == 1);
+    done(begin(STATE), GABRO_WAITING);
+    done(press_and_count("ctrl-c j ctrl-c j j"), GABRO_ENDED); /* the first one asks, since the message would be lost */
+    assert(handled == 3);
+    done(begin(STATE), GABRO_WAITING);
+    done(press("click:0:1"), GABRO_WAITING);
+    done(press_and_count("click:1:2 j k"), GABRO_ACCEPTED); /* the item accepts behind the batch */
+    assert(handled == 3);
+    done(gabro_new_layer(&session, STATE, strlen(STATE), WIDTH, HEIGHT), GABRO_WAITING);
+    refused(press_and_count("j"), GABRO_NOT_NOW);
+    done(press("e"), GABRO_EDITING);
+    refused(answer_and_count("bye"), GABRO_NOT_NOW);
 }
 
 typedef struct {
@@ -698,6 +749,7 @@ static bool ends_by_memory(uint32_t call(const char *input), const char *input) 
 static void end_by_memory(void) {
     assert(ends_by_memory(press, "shift-F"));
     assert(ends_by_memory(press_all, "shift-F"));
+    assert(ends_by_memory(press_and_count, "shift-F"));
     assert(ends_by_memory(type, "F"));
     assert(ends_by_memory(type_to_key, "F"));
 }
@@ -783,6 +835,9 @@ static void take_null(void) {
     done(gabro_begin(&session, WIDTH, HEIGHT), GABRO_WAITING);
     done(gabro_type(&session, NULL, 0), GABRO_WAITING);
     done(gabro_press_all(&session, NULL, 0), GABRO_WAITING);
+    handled = 77;
+    done(gabro_press_and_count(&session, NULL, 0, &handled), GABRO_WAITING);
+    assert(handled == 0);
     refused(gabro_press(&session, NULL, 0), GABRO_NO_WORD);
     done(gabro_text(&session, NULL, 0, &length), GABRO_WAITING);
     assert(length == before.length && gabro_words(GABRO_DONE, NULL, 0) > 0 && gabro_symbol(&session, 0, 0, NULL, 0) > 0);
@@ -794,6 +849,10 @@ static void take_null(void) {
     assert(length > 0);
     done(press("e"), GABRO_EDITING);
     done(gabro_answer(&session, NULL, 0), GABRO_WAITING);
+    handled = 77;
+    done(press("e"), GABRO_EDITING);
+    done(gabro_answer_and_count(&session, NULL, 0, &handled), GABRO_WAITING);
+    assert(handled == 0);
     close_session();
 }
 
@@ -1121,6 +1180,7 @@ int main(void) {
     refuse_where_closed();
     refuse_states();
     refuse_additions();
+    count_events();
     refuse_words();
     take_any_size();
     cut_text();

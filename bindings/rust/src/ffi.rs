@@ -138,10 +138,12 @@ extern "C" {
     pub fn gabro_idle(session: Session) -> u32;
     pub fn gabro_press(session: Session, word: Bytes, length: usize) -> u32;
     pub fn gabro_press_all(session: Session, words: Bytes, length: usize) -> u32;
+    pub fn gabro_press_and_count(session: Session, words: Bytes, length: usize, handled: *mut usize) -> u32;
     pub fn gabro_decode(session: Session, bytes: Bytes, length: usize, out: Room, room: usize, written: *mut usize) -> u32;
     pub fn gabro_decode_idle(session: Session, out: Room, room: usize, written: *mut usize) -> u32;
     pub fn gabro_click(session: Session, row: u16, column: u16) -> u32;
     pub fn gabro_answer(session: Session, text: Bytes, length: usize) -> u32;
+    pub fn gabro_answer_and_count(session: Session, text: Bytes, length: usize, handled: *mut usize) -> u32;
     pub fn gabro_resize(session: Session, width: u16, height: u16) -> u32;
     pub fn gabro_paint(session: Session, out: Room, length: usize, written: *mut usize) -> u32;
     pub fn gabro_cells(session: Asked, cells: *mut Cell, count: usize, out: Room, room: usize, info: *mut ScreenInfo) -> u32;

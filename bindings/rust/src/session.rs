@@ -778,6 +778,20 @@ impl Session {
         done(unsafe { ffi::gabro_press_all(self.at(), words, length) })
     }
 
+    /// Handles the events of `words` as [`press_all`](Session::press_all) does, and returns how many of them were handled: those up to
+    /// the first that ended the session or asked for a message, that one included, and else all. An event that a clicked menu item
+    /// leaves is none of the batch. If an allocation failed while they were handled, the session has ended, and the number may be 0.
+    ///
+    /// # Errors
+    ///
+    /// `NoWord`, `NotNow` if the session does not wait for an event or has a layer, or `NoMemory`.
+    pub fn press_and_count(&mut self, words: &str) -> Result<usize, Error> {
+        let (words, length) = sized(words);
+        let mut handled = 0;
+        done(unsafe { ffi::gabro_press_and_count(self.at(), words, length, &mut handled) })?;
+        Ok(handled)
+    }
+
     /// Returns the events of `bytes`, which a terminal sent, and handles none. They may be any part of what it sends. The session
     /// need not have begun.
     ///
@@ -878,6 +892,21 @@ impl Session {
     pub fn answer(&mut self, message: &str) -> Result<(), Error> {
         let (message, length) = sized(message);
         done(unsafe { ffi::gabro_answer(self.at(), message, length) })
+    }
+
+    /// Answers as [`answer`](Session::answer) does, and returns how many of the later events of the batch were handled: those up to the
+    /// first that ended the session or asked for a message, that one included, and else all. If an event that a clicked menu item left
+    /// asked for the message, the events that menu items left behind that one are counted. If an allocation failed while they were
+    /// handled, the session has ended, and the number may be 0.
+    ///
+    /// # Errors
+    ///
+    /// `TooLong`, `NotNow` if the session waits for no message or has a layer, or `NoMemory`.
+    pub fn answer_and_count(&mut self, message: &str) -> Result<usize, Error> {
+        let (message, length) = sized(message);
+        let mut handled = 0;
+        done(unsafe { ffi::gabro_answer_and_count(self.at(), message, length, &mut handled) })?;
+        Ok(handled)
     }
 
     /// Resizes the screen to `width` columns and `height` rows.

@@ -79,6 +79,31 @@ fn a_batch_has_one_frame() {
 }
 
 #[test]
+fn a_batch_counts_what_it_handles() {
+    let mut session = Session::new(false).unwrap();
+    session.add_commit(Some("message")).unwrap();
+    session.add_file("f", None, MODE).unwrap();
+    session.add_lines(ADDED, "a\n").unwrap();
+    assert_eq!(session.press_and_count("j"), Err(Error::NotNow));
+    session.begin(80, 24).unwrap();
+    assert_eq!(session.press_and_count("j nothing"), Err(Error::NoWord));
+    assert_eq!(session.press_and_count(""), Ok(0));
+    assert_eq!(session.press_and_count("  j none k "), Ok(3));
+    assert_eq!(session.answer_and_count("another"), Err(Error::NotNow));
+    assert_eq!(session.press_and_count("j e j e c j"), Ok(2));
+    assert_eq!(session.press_and_count("j"), Err(Error::NotNow));
+    assert_eq!(session.answer_and_count("another"), Ok(2));
+    assert_eq!(session.text().unwrap(), "another");
+    assert_eq!(session.answer_and_count("a third"), Ok(1));
+    assert_eq!(session.end(), Some(End::Accepted));
+    // a layer counts nothing
+    let mut layered = Session::new(false).unwrap();
+    layered.add_file("f", None, MODE).unwrap();
+    layered.begin_layer(80, 24).unwrap();
+    assert_eq!(layered.press_and_count("j"), Err(Error::NotNow));
+}
+
+#[test]
 fn a_program_has_keys_of_its_own() {
     let mut session = begun(&[]);
     assert_eq!(session.type_to_key(b"j\tk"), Ok((2, Some('\t'))));

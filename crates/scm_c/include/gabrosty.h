@@ -68,12 +68,12 @@
  * ERRORS
  *     A call returns a code, or what its comment says. If a call returns another code than GABRO_DONE, it wrote nothing, and the
  *     session is as it was. The exceptions are said at gabro_new, gabro_state_new, gabro_begin and gabro_paint. A failed allocation
- *     always has the code GABRO_NO_MEMORY, with one exception: in gabro_press, gabro_press_all, gabro_type, gabro_type_to_key, gabro_click,
- *     gabro_idle, gabro_start, gabro_select and gabro_answer the user's input is handled, and if an allocation fails in this, the call
- *     returns GABRO_DONE and the session has ended. Its stage is GABRO_ENDED, gabro_end returns GABRO_END_NO_MEMORY, and its text is "out of
+ *     always has the code GABRO_NO_MEMORY, with one exception: in gabro_press, gabro_press_all, gabro_press_and_count, gabro_type,
+ *     gabro_type_to_key, gabro_click, gabro_idle, gabro_start, gabro_select, gabro_answer and gabro_answer_and_count the user's input is
+ *     handled, and if an allocation fails in this, the call returns GABRO_DONE and the session has ended. Its stage is GABRO_ENDED, gabro_end returns GABRO_END_NO_MEMORY, and its text is "out of
  *     memory". The changes of such a session are lost.
  *
- *     A code is never a length. A call that returns a code writes a length to its own parameter (`written`, `count`,
+ *     A code is never a length. A call that returns a code writes a length or a count to its own parameter (`written`, `count`, `handled`,
  *     `side->length`), and only if the code is GABRO_DONE: ask for the code first, since any call that takes memory may fail.
  *     gabro_symbol and gabro_words return a length. gabro_words cannot fail, and gabro_symbol only on the status row of a layer. With GCC
  *     and Clang, GABRO_USE_CODE makes the compiler warn of a caller who drops the code of a call that writes a length.
@@ -535,6 +535,14 @@ uint32_t gabro_press(gabro_session *session, const char *word, size_t length);
  * Returns GABRO_DONE, or the first of GABRO_NO_WORD, GABRO_CLOSED and GABRO_NOT_NOW that applies, or GABRO_NO_MEMORY. */
 uint32_t gabro_press_all(gabro_session *session, const char *words, size_t length);
 
+/* Handles the events of words as `gabro_press_all` does, and writes to `handled` how many of them were handled: those up to the first
+ * that ended the session or asked for a message, that one included, and else all. An event that a clicked menu item leaves is none of
+ * the batch: it is handled behind all of them. If an allocation fails while the events are handled, the session has ended, and `handled` may be
+ * 0 instead. The session has to be one without a layer.
+ *
+ * Returns the same codes as `gabro_press_all`, and GABRO_NOT_NOW if the session has a layer. */
+GABRO_USE_CODE uint32_t gabro_press_and_count(gabro_session *session, const char *words, size_t length, size_t *handled);
+
 /* Handles a click at `row`, `column` of the screen, or of the terminal of a layer.
  *
  * Returns GABRO_DONE, GABRO_CLOSED or GABRO_NOT_NOW. */
@@ -554,6 +562,14 @@ uint32_t gabro_select(gabro_session *session, const gabro_key *key);
  * Returns GABRO_DONE, or the first of GABRO_TOO_LONG, GABRO_NOT_TEXT, GABRO_CLOSED and GABRO_NOT_NOW that applies. May return
  * GABRO_NO_MEMORY instead, if the text is short enough and UTF-8. */
 uint32_t gabro_answer(gabro_session *session, const char *text, size_t length);
+
+/* Answers as `gabro_answer` does, and writes to `handled` how many of the later events of the batch were handled: those up to the first
+ * that ended the session or asked for a message, that one included, and else all. If an event that a clicked menu item left asked for the
+ * message, the batch has no later events, and the events that menu items left behind that one are counted. If an allocation fails while the
+ * events are handled, the session has ended, and `handled` may be 0 instead. The session has to be one without a layer.
+ *
+ * Returns the same codes as `gabro_answer`, and GABRO_NOT_NOW if the session has a layer. */
+GABRO_USE_CODE uint32_t gabro_answer_and_count(gabro_session *session, const char *text, size_t length, size_t *handled);
 
 /* Resizes the screen to `width` columns and `height` rows. The scroll offset stays: the word "ensure" scrolls to the
  * selection.

@@ -21,6 +21,7 @@ ghost use Rattle.scm_open_session.specs.FrontKeys.{ChangesToKey};
 
 pub mod c_session;
 pub mod cell_calls;
+pub mod count_calls;
 pub mod layer_calls;
 pub mod mark_calls;
 pub mod merge_calls;

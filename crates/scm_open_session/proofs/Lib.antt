@@ -12,6 +12,8 @@ pub mod PaintLemmas
 pub mod BuildLemmas
 -- words that are handed in as one batch
 pub mod BatchLemmas
+-- how many events of a batch were handled
+pub mod CountLemmas
 -- the words of what a terminal sends
 pub mod DecodeLemmas
 -- keys of the user's own

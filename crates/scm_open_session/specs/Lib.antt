@@ -24,6 +24,8 @@ pub mod Paint
 pub mod Cells
 -- words that are handed in as one batch
 pub mod Batches
+-- how many events of a batch were handled
+pub mod Counting
 -- the words of what a terminal sends
 pub mod Decoding
 -- calls of a layer: how a session begins with it, its theme, and the start

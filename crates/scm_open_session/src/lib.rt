@@ -5,6 +5,7 @@
 pub mod boxed;
 pub mod calls;
 pub mod cell_calls;
+pub mod count_calls;
 pub mod dialog_calls;
 pub mod laws;
 pub mod layer;

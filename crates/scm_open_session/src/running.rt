@@ -41,7 +41,7 @@ pub enum MessageEdit {
 }
 
 /// Returns the stage after a call with the result `answer`.
-fn stage_of(answer: Result<Turn<'static>, RecordError>) -> Stage
+pub(crate) fn stage_of(answer: Result<Turn<'static>, RecordError>) -> Stage
     ensures { result ≡ stage_after answer.entry }
 {
     match answer {

@@ -102,6 +102,12 @@ class Session:
         if code:
             raise Error(code)
 
+    def _count(self, name: str, text: Text) -> int:
+        """Returns the number that a call with a text writes."""
+        count = ctypes.c_size_t()
+        self._call(name, *sized(text), ctypes.byref(count))
+        return count.value
+
     def _read(self, name: str, *arguments: object) -> bytes:
         """Returns the bytes that a call writes, which also writes their number."""
         length = ctypes.c_size_t(1 << 16)
@@ -253,6 +259,11 @@ class Session:
         event asks for a message, `answer` handles the later ones."""
         self._call("press_all", *sized(words))
 
+    def press_and_count(self, words: Text) -> int:
+        """Handles the events of words as `press_all` does. Returns how many of them were handled: those up to the first that ended the
+        session or asked for a message, that one included, and else all. The session has to be one without a layer."""
+        return self._count("press_and_count", words)
+
     def decode(self, data: bytes) -> List[str]:
         """Returns the words of what a terminal sent, for `press_all`. Nothing is handled. No bytes are a silence."""
         sent = self._read("decode", *sized(data)) if data else self._read("decode_idle")
@@ -293,6 +304,11 @@ class Session:
     def answer(self, message: Text) -> None:
         """Answers with the message that the session waits for."""
         self._call("answer", *sized(message))
+
+    def answer_and_count(self, message: Text) -> int:
+        """Answers as `answer` does. Returns how many of the later events of the batch were handled: those up to the first that ended the
+        session or asked for a message, that one included, and else all. The session has to be one without a layer."""
+        return self._count("answer_and_count", message)
 
     def resize(self, width: int, height: int) -> None:
         """Gives the screen this size."""
