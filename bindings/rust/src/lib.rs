@@ -59,7 +59,6 @@ mod json;
 mod limits;
 mod modes;
 mod recorder;
-mod run;
 mod screen;
 mod screenshot;
 mod section;

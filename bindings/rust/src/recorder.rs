@@ -1,5 +1,4 @@
 //! A run of the selector.
-use crate::run::Run;
 use crate::screen::{Screen, TestingScreen};
 use crate::session::{End, Error, Session, Stage};
 use crate::terminal::Terminal;
@@ -51,13 +50,14 @@ impl<'state, 'input> Recorder<'state, 'input> {
         let session = match input.terminal_kind() {
             TerminalKind::Testing { width, height } => {
                 let mut screen = TestingScreen::new(width, height);
-                let run = Run::begin(&state, screen.size()?).map_err(failure)?;
-                drive(run, input, &mut screen)?
+                let session = transfer::begun_session(&state, screen.size()?).map_err(failure)?;
+                drive(session, input, &mut screen)?
             }
             TerminalKind::Crossterm => {
-                let run = Run::begin(&state, Terminal::size_before()?).map_err(failure)?;
+                let size = Terminal::size_before()?;
+                let session = transfer::begun_session(&state, size).map_err(failure)?;
                 let mut terminal = Terminal::take()?;
-                let driven = drive(run, input, &mut terminal);
+                let driven = drive(session, input, &mut terminal);
                 terminal.give_back()?;
                 driven?
             }
@@ -67,18 +67,18 @@ impl<'state, 'input> Recorder<'state, 'input> {
     }
 }
 
-/// Drives `run` on `screen` until it waits no more, and returns its session.
+/// Drives `session` on `screen` until it waits no more, and returns it.
 fn drive(
-    mut run: Run<'_, '_>,
+    mut session: Session,
     input: &mut dyn RecordInput,
     screen: &mut dyn Screen,
 ) -> Result<Session, RecordError> {
-    while run.stage() == Stage::Waiting {
-        screen.show(&mut run)?;
+    while session.stage() == Stage::Waiting {
+        screen.show(&mut session)?;
         let events = input.next_events()?;
-        batch::press_batch(&mut run, input, screen, &events)?;
+        batch::press_batch(&mut session, input, screen, &events)?;
     }
-    Ok(run.into_session())
+    Ok(session)
 }
 
 /// Writes the marks and messages that `session` ended with to `state`, or returns the error with which it ended.

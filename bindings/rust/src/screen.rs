@@ -1,6 +1,5 @@
 //! What shows the frames of a run.
-use crate::run::Run;
-use crate::session::{MAX_COLUMNS, MAX_ROWS};
+use crate::session::{Session, MAX_COLUMNS, MAX_ROWS};
 use crate::RecordError;
 
 /// The size of a screen, of which the library draws at most 1,000 columns and 1,000 rows.
@@ -26,8 +25,8 @@ pub trait Screen {
     /// Returns its size.
     fn size(&mut self) -> Result<Size, RecordError>;
 
-    /// Shows `run`, at the size that the screen has now.
-    fn show(&mut self, run: &mut Run<'_, '_>) -> Result<(), RecordError>;
+    /// Shows `session`, at the size that the screen has now.
+    fn show(&mut self, session: &mut Session) -> Result<(), RecordError>;
 
     /// Gives back what the screen has taken, so that another program can have it.
     fn give_back(&mut self) -> Result<(), RecordError>;
@@ -58,7 +57,7 @@ impl Screen for TestingScreen {
         Ok(self.size)
     }
 
-    fn show(&mut self, _run: &mut Run<'_, '_>) -> Result<(), RecordError> {
+    fn show(&mut self, _session: &mut Session) -> Result<(), RecordError> {
         Ok(())
     }
 

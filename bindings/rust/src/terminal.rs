@@ -1,8 +1,8 @@
 //! The terminal of the program: raw mode, its second screen, and clicks.
 use crate::error::Cause;
 use crate::recorder::failure;
-use crate::run::Run;
 use crate::screen::{Screen, Size};
+use crate::session::Session;
 use crate::RecordError;
 use std::io::{self, Write};
 use std::panic;
@@ -72,14 +72,14 @@ impl Screen for Terminal {
         device::size().map_err(not_drawn)
     }
 
-    fn show(&mut self, run: &mut Run<'_, '_>) -> Result<(), RecordError> {
+    fn show(&mut self, session: &mut Session) -> Result<(), RecordError> {
         let size = self.size()?;
         if self.shown != Some(size) {
-            run.resize(size).map_err(failure)?;
+            session.resize(size.width, size.height).map_err(failure)?;
             write(CLEAR).map_err(not_drawn)?;
             self.shown = Some(size);
         }
-        let frame = run.paint().map_err(failure)?;
+        let frame = session.paint().map_err(failure)?;
         if frame.is_empty() {
             return write(NO_CHANGE).map_err(not_drawn);
         }

@@ -361,6 +361,48 @@ fn the_rest_of_a_batch_follows_its_message() {
     assert_eq!(accepted.unwrap().files[0].tristate(), Tristate::True);
 }
 
+#[test]
+fn screenshots_are_taken_up_to_the_event_that_ends_the_run_behind_messages() {
+    let (edit, accept) = (Event::EditCommitMessage, Event::QuitAccept);
+    let given = || with_messages([Some("message"), None]);
+    // the first message is asked for by the first event, and the second one by the third event
+    let batch = vec![
+        edit.clone(),
+        Event::ToggleAllUniform,
+        edit.clone(),
+        Event::None,
+        accept.clone(),
+        Event::ToggleAllUniform,
+    ];
+    let taken = shots_behind(given(), Vec::new(), batch);
+    assert_eq!(taken, [true, true, true, true, false, false]);
+    // an item of a menu asks for a message behind the batch, and another one accepts behind that
+    let click = |row, column| Event::Click { row, column };
+    let opened = vec![vec![click(0, 8)]];
+    let shown = rows_after_batches(given(), SIZE, opened.clone());
+    let item = shown
+        .iter()
+        .position(|row| row.contains("[Edit message (e)]"));
+    let place = click(item.unwrap(), 9);
+    let batch = vec![place.clone(), place, Event::Help, Event::Help];
+    let taken = shots_behind(given(), opened.clone(), batch.clone());
+    assert_eq!(taken, [true, true, true, true]);
+    let mut reads = opened;
+    reads.extend([batch, vec![accept]]);
+    let mut edits = 0;
+    let mut input = Scripted {
+        read: || Ok(reads.remove(0)),
+        edit: || {
+            edits += 1;
+            Ok(format!("message {edits}"))
+        },
+        edited: Vec::new(),
+    };
+    let accepted = Recorder::new(given(), &mut input).run().unwrap();
+    assert_eq!(input.edited, ["message", "message 1"]);
+    assert_eq!(messages_of(&accepted), [Some("message 2".to_owned()), None]);
+}
+
 /// An input of one batch, whose editor fails.
 struct NoEditor(Vec<Event>);
 
