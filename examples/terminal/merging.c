@@ -210,11 +210,11 @@ static piece label_of(char letter, const labels *labels) {
     return letter == OURS ? labels->ours : letter == BASE ? labels->base : labels->theirs;
 }
 
-/* Adds the words for a section of a conflict: which one of all it is, the version, and in brackets the version's label as it is shown, if
- * there is one. */
+/* Adds the words for a section of a conflict: the version, which one of all the conflict is, and in brackets the version's label as it is
+ * shown, if there is one. The version comes first, so that a narrow terminal shows it. */
 static bool add_words_for(text *into, size_t conflict, size_t all, char letter, piece label) {
     text made = {0};
-    bool is_added = append_words(into, "Conflict %zu/%zu: %s", conflict, all, version_of(letter)) && show(&label, &made);
+    bool is_added = append_words(into, "%s %zu/%zu", version_of(letter), conflict, all) && show(&label, &made);
     if (is_added && label.length > 0) {
         is_added = append(into, " (", 2) && append(into, label.bytes, label.length) && append(into, ")", 1);
     }

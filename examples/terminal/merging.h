@@ -35,8 +35,8 @@ typedef struct labels {
     piece base, ours, theirs;
 } labels;
 
-/* Has the layer of a session that shows the merge name the conflict and the version of each section, with the label of the version behind
- * it, in place of the section's number: "Conflict 1/2: ours (main)". Returns the code of the call that failed, or GABRO_DONE. */
+/* Has the layer of a session that shows the merge name the version and the conflict of each section, with the label of the version behind
+ * them, in place of the section's number: "ours 1/2 (main)". Returns the code of the call that failed, or GABRO_DONE. */
 uint32_t label_conflicts(gabro_session *session, const merge *merge, const labels *labels);
 
 /* Returns whether the marks of the merge leave a conflict open. */

@@ -99,7 +99,7 @@ def open_conflicts(place):
     paths = files_of(place, base, ours, theirs)
     with shown(place, [NAME, "--path", "output", *paths]) as typed:
         is_said = b"output\xc2\xa0(2 conflicts)" in typed.screen() and b"]2;gabrosty-merge-tool: 2 conflicts" in typed.seen
-        is_named = all(b"Conflict 1/2: " + version in typed.screen() for version in (b"ours", b"base", b"theirs"))
+        is_named = all(version + b" 1/2 " in typed.screen() for version in (b"ours", b"base", b"theirs"))
         asked = leave_open(typed, b"l")
         status, said = typed.end(), typed.said()
     is_left = status == 1 and b"2 of 2 conflicts are open (1, 2). " in asked
@@ -139,7 +139,7 @@ def ways_to_open_conflicts(place):
         for key, row, conflict in steps:
             typed.press(key)
             screen = typed.screen()
-            if row not in screen or b"Conflict %d/3: " % conflict not in screen:
+            if row not in screen or b" %d/3 " % conflict not in screen:
                 print("ways to open conflicts, %s: %s" % (key, screen.decode()))
                 return False
         typed.press("c")
@@ -251,7 +251,7 @@ def each_width(place):
         labels = ["--ours-label", "main", "--theirs-label", "topic"]
         with shown(place, [NAME, "--path", "src/a.txt", *labels, *paths], width=width) as typed:
             rows = typed.screen()
-            named = b"src/a.txt\xc2\xa0(1 conflict)", b"Conflict 1/1: ours (main) ", b"Conflict 1/1: base ", b"Conflict 1/1: theirs (topic) ", b"open: 1/1"
+            named = b"src/a.txt\xc2\xa0(1 conflict)", b"ours 1/1 (main) ", b"base 1/1 ", b"theirs 1/1 (topic) ", b"open: 1/1"
             is_wide = all(max(row) < width for row in typed.shown.rows.values() if row)
             typed.press("pagedown")
             typed.press("pagedown")
@@ -272,7 +272,7 @@ def labels_of_versions(place):
         rows = typed.screen()
         leave_open(typed, b"l", ASKED_FOR_MARKERS)
         status = typed.end()
-    named = b"Conflict 1/1: ours (ma\\x1b[31min) ", b"Conflict 1/1: base  ", b"Conflict 1/1: theirs (topic\\x0a>>>>>>> x) "
+    named = b"ours 1/1 (ma\\x1b[31min) ", b"base 1/1  ", b"theirs 1/1 (topic\\x0a>>>>>>> x) "
     conflict = b"<<<<<<< ma\x1b[31min\nours\n|||||||\nold\n=======\ntheirs\nmore\n>>>>>>>\n"
     return status == 1 and all(words in rows for words in named) and read_data(paths[3]) == b"1\n" + conflict + b"3\n4\nfive\n"
 
@@ -284,7 +284,7 @@ def long_labels(place):
     ours, theirs = b"\xff" + b"x" * 99_999, "\u6f22".encode() * 33_333
     marks = [b"<<<<<<< " + ours, b"|||||||", b"=======", b">>>>>>> " + theirs]
     wanted = b"1\n%s\nours\n%s\nold\n%s\ntheirs\nmore\n%s\n3\n4\nfive\n" % tuple(marks)
-    for width, row in (10, "  ( ) \u2026(-)"), (20, "  ( ) Conflict 1\u2026(-)"), (40, "  ( ) Conflict 1/1: ours (\\xffxxxxxx\u2026(-)"):
+    for width, row in (10, "  ( ) \u2026(-)"), (20, "  ( ) ours 1/1 (\u2026(-)"), (40, "  ( ) ours 1/1 (\\xffxxxxxxxxxxxxxxxx\u2026(-)"):
         paths = files_of(place)
         with shown(place, [NAME, "--markers", "--ours-label", ours, "--theirs-label", theirs, *paths], width=width) as typed:
             rows = typed.screen()
@@ -292,6 +292,26 @@ def long_labels(place):
             leave_open(typed, b"l", ASKED_FOR_MARKERS)
             ends.append(typed.end() == 1 and is_narrow and row.encode() in rows and read_data(paths[3]) == wanted)
     return all(ends)
+
+
+def narrow_headers(place):
+    """From 11 columns on the header of each section begins with its version, so the three can be told apart."""
+    wanted = {
+        11: ("o\u2026", "b\u2026", "t\u2026"),
+        13: ("our\u2026", "bas\u2026", "the\u2026"),
+        17: ("ours 1/1", "base 1/1", "theirs \u2026"),
+        20: ("ours 1/1", "base 1/1", "theirs 1/1"),
+    }
+    for width, names in wanted.items():
+        with shown(place, [NAME, *files_of(place)], width=width) as typed:
+            rows = re.findall(r'"  .{4}(.*?) *[(\[]-[)\]]"', typed.screen().decode())
+            typed.press("space")
+            typed.press("c")
+            status = typed.end()
+        if status or tuple(rows) != names:
+            print("narrow headers, on %d columns: %r, status %d" % (width, rows, status))
+            return False
+    return True
 
 
 def outputs_that_are_versions(place):
@@ -344,7 +364,7 @@ def a_thousand_conflicts(place):
         is_all = b"open: 1000/1000" in typed.screen()
         typed.press("[")
         typed.press("space")
-        is_last = b"Conflict 1000/1000: " in typed.screen() and b"open: 999/1000" in typed.screen()
+        is_last = b" 1000/1000 " in typed.screen() and b"open: 999/1000" in typed.screen()
         asked = leave_open(typed, b"l", ASKED_FOR_MARKERS)
         status = typed.end()
     is_named = b"999 of 1000 conflicts are open (1, 2, 3, 4, 5, 6, 7, 8, 9, 10 ..). " in asked
@@ -1041,7 +1061,7 @@ def options_that_shells_complete(place):
 
 
 ALL = (
-    each_version, each_width, deleted_lines, open_conflicts, ways_to_open_conflicts, rows_that_are_narrow, many_open_conflicts, conflict_markers, lengths_of_markers, labels_of_versions, long_labels,
+    each_version, each_width, deleted_lines, open_conflicts, ways_to_open_conflicts, rows_that_are_narrow, many_open_conflicts, conflict_markers, lengths_of_markers, labels_of_versions, long_labels, narrow_headers,
     markers_by_line_ends, outputs_that_are_versions, a_thousand_conflicts, left_by_the_user, without_a_conflict,
     what_comes_to_output_meanwhile, outputs_with_names_of_options, refused_files, named_in_another_way, git_mergetool, git_mergetool_on_a_changed_mode, git_mergetool_that_is_left, git_mergetool_with_backups,
     git_mergetool_on_an_added_file, git_mergetool_on_a_deleted_file, git_mergetool_on_a_renamed_file, git_mergetool_on_a_real_conflict, git_merge_driver, git_rerere, hg_resolve, jj_resolve, jj_resolve_of_lines_like_markers, random_choices,
