@@ -53,7 +53,7 @@ pub struct Decision<'a> {
 }
 
 /// Why nothing is decided.
-#[derive(Clone, Copy, Debug)]
+#[derive(Clone, Copy)]
 pub enum DecideError<'a> {
     /// A list of files, or the list of marks, has this path twice.
     Twice(&'a [u8]),

@@ -16,7 +16,7 @@ pub struct Entry<'a> {
 }
 
 /// What the marks of a shown file ask for at a path.
-#[derive(Clone, Copy, Debug, PartialEq, Eq)]
+#[derive(Clone, Copy)]
 pub struct Wish {
     /// The number of the shown file. Both paths of a renamed file have one.
     pub file: usize,

@@ -12,7 +12,7 @@ use scm_tree::Row;
 use std::alloc::{AllocError, AllocFailed, Global};
 
 /// Why two trees and marks have no rows.
-#[derive(Clone, Copy, Debug)]
+#[derive(Clone, Copy)]
 pub enum GatherError<'a> {
     /// A list of files, or the list of marks, has this path twice.
     Twice(&'a [u8]),

@@ -12,6 +12,6 @@ pub mod scan;
 pub use check::{RowFault, check_rows};
 pub use path::{is_before, is_inside};
 pub use refuse::refusals;
-pub use result::{result_at, results};
+pub use result::result_at;
 pub use row::{Row, Version};
 pub use scan::{Clash, Refusal};

@@ -29,7 +29,7 @@ pub struct Clash {
 }
 
 /// Why a file is left out.
-#[derive(Clone, Copy, Debug)]
+#[derive(Clone, Copy)]
 pub struct Refusal {
     /// The row of the path that would come.
     pub comes: usize,
@@ -82,14 +82,6 @@ pub(crate) fn lies_in(rows: &[Row<'_>], outer: usize, inner: usize) -> bool
         (slice_index_or rows.now inner d).path.now ≡ result }
 {
     is_inside(rows[outer].path, rows[inner].path)
-}
-
-/// Returns whether row `i` is there now.
-pub(crate) fn is_now(rows: &[Row<'_>], i: usize) -> bool
-    requires { i < length rows.now }
-    ensures { (d : Row) → is_some (slice_index_or rows.now i d).current ≡ result }
-{
-    rows[i].current.is_some()
 }
 
 /// Looks at row `i` after the rows before it, of which row `last` is the last one that is there. Returns
