@@ -21,9 +21,22 @@
 /* The constants of the hash FNV-1a of 64 bits. */
 static const uint64_t first = 0xcbf29ce484222325u, prime = 0x100000001b3u;
 
+/* Adds up to eight bytes. The shift lets each bit of them change the lower half, where later bytes go on from it. */
+static uint64_t add_word(uint64_t known, uint64_t word) {
+    known = (known ^ word) * prime;
+    return known ^ known >> 32;
+}
+
+/* Adds bytes, eight at a time: a file of a merge may have a gigabyte. */
 static uint64_t add_bytes(uint64_t known, const char *bytes, size_t length) {
-    for (size_t i = 0; i < length; i++) {
-        known = (known ^ (unsigned char)bytes[i]) * prime;
+    uint64_t word;
+    size_t at = 0;
+    for (; length - at >= sizeof word; at += sizeof word) {
+        memcpy(&word, bytes + at, sizeof word);
+        known = add_word(known, word);
+    }
+    for (; at < length; at++) {
+        known = add_word(known, (unsigned char)bytes[at]);
     }
     return known;
 }
