@@ -10,7 +10,7 @@ from .words import Stop, shown
 
 SIDES, NO_MODE = ("selected", "unselected"), ABSENT.encode()
 # the records of a file whose sides are versions that are there, in one piece: most are such
-OF_VERSIONS = re.compile(
+OF_VERSIONS = (
     rb"marks ([0-9]{1,9})\n([01]*)\n"
     rb"selected-mode 6\n([0-7]{6})\nselected-is 3\n(old|new)\nunselected-mode 6\n([0-7]{6})\nunselected-is 3\n(old|new)\n"
 )
@@ -46,9 +46,9 @@ class Accepted:
 def files_in(data, first):
     """Returns the messages in the records of a front end, of which the first one has the word `first`, and the records of each file by their
     words."""
-    messages, files, place = [], [], 0
+    messages, files, place, of_versions = [], [], 0, re.compile(OF_VERSIONS)
     while place < len(data):
-        versions = OF_VERSIONS.match(data, place) if place else None
+        versions = of_versions.match(data, place) if place else None
         if versions and int(versions[1]) == len(versions[2]):
             files.append(dict(zip(WORDS_OF_VERSIONS, versions.groups()[1:])))
             place = versions.end()

@@ -7,12 +7,12 @@ from .words import Stop, shown
 
 # characters that some file systems leave out of a name: HFS+, and those of Linux where a folder folds names. C has the same ones
 # (characters.c), and a try compares both
-IGNORABLE = re.compile(
+IGNORABLE = (
     "[\x7f-\xa0\xad\u034f\u061c\u115f\u1160\u17b4\u17b5\u180b-\u180f\u200b-\u200f\u2028-\u202e\u2060-\u206f\u3164\ufe00-\ufe0f\ufeff"
     "\uffa0\ufff0-\ufffb\U0001bca0-\U0001bca3\U0001d173-\U0001d17a\U000e0000-\U000e0fff]"
 )
 # what git and jj keep for themselves, and the short names that some file systems have for these
-OWN = re.compile(r"\.git|\.jj|(?:git|jj)~[0-9]+")
+OWN = r"\.git|\.jj|(?:git|jj)~[0-9]+"
 
 
 @functools.lru_cache(maxsize=None)
@@ -20,8 +20,9 @@ def is_own(name):
     """Whether some file system takes `name` for what git or jj keeps for itself. A backslash separates names there, a colon
     begins the name of a stream, and dots and blanks at the end are left out."""
     text = os.fsencode(name).decode("utf-8", "surrogateescape")
-    parts = IGNORABLE.sub("", text).casefold().split("\\")
-    return any(OWN.fullmatch(part.partition(":")[0].rstrip(". ")) for part in parts)
+    # the patterns are compiled here, since most calls of a program need none of them
+    parts = re.sub(IGNORABLE, "", text).casefold().split("\\")
+    return any(re.fullmatch(OWN, part.partition(":")[0].rstrip(". ")) for part in parts)
 
 
 # a path that no file system takes for what is kept: its names have such signs alone, and begin with no dot

@@ -7,12 +7,11 @@ before the first file is moved. Once all is done, the plan has another name."""
 import collections
 import contextlib
 import errno
-import hashlib
 import os
 import re
 import stat
 
-from .change import ABSENT, LINK, digest_of
+from .change import ABSENT, LINK
 from .decided import ABSENT as GOES, GOAL, Row, Undecided, decide
 from .folders import IS_PLAIN, closing, identity_of, is_ours, read_whole
 from .locks import lock_open
@@ -21,9 +20,8 @@ from .permissions import LISTS, OF_FOLDER, Permissions
 from .words import Stop, shown
 
 BEGUN, DONE = ".plan", ".done"
-NAME = re.compile(r"[0-9a-f]{16}-[0-9a-f]{32}\.(?:plan|done)")
-DIGEST, TOKEN, SPARE_NAME = map(re.compile, ("[0-9a-f]{64}", "[0-9a-f]{32}", r"\.gabrosty-[0-9a-f]{32}"))
-HEXADECIMAL = re.compile("(?:[0-9a-f]{2})*")
+NAME = r"[0-9a-f]{16}-[0-9a-f]{32}\.(?:plan|done)"
+DIGEST, TOKEN, SPARE_NAME, HEXADECIMAL = "[0-9a-f]{64}", "[0-9a-f]{32}", r"\.gabrosty-[0-9a-f]{32}", "(?:[0-9a-f]{2})*"
 MODES = ABSENT, "100644", "100755", LINK
 # what is said of a plan that is gone meanwhile, as it is at its end, and of what is no plan: another user's, a link or a folder
 NO_PLAN = errno.ENOENT, errno.EACCES, errno.EPERM, errno.ELOOP, errno.EISDIR, errno.ENXIO
@@ -60,7 +58,8 @@ class Entry(collections.namedtuple("Entry", "number path old new")):
         return self.old[0] != ABSENT
 
 
-NOTHING = digest_of((ABSENT, b""))
+# what digest_of says of no file: each start loads this module, and needs no digest
+NOTHING = [ABSENT, "e3b0c44298fc1c149afbf4c8996fb92427ae41e4649b934ca495991b7852b855"]
 
 
 def in_order(entries):
@@ -70,6 +69,8 @@ def in_order(entries):
 
 def key_of(top):
     """Returns by what the plans of the folder `top` are found."""
+    import hashlib
+
     return hashlib.sha256(os.fsencode(os.path.realpath(top))).hexdigest()[:16]
 
 
@@ -89,7 +90,7 @@ def opened(folder, name):
 
 def plans_of(folder, where, top):
     """Returns the plans of the folder `top` that lie in the open folder `folder`, whose path is `where`, opened."""
-    names = sorted(name for name in os.listdir(folder) if NAME.fullmatch(name) and name.startswith(key_of(top)))
+    names = sorted(name for name in os.listdir(folder) if re.fullmatch(NAME, name) and name.startswith(key_of(top)))
     found = []
     for name in names:
         try:
@@ -240,7 +241,7 @@ def is_first(line):
         return False
     top, inode, place, name, secret = line
     texts = all(isinstance(text, str) for text in (top, place, name, secret))
-    is_named = texts and place in PLACES and SPARE_NAME.fullmatch(name) and TOKEN.fullmatch(secret)
+    is_named = texts and place in PLACES and re.fullmatch(SPARE_NAME, name) and re.fullmatch(TOKEN, secret)
     return bool(is_named) and is_number(inode)
 
 
@@ -248,7 +249,7 @@ def is_side(value):
     """Whether this is what digest_of says of a side."""
     if not isinstance(value, list) or len(value) != 2 or value[0] not in MODES:
         return False
-    is_digest = isinstance(value[1], str) and DIGEST.fullmatch(value[1])
+    is_digest = isinstance(value[1], str) and re.fullmatch(DIGEST, value[1])
     return bool(is_digest) and (value[0] != ABSENT or value == NOTHING)
 
 
@@ -272,7 +273,7 @@ def fault_of_entry(entry):
 def is_list_of_users(value):
     """Whether this is a list of single users and groups, with its name."""
     is_pair = isinstance(value, list) and len(value) == 2 and value[0] in LISTS
-    return is_pair and isinstance(value[1], str) and bool(HEXADECIMAL.fullmatch(value[1]))
+    return is_pair and isinstance(value[1], str) and bool(re.fullmatch(HEXADECIMAL, value[1]))
 
 
 def fault_of_folder(line):

@@ -3,6 +3,7 @@ import contextlib
 import gc
 import os
 import signal
+import sys
 
 from .faults import reason_of
 from .folders import remove_folder
@@ -43,3 +44,12 @@ def run(work):
     except Exception as error:
         say(reason_of(error))
         return 1
+
+
+def leave(status):
+    """Ends the program with a status, without taking apart what it has in memory: the system does that sooner. All that was begun is at its end
+    by then: files are closed, no thread runs, and what was said is written or lost."""
+    for file in filter(None, (sys.stdout, sys.stderr)):
+        with contextlib.suppress(OSError, ValueError):
+            file.flush()
+    os._exit(status or 0)

@@ -12,7 +12,7 @@ from .words import HalfDone, Stop, shown, words_of
 
 SECRET = "secret"
 # the names of the files in it
-OURS = re.compile(r"(?:old|new)-\d+|" + SECRET)
+OURS = r"(?:old|new)-\d+|" + SECRET
 
 
 def disk_of(opened):
@@ -116,7 +116,7 @@ class Spare:
         if not is_ours(at, stat.S_ISDIR):
             os.close(at)
             raise PermissionError(errno.EPERM, "it is not yours", self.path)
-        self.at, self.names, self.is_there = at, set(filter(OURS.fullmatch, os.listdir(at))), True
+        self.at, self.names, self.is_there = at, {name for name in os.listdir(at) if re.fullmatch(OURS, name)}, True
 
     def close(self):
         for opened in (self.at, self.parent):

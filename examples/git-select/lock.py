@@ -19,7 +19,7 @@ MARK = b"git select "
 MOST_OF_LOCK = 99  # bytes
 # what is written beside the index, before it has its place
 BESIDE = "git-select-"
-LEFT = re.compile(re.escape(BESIDE) + "[0-9a-f]{16}")
+LEFT = re.escape(BESIDE) + "[0-9a-f]{16}"
 # what a disk says that gives a file no second name
 NO_SECOND_NAME = errno.EPERM, errno.EACCES, errno.ENOTSUP, errno.ENOSYS, errno.EMLINK
 
@@ -181,7 +181,7 @@ class Lock:
     def remove_left(self):
         """Removes what other calls left beside the index that were cut off. None of them is at work."""
         for name in os.listdir(self.index.folder):
-            if LEFT.fullmatch(name):
+            if re.fullmatch(LEFT, name):
                 self.remove_unlocked(name)
 
     def remove_unlocked(self, name):

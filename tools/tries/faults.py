@@ -161,10 +161,10 @@ def a_signal_at_each_line(place):
     old, new = {"a": b"1\n", "b": b"1\n"}, {"a": b"2\n"}
     ends = []
     for words, places in (
-        ([], "lock.py,git-select:write,git-select:use,ways.py:write"), (["--unstage"], "git-select:write,ways.py:write"),
+        ([], "lock.py,selecting.py:write,selecting.py:use,ways.py:write"), (["--unstage"], "selecting.py:write,ways.py:write"),
         (["--restore"], "lock.py,restore.py:write,files.py:change,spare.py:spare_for,spare.py:move_to,spare.py:take,spare.py:remove"),
-        (["--commit", "-m", "x"], "lock.py,git-select:write,git-select:use,commits.py,signals.py:status_of"),
-        (["--stash"], "git-select:write,restore.py:write"), (["--split", "a"], "commits.py:write"),
+        (["--commit", "-m", "x"], "lock.py,selecting.py:write,selecting.py:use,commits.py,signals.py:status_of"),
+        (["--stash"], "selecting.py:write,restore.py:write"), (["--split", "a"], "commits.py:write"),
     ):
         copies = Copies(place, words, old, new)
         before, after, count = copies.ends(places)

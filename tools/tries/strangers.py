@@ -364,7 +364,7 @@ def names_of_git_on_other_disks(place):
 def characters_that_disks_leave_out(place):
     """Both programs that write folders leave out a name that is `.git` beside a character that some disk leaves out: each end of a range
     of those, and no character beside it."""
-    ends = re.findall(r"(.)(?:-(.))?", IGNORABLE.pattern[1:-1])
+    ends = re.findall(r"(.)(?:-(.))?", IGNORABLE[1:-1])
     codes = {ord(c) + step for pair in ends for c in pair if c for step in (-1, 0, 1)}
     names = [".g%sit" % chr(code) for code in sorted(codes) if code not in (ord("/"), ord("t"))]
     left, right = place.folder("left", {"a": b"1\n"}), place.folder("right", {"a": b"1\n", **{name + "/x": b"1\n" for name in names}})
