@@ -1,8 +1,8 @@
 """What a file has changed: as the front end takes it, and as what a choice leaves of it."""
 import collections
-import hashlib
 import os
 
+from .packs import name_of
 from .records import record
 from .words import shown
 
@@ -17,6 +17,25 @@ OF_A_TEXT = b"path %d\n%b\nold-mode 6\n%b\nold %d\n%b\nnew-mode 6\n%b\nnew %d\n%
 
 # One side of a file: its mode, and the name of git's object with its contents.
 Side = collections.namedtuple("Side", "mode name")
+
+
+class Read:
+    """A side of a file whose bytes were read. Its name is made only where it is asked for: `algorithm` is how git makes it."""
+
+    __slots__ = "mode", "data", "algorithm", "made"
+
+    def __init__(self, mode, data, algorithm):
+        self.mode, self.data, self.algorithm, self.made = mode, data, algorithm, None
+
+    @property
+    def name(self):
+        self.made = self.made or name_of(self.data, self.algorithm)
+        return self.made
+
+    def __eq__(self, other):
+        if isinstance(other, Read):
+            return self.mode == other.mode and self.data == other.data
+        return isinstance(other, Side) and self.mode == other.mode and self.name == other.name
 
 
 class Unread(bytes):
@@ -49,8 +68,7 @@ class Change:
 
     def __init__(self, path, sides, contents):
         self.path, (self.old, self.new) = path, sides
-        self.old_data = b"" if self.old.mode == ABSENT else contents[self.old.name]
-        self.new_data = b"" if self.new.mode == ABSENT else contents[self.new.name]
+        self.old_data, self.new_data = data_of(self.old, contents), data_of(self.new, contents)
         # nothing stands for what is no file
         old = None if self.old.mode in NO_FILES else self.old_data
         new = None if self.new.mode in NO_FILES else self.new_data
@@ -128,8 +146,15 @@ class Choice(collections.namedtuple("Choice", "change mode data")):
         return next((side.name for side, data in sides if data == self.data and side.name), None)
 
 
+def data_of(side, contents):
+    """Returns the bytes of a side. `contents` has those of others than Read, by their names."""
+    return side.data if isinstance(side, Read) else b"" if side.mode == ABSENT else contents[side.name]
+
+
 def digest_of(side):
     """Returns what a side of a file is known by: its mode, and a digest of its bytes."""
+    import hashlib
+
     mode, data = side
     return [mode, hashlib.sha256(data).hexdigest()]
 

@@ -1,8 +1,5 @@
 """Objects in the form in which git hands them on, all in one: so no file is needed for each."""
 import functools
-import hashlib
-import struct
-import zlib
 
 BLOB = 3
 
@@ -10,6 +7,9 @@ BLOB = 3
 @functools.lru_cache(maxsize=None)
 def digest_of_nothing(algorithm):
     """Returns the digest of no bytes. A copy of it is made sooner than a new one."""
+    # until the first screen nothing needs a digest, and OpenSSL takes long to load
+    import hashlib
+
     return hashlib.new(algorithm, usedforsecurity=False)
 
 
@@ -33,6 +33,8 @@ def head_of(size):
 
 def compressed(data):
     """Returns bytes as an object has them. A window and a table that are no larger than they need are sooner made ready."""
+    import zlib
+
     bits = len(data).bit_length()
     packer = zlib.compressobj(1, wbits=min(max(bits, 9), zlib.MAX_WBITS), memLevel=min(max(bits - 5, 1), zlib.DEF_MEM_LEVEL))
     return packer.compress(data) + packer.flush()
@@ -40,6 +42,9 @@ def compressed(data):
 
 def pack_of(contents, algorithm):
     """Returns a pack with an object for each of `contents`."""
+    import hashlib
+    import struct
+
     objects = [head_of(len(data)) + compressed(data) for data in contents]
     pack = b"".join([b"PACK", struct.pack(">LL", 2, len(objects)), *objects])
     return pack + hashlib.new(algorithm, pack, usedforsecurity=False).digest()

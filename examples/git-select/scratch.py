@@ -5,7 +5,7 @@ import os
 import re
 import subprocess
 
-from choosing.change import ABSENT, Side, Unread
+from choosing.change import ABSENT, Read, Side, Unread
 from choosing.git import PACKING, Git, reason_in, run_within, split_by_zeros
 from choosing.temporary import new_folder, new_path
 from choosing.words import Stop
@@ -108,7 +108,8 @@ class Scratch(Git):
             return {}
         # what is no more than renamed is found by its name
         are_compared = len(gone) * len(come) <= MOST_COMPARED ** 2
-        self.store([self.known[side.name] for _, side in come if side.name in self.known] if are_compared else [])
+        read = [side for _, side in come if isinstance(side, Read)] if are_compared else []
+        self.store([side.data for side in read], [side.name for side in read])
         words = "-r", "-z", "-M" if are_compared else "-M100%", "-l%d" % MOST_COMPARED, "--diff-filter=R"
         parts = split_by_zeros(self.git("diff-tree", *words, self.tree(gone), self.tree(come)))
         return dict(zip(parts[2::3], parts[1::3]))
@@ -119,7 +120,7 @@ class Scratch(Git):
 
     def is_read(self, side):
         """Whether the contents of a side are not left unread."""
-        return not isinstance(self.known.get(side.name), Unread)
+        return isinstance(side, Read) or not isinstance(self.known.get(side.name), Unread)
 
     def tree(self, entries):
         """Stores a tree of paths with their sides. Returns its name."""
@@ -141,11 +142,9 @@ class Scratch(Git):
         return {words[0]: int(words[-1]) for words in found if words[-1].isdigit()}
 
     def contents(self, names):
-        """Returns the bytes of objects, by name."""
-        names = set(names)
-        missing = names - self.known.keys()
-        read = {name: self.known[name] for name in names - missing}
-        return {**read, **self.stored_contents(sorted(missing))} if missing else read
+        """Returns the bytes of objects, by name, these among others."""
+        missing = {*names} - self.known.keys()
+        return {**self.known, **self.stored_contents(sorted(missing))} if missing else self.known
 
     def stored_contents(self, names):
         """Returns the bytes of objects that git has, by name."""

@@ -1,5 +1,5 @@
 """Which files differ, each with its two sides: between the index and the working tree, or the last commit and the index."""
-from choosing.change import ABSENT, SUBMODULE, Change, Renamed, Side
+from choosing.change import ABSENT, SUBMODULE, Change, Read, Renamed, Side, Unread
 from choosing.paths import fault_in
 from choosing.words import shown
 from look import Look, beyond
@@ -49,13 +49,19 @@ def changed_in_tree(way, scratch, only=None, is_new_shown=True):
     sizes = scratch.sizes((side.name for side, _ in found.values() if side.name), way.most_read()) if way.unread is None else {}
     old_sizes = {path: sizes[side.name] for path, (side, _) in found.items() if side.name in sizes}
     modes = {path: mode for path, (_, mode) in found.items() if mode != ABSENT}
-    new = Look(scratch, modes, old_sizes, way.unread, way.most_read(), way.names).found()
+    new = Look(scratch, modes, old_sizes, way.unread, way.most_read(), way.seen).found()
     left_out.update(new.left_out)
-    way.unread, way.names = new.unread, new.names
+    way.unread, way.seen = new.unread, new.seen
     scratch.known.update(new.contents)
     scratch.leave_unread({found[path][0].name: old_sizes[path] for path in new.unread if path in old_sizes})
     sides = {path: (found[path][0], new.sides.get(path, GONE)) for path in found if path not in left_out}
-    return {path: pair for path, pair in sides.items() if pair[0] != pair[1]}, [*notes, *notes_on(left_out)]
+    return {path: pair for path, pair in sides.items() if differ(*pair, scratch.known)}, [*notes, *notes_on(left_out)]
+
+
+def differ(old, new, known):
+    """Whether two sides of a file are not the same. If the bytes of both are known, they are compared, and need no names."""
+    data = known.get(old.name) if isinstance(new, Read) else None
+    return old != new if data is None or isinstance(data, Unread) else old.mode != new.mode or data != new.data
 
 
 def changed_in_index(way, scratch):
@@ -96,7 +102,7 @@ def notes_on(left_out):
 
 def read_changes(scratch, sides):
     """Returns what is changed, by the sides of each file. A file that has another path by now is one change."""
-    contents = scratch.contents(side.name for pair in sides.values() for side in pair if side.name)
+    contents = scratch.contents(side.name for pair in sides.values() for side in pair if isinstance(side, Side) and side.name)
     changes = {path: Change(path, pair, contents) for path, pair in sides.items()}
     for new, old in scratch.renames(sides).items():
         renamed = Renamed(changes[old], changes[new], contents)

@@ -55,7 +55,7 @@ class Way:
 
     def __init__(self, repository, options, start, folder):
         self.repository, self.options, self.start, self.folder = repository, options, start, folder
-        self.names = {}  # of the contents of files that were read, by what shows that they still have them
+        self.seen = {}  # sides of files that were read, by what shows that they are still so
         self.notes, self.written = [], []  # what is said once all is written, and which of `writes` are
 
     def check(self):

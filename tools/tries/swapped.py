@@ -199,13 +199,14 @@ def a_repository_of_another_user(place):
     return is_refused and is_stopped and repository.index() == before and repository.is_sound()
 
 
-# a file becomes too large between the look at it and the reading
+# a file becomes too large between the look at it and the reading, where all are looked at before one is read
 GROWS = """import look
-kept = look.Look.converted
-def grows(self, paths):
+kept = look.Look.can_read
+def grows(self, path, converted):
     os.truncate("a", 1 << 40)
-    return kept(self, paths)
-look.Look.converted = grows
+    return kept(self, path, converted)
+look.Look.read_at_once = lambda *_: None
+look.Look.can_read = grows
 """
 
 
