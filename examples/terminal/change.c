@@ -178,11 +178,8 @@ static uint32_t compare_lines(piece old, piece new, size_t *count) {
     return code;
 }
 
-/* Sets `count` to the number of changed lines. */
-static uint32_t count_changed(const change *change, size_t *count) {
-    gabro_shown shown = shown_as(change);
-    piece old = lines_of(&change->old, shown.old_mode), new = lines_of(&change->new, shown.new_mode);
-    leave_common(&old, &new);
+/* Sets `count` to the number of lines that differ between two texts. */
+static uint32_t count_changed(piece old, piece new, size_t *count) {
     if (old.length > 0 && new.length > 0) {
         return count_own_lines(old, new, count) ? GABRO_DONE : compare_lines(old, new, count);
     }
@@ -200,13 +197,18 @@ static bool add_word(text *note, bool is_so, const char *word) { return !is_so |
 /* Adds how many lines come and go, if any do. */
 static uint32_t add_counts(text *note, const change *change) {
     size_t changed = 0;
+    if (!change->has_lines) {
+        return GABRO_DONE;
+    }
     gabro_shown shown = shown_as(change);
-    size_t old = lines_in(lines_of(&change->old, shown.old_mode)), new = lines_in(lines_of(&change->new, shown.new_mode));
-    uint32_t code = change->has_lines ? count_changed(change, &changed) : GABRO_DONE;
+    piece old = lines_of(&change->old, shown.old_mode), new = lines_of(&change->new, shown.new_mode);
+    /* what is left has as many more lines as the whole text */
+    leave_common(&old, &new);
+    uint32_t code = count_changed(old, new, &changed);
     if (code != GABRO_DONE || changed == 0) {
         return code;
     }
-    size_t added = (changed + new - old) / 2;
+    size_t added = (changed + lines_in(new) - lines_in(old)) / 2;
     bool is_added = append(note, ", ", note->length > 0 ? 2 : 0) && append_words(note, "+%zu -%zu", added, changed - added);
     return is_added ? GABRO_DONE : GABRO_NO_MEMORY;
 }

@@ -29,9 +29,18 @@ static bool add_printable(text *into, piece bytes, bool has_doubled_backslashes)
     return is_added;
 }
 
+/* Returns with how many printable characters of ASCII bytes begin: most paths have no others. */
+static size_t plain_front(piece bytes) {
+    size_t count = 0;
+    while (count < bytes.length && ' ' <= bytes.bytes[count] && bytes.bytes[count] <= '~') {
+        count++;
+    }
+    return count;
+}
+
 /* Returns whether bytes can stand on a screen as they are. */
 static bool is_printable(piece bytes) {
-    for (size_t at = 0, length = 0; at < bytes.length; at += length) {
+    for (size_t at = plain_front(bytes), length = 0; at < bytes.length; at += length) {
         uint32_t code = 0;
         length = character_at(bytes.bytes + at, bytes.length - at, &code);
         if (length == 0 || is_unseen(code)) {

@@ -49,7 +49,7 @@ typedef struct task {
     const char *output;    /* the file to write to, or NULL for standard output */
     target target;         /* that file, in a folder that is open */
     const char *marks;     /* the file with marks that are taken up, or NULL */
-    uint64_t known;        /* by what the two versions that are shown are known */
+    uint64_t known;        /* by what the two versions that are shown are known, if their marks may be kept for another run */
     mode_t permissions;    /* that all files have that were read */
     layer layer;
     text bytes;            /* of the state, or of what was handed in */
@@ -69,7 +69,9 @@ static uint64_t known_version(uint64_t known, const version *version) {
 
 /* Adds a change to the state. On a terminal it says meanwhile what takes long. If a line is too long to be shown, says so. */
 static void add(gabro_session *session, task *task, change *change) {
-    task->known = known_version(known_version(known_by(task->known, change->path), &change->old), &change->new);
+    if (task->form != HANDED_IN) {
+        task->known = known_version(known_version(known_by(task->known, change->path), &change->old), &change->new);
+    }
     if (task->is_as_json && task->form != HANDED_IN) {
         show_modes(change);
     }
