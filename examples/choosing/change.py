@@ -83,7 +83,7 @@ class Change:
     def is_surely_shown(self):
         """Whether its lines are shown, without a word for one of its versions."""
         is_short = len(self.old_data) <= SURELY_SHOWN and len(self.new_data) <= SURELY_SHOWN
-        return self.has_lines and is_short and LINK not in (self.old.mode, self.new.mode)
+        return self.has_lines and is_short and self.old.mode != LINK and self.new.mode != LINK
 
     def records(self):
         """Returns the records that hand it in. What has no lines, and a link, goes without its bytes: it is one item, or none."""

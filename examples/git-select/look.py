@@ -29,7 +29,7 @@ REST = 2_000_000_000
 FILES = "100644", "100755"
 
 # What is found of the files that differ: by path the new sides, why others are left out, the paths of those that are not read, what
-# stands for the contents of these by their names, and sides that were read by their paths and what shows that a file is still so.
+# stands for the contents of these by their names, and of files that were read what stat said of them and their sides.
 Found = collections.namedtuple("Found", "sides left_out unread contents seen")
 
 
@@ -129,6 +129,7 @@ class Look:
 
     def found(self):
         """Reads the files. Returns what is found of them."""
+        self.algorithm = self.scratch.algorithm if self.modes else None
         converted = self.converted([*self.modes])
         sides = self.read_at_once(converted) if self.unread is None else None
         if sides is None:
@@ -197,8 +198,8 @@ class Look:
         """Returns the side of a file that was looked at, and reads it, if it was not read before. Returns None if git is to store it, or if
         it is left out."""
         found, mode = self.stats[path], self.mode_of(path)
-        before = self.before.get((path, mark_of(found)))
-        if before:
+        then, before = self.before.get(path, (None, None))
+        if then and mark_of(then) == mark_of(found):
             return before if before.mode == mode else Read(mode, before.data, before.algorithm)
         is_link = stat.S_ISLNK(found.st_mode)
         try:
@@ -214,9 +215,9 @@ class Look:
         if b"\r" in data and stat.S_ISREG(found.st_mode):
             self.by_git.add(path)
             return None
-        side = Read(mode, data, self.scratch.algorithm)
+        side = Read(mode, data, self.algorithm)
         if found.st_ctime_ns + REST < self.begun:
-            self.seen[path, mark_of(found)] = side
+            self.seen[path] = found, side
         return side
 
     def unread_side(self, path):

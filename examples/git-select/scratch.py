@@ -102,8 +102,8 @@ class Scratch(Git):
     def renames(self, sides):
         """Returns the old paths of files that have another one by now, by the new ones, as git finds them. `sides` has the sides of
         each file that differs, by path. None is found if the user has set that."""
-        gone, come = ([(path, pair[side]) for path, pair in sides.items() if pair[1 - side].mode == ABSENT and self.is_read(pair[side])]
-                      for side in (0, 1))
+        gone = [(path, old) for path, (old, new) in sides.items() if new.mode == ABSENT and self.is_read(old)]
+        come = [(path, new) for path, (old, new) in sides.items() if old.mode == ABSENT and self.is_read(new)]
         if not gone or not come or self.run("config", "--type=bool", "--get", "diff.renames")[1].strip() == b"false":
             return {}
         # what is no more than renamed is found by its name

@@ -44,24 +44,27 @@ def changed_in_tree(way, scratch, only=None, is_new_shown=True):
     has_untracked = is_new_shown and way.shows_untracked()
     found, left_out, notes = candidates(way.repository, way.options.paths, way.start, has_untracked)
     # git names most of them in order, so they are soon sorted
-    found = {path: found[path] for path in sorted([path for path in found if path not in left_out and (only is None or path in only)])}
+    paths = sorted([path for path in found if path not in left_out and (only is None or path in only)])
+    old = {path: found[path][0] for path in paths}
     # what is not read is found out once
-    sizes = scratch.sizes((side.name for side, _ in found.values() if side.name), way.most_read()) if way.unread is None else {}
-    old_sizes = {path: sizes[side.name] for path, (side, _) in found.items() if side.name in sizes}
-    modes = {path: mode for path, (_, mode) in found.items() if mode != ABSENT}
+    sizes = scratch.sizes([side.name for side in old.values() if side.name], way.most_read()) if way.unread is None else {}
+    old_sizes = {path: sizes[side.name] for path, side in old.items() if side.name in sizes}
+    modes = {path: found[path][1] for path in paths if found[path][1] != ABSENT}
     new = Look(scratch, modes, old_sizes, way.unread, way.most_read(), way.seen).found()
     left_out.update(new.left_out)
     way.unread, way.seen = new.unread, new.seen
     scratch.known.update(new.contents)
-    scratch.leave_unread({found[path][0].name: old_sizes[path] for path in new.unread if path in old_sizes})
-    sides = {path: (found[path][0], new.sides.get(path, GONE)) for path in found if path not in left_out}
-    return {path: pair for path, pair in sides.items() if differ(*pair, scratch.known)}, [*notes, *notes_on(left_out)]
+    scratch.leave_unread({old[path].name: old_sizes[path] for path in new.unread if path in old_sizes})
+    pairs = [(path, old[path], new.sides.get(path, GONE)) for path in paths if path not in left_out]
+    return {path: (then, now) for path, then, now in pairs if differ(then, now, scratch.known)}, [*notes, *notes_on(left_out)]
 
 
 def differ(old, new, known):
     """Whether two sides of a file are not the same. If the bytes of both are known, they are compared, and need no names."""
+    if old.mode != new.mode:
+        return True
     data = known.get(old.name) if isinstance(new, Read) else None
-    return old != new if data is None or isinstance(data, Unread) else old.mode != new.mode or data != new.data
+    return old != new if data is None or isinstance(data, Unread) else data != new.data
 
 
 def changed_in_index(way, scratch):
@@ -102,7 +105,7 @@ def notes_on(left_out):
 
 def read_changes(scratch, sides):
     """Returns what is changed, by the sides of each file. A file that has another path by now is one change."""
-    contents = scratch.contents(side.name for pair in sides.values() for side in pair if isinstance(side, Side) and side.name)
+    contents = scratch.contents([side.name for pair in sides.values() for side in pair if isinstance(side, Side) and side.name])
     changes = {path: Change(path, pair, contents) for path, pair in sides.items()}
     for new, old in scratch.renames(sides).items():
         renamed = Renamed(changes[old], changes[new], contents)

@@ -55,7 +55,7 @@ class Way:
 
     def __init__(self, repository, options, start, folder):
         self.repository, self.options, self.start, self.folder = repository, options, start, folder
-        self.seen = {}  # sides of files that were read, by what shows that they are still so
+        self.seen = {}  # of files that were read what stat said of them, and their sides, by path
         self.notes, self.written = [], []  # what is said once all is written, and which of `writes` are
 
     def check(self):
