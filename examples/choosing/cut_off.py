@@ -4,7 +4,8 @@ import os
 
 from .change import digest_of
 from .files import named
-from .plans import NOTHING, NOT_PLANNED, WITHIN, in_order, plans_of
+from .plans import NOTHING, NOT_PLANNED, in_order, plans_of
+from .rooms import WITHIN
 from .spare import Spare, parent_for
 from .words import Stop, shown
 

@@ -17,6 +17,7 @@ from .folders import IS_PLAIN, closing, identity_of, is_ours, read_whole
 from .locks import lock_open
 from .paths import fault_in
 from .permissions import LISTS, OF_FOLDER, Permissions
+from .rooms import PLACES
 from .words import Stop, shown
 
 BEGUN, DONE = ".plan", ".done"
@@ -25,8 +26,6 @@ DIGEST, TOKEN, SPARE_NAME, HEXADECIMAL = "[0-9a-f]{64}", "[0-9a-f]{32}", r"\.gab
 MODES = ABSENT, "100644", "100755", LINK
 # what is said of a plan that is gone meanwhile, as it is at its end, and of what is no plan: another user's, a link or a folder
 NO_PLAN = errno.ENOENT, errno.EACCES, errno.EPERM, errno.ELOOP, errno.EISDIR, errno.ENXIO
-# where a spare folder may lie: in the folder of the plan, beside the folder that is changed, or in it
-PLACES = KEPT, BESIDE, WITHIN = "kept", "beside", "within"
 
 # The first line of a plan: the folder's real path and inode, and the place, the name and the secret of the spare folder. The
 # number of a disk may be another one after a start of the system, so the secret, which lies in the spare folder, is looked at.

@@ -9,6 +9,8 @@ from .named import Named
 from .words import Stop, shown
 
 NAME = "gabrosty"
+# where a spare folder may lie: in the folder of the plan, beside the folder that is changed, or in it
+PLACES = KEPT, BESIDE, WITHIN = "kept", "beside", "within"
 ANOTHER_STATE = "; XDG_STATE_HOME names another folder"
 
 

@@ -7,7 +7,8 @@ import stat
 
 from .change import digest_of
 from .folders import IS_FOLDER, IS_PLAIN, closing, identity_of, is_ours, read_whole
-from .plans import BESIDE, KEPT, WITHIN, First, Plan, lines_of, new_token
+from .plans import First, Plan, lines_of, new_token
+from .rooms import BESIDE, KEPT, WITHIN
 from .words import HalfDone, Stop, shown, words_of
 
 SECRET = "secret"

@@ -13,8 +13,7 @@ from choosing.git import Git
 from choosing.named import Named, is_of_processes
 from choosing.paths import is_own
 from choosing.permissions import permissions_of_both
-from choosing.plans import BESIDE, WITHIN
-from choosing.rooms import UserRoom
+from choosing.rooms import BESIDE, WITHIN, UserRoom
 from choosing.temporary import own_below
 from choosing.words import Stop, shown
 

@@ -4,60 +4,58 @@ import collections
 import types
 
 from choosing.words import version_of
-from commits import Amend, Commit, Fixup, Split
-from restore import Restore
-from stash import Stash
-from ways import Stage, Unstage
 
 # An option: its names, the value that follows it, its words in the help, and what the man page says, where `CODE` and *VALUE* are set
-# off. `way` is what it does with a choice, or how what was cut off is mended: one of these can be given. `values` says what the value
-# may be: `commits` or `files`. `taken` is how the reader takes it, where that is not by its name.
+# off. `way` is what it does with a choice, by the name of a class behind that of its module, or how what was cut off is mended: one of these can
+# be given. `values` says what the value may be: `commits` or `files`. `taken` is how the reader takes it, where that is not by its name.
 Option = collections.namedtuple("Option", "names value help page way values taken", defaults=(None, None, {}))
 
 FINISH, UNDO = "finish", "undo"
+STAGE, UNSTAGE, RESTORE, STASH = "ways.Stage", "ways.Unstage", "restore.Restore", "stash.Stash"
+COMMIT, AMEND, FIXUP, SPLIT = "commits.Commit", "commits.Amend", "commits.Fixup", "commits.Split"
 # how files that git does not know are shown; no folder of them is one item, so two words mean the same
 UNTRACKED = "all", "normal", "no"
 # those that take a message, and those whose choice can be edited: it goes into the index
-TOLD, TOLD_WORDS = (Commit, Amend, Split, Stash), "--commit, --amend, --split and --stash"
-EDITED = Stage, Unstage, Commit, Amend, Fixup
+TOLD, TOLD_WORDS = (COMMIT, AMEND, SPLIT, STASH), "--commit, --amend, --split and --stash"
+EDITED = STAGE, UNSTAGE, COMMIT, AMEND, FIXUP
 # what can follow a choice, each of it a choice of what is left
-THEN = {"stage": Stage, "restore": Restore, "stash": Stash, "commit": Commit}
+THEN = {"stage": STAGE, "restore": RESTORE, "stash": STASH, "commit": COMMIT}
 OPTIONS = (
     Option(
         ["--unstage"], None, "take chosen changes out of the index",
-        "Shows what is staged. What you mark is taken out of the index; the working tree stays.", Unstage,
+        "Shows what is staged. What you mark is taken out of the index; the working tree stays.", UNSTAGE,
     ),
     Option(
         ["--restore"], None, "take chosen changes back in the working tree, to what the index has; git keeps what the files had",
         "Shows what changed in the working tree. What you mark is taken back, to what the index has. Before a file is written, git "
         "stores its contents, and their name is printed. `git cat-file blob` *NAME* prints them, until git removes objects that nothing "
-        "refers to (after two weeks, if `gc.pruneExpire` is not set). Files that the index does not have are left alone.", Restore,
+        "refers to (after two weeks, if `gc.pruneExpire` is not set). Files that the index does not have are left alone.", RESTORE,
     ),
     Option(
         ["--stash"], None, "take chosen changes back in the working tree, and keep them as a stash, which git stash pop brings back",
         "Shows the same changes. What you mark is taken back, and kept as a stash. Then it says how you have it back: by `git stash pop` "
-        "if that works, and else by what does.", Stash,
+        "if that works, and else by what does.", STASH,
     ),
     Option(
         ["--commit"], None, "commit chosen changes, with those that are staged; `e` edits the message",
         "Shows the same changes as without an option, and commits what is marked, with what was staged before. The files of that are "
         "named first, and the last row of the terminal has their number. `e` edits the message, in git's editor. It begins as "
         "`commit.template` says. If there is none, or it is the template as it is, git opens its editor after `c`. Hooks run as with "
-        "`git commit`. If git does not commit, the index is as it was.", Commit,
+        "`git commit`. If git does not commit, the index is as it was.", COMMIT,
     ),
     Option(
         ["--amend"], None, "add chosen changes, and those that are staged, to the last commit; `e` edits its message",
-        "Does the same, and adds it to the last commit. The message begins as the last commit has it.", Amend,
+        "Does the same, and adds it to the last commit. The message begins as the last commit has it.", AMEND,
     ),
     Option(
         ["--fixup"], "COMMIT", "commit chosen changes, with those that are staged, as a fixup of this commit",
-        "Does the same, and makes a fixup of this commit, for `git rebase --autosquash`.", Fixup, "commits",
+        "Does the same, and makes a fixup of this commit, for `git rebase --autosquash`.", FIXUP, "commits",
     ),
     Option(
         ["--split"], None, "make two commits of the last one: the first has the chosen changes, and the second the rest",
         "Shows what the last commit changes, and makes two commits of it: the first has what is marked, and the second has the files of "
         "the last commit. Both have its author and its message; `e` edits the first one's message. Index and working tree stay, and "
-        "hooks do not run.", Split,
+        "hooks do not run.", SPLIT,
     ),
     Option(
         ["--finish"], None, "finish a restore or a stash that was cut off",
@@ -130,7 +128,13 @@ def without_words():
     """Returns the same without words."""
     read = (option for option in OPTIONS if not option.way or option.value)
     names = (option.taken.get("dest") or option.names[-1].strip("-").replace("-", "_") for option in read)
-    return types.SimpleNamespace(**{**dict.fromkeys(names), "way": Stage, "paths": []})
+    return types.SimpleNamespace(**{**dict.fromkeys(names), "way": STAGE, "paths": []})
+
+
+def class_of(way):
+    """Returns the class that has this name in the table. Its module is loaded only then."""
+    module, _, name = way.partition(".")
+    return getattr(__import__(module), name)
 
 
 def following(options):
@@ -147,7 +151,7 @@ def add_options(reader, version):
         if option.value:
             (ways if option.way else reader).add_argument(*option.names, metavar=option.value, help=option.help, **option.taken)
         elif option.way:
-            ways.add_argument(*option.names, dest="way", action="store_const", const=option.way, default=Stage, help=option.help)
+            ways.add_argument(*option.names, dest="way", action="store_const", const=option.way, default=STAGE, help=option.help)
         elif option.taken:
             reader.add_argument(*option.names, help=option.help, **option.taken)
         else:
@@ -161,7 +165,7 @@ def read_options(reader, words):
     options = reader.parse_intermixed_args([spelled(word) for word in words[:end]])
     options.paths += [*options.only, *words[end + 1 :]]
     if options.fixup is not None:
-        options.way = Fixup
+        options.way = FIXUP
     if options.message is not None and options.way not in TOLD:
         reader.error("a message is for " + TOLD_WORDS)
     if options.edit and options.way not in (*EDITED, FINISH, UNDO):

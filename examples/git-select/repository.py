@@ -4,10 +4,8 @@ import os
 import stat
 
 from choosing.change import ABSENT, Side
-from choosing.files import Files
 from choosing.git import Git, reason_in, split_by_zeros
-from choosing.plans import KEPT
-from choosing.rooms import NAME, Room
+from choosing.rooms import KEPT, NAME, Room
 from choosing.temporary import own_below
 from choosing.waiting import counted
 from choosing.words import Stop, printable, shown
@@ -135,6 +133,8 @@ class Repository(Git):
 
     def files(self):
         """Returns the files of the working tree. Plans of their changes are kept in the git directory."""
+        from choosing.files import Files
+
         return Files(self.top, room=self.room, at=self.opened[self.top])
 
     def path_to(self, path):

@@ -2,12 +2,12 @@
 
 Without an option it shows how the working tree differs from the index, and adds the marked changes to the index. Changes
 that are staged already stay staged. Nothing is written before you accept."""
+import contextlib
 import os
 import sys
 import time
 
 from choosing.accepted import kept_in, take_up
-from choosing.cut_off import cut_off
 from choosing.faults import ending, step
 from choosing.front_end import EPILOGUE, choices_in, choose, keep
 from choosing.program import leave, run
@@ -15,9 +15,8 @@ from choosing.said import say, tell
 from choosing.signals import signals_wait
 from choosing.waiting import counted, waits
 from choosing.words import HalfDone, Stop, shown
-from edit import edited, editor_of
 from lock import Lock, check_free, is_left_at, words_on_copied
-from options import FINISH, UNDO, following, options_of, without_words
+from options import FINISH, UNDO, class_of, following, options_of, without_words
 from repository import Repository
 from scratch import Scratch
 from sides import read_changes
@@ -60,19 +59,35 @@ def open_way(repository, options, folder):
     leads nowhere."""
     start = start_folder(repository) if options.paths else repository.top
     repository.open(start)
-    with cut_off(repository.files()) as found:
+    with left_in(repository) as found:
         if found:
             raise Stop(words_on(found))
     check_free(repository.index)
     repository.check_writable()
-    way = options.way(repository, options, start, folder)
+    way = class_of(options.way)(repository, options, start, folder)
     if "the files" in way.use.writes:
         repository.room.check()
     way.check()
     if options.edit:
+        from edit import editor_of
+
         editor_of(repository)
     repository.check_paths(options.paths, start, way.tree_before())
     return way
+
+
+@contextlib.contextmanager
+def left_in(repository):
+    """Gives the change of files that was cut off, or None if there is none. What reads plans is loaded only where some may be kept."""
+    with repository.room.found() as kept:
+        may_be_kept = kept is not None
+    if not may_be_kept:
+        yield None
+        return
+    from choosing.cut_off import cut_off
+
+    with cut_off(repository.files()) as found:
+        yield found
 
 
 def words_on(found):
@@ -86,7 +101,7 @@ def words_on(found):
 
 def mend(repository, options, folder):
     """Finishes or undoes a change of files that was cut off, and returns the status."""
-    with signals_wait(), cut_off(repository.files()) as found:
+    with signals_wait(), left_in(repository) as found:
         if not found and (options.way == FINISH or not is_left_at(repository.index)):
             raise Stop(words_on_copied(repository.index) or "there is no restore that was cut off")
         repository.check_same()
@@ -119,6 +134,8 @@ def use(way, accepted):
         try:
             choices = choices_in(accepted, way.use.side, way.use.now)
             if way.options.edit and choices:
+                from edit import edited
+
                 # nothing is written yet, so a signal ends this at once
                 with signals_wait(False):
                     choices = edited(choices, way)
