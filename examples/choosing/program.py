@@ -1,6 +1,5 @@
 """How a program begins and ends: its folder for temporary files, signals, and what is said where it fails."""
 import contextlib
-import gc
 import os
 import signal
 import sys
@@ -30,8 +29,6 @@ def temporary_folder():
 
 def run(work):
     """Calls `work` with a folder for temporary files. Returns the program's status. What fails is said in one line."""
-    # it ends soon, and nearly nothing of what it makes is in a circle
-    gc.disable()
     try:
         take_standard_files()
         stop_on_signals()

@@ -1,6 +1,5 @@
 """What the files of the working tree contain, as `git add` would store it. What git stores as it is is read and named here, and git is
 asked for the rest. The largest files are not read, where all of them together are too much."""
-import collections
 import contextlib
 import os
 import stat
@@ -27,10 +26,6 @@ REST = 2_000_000_000
 
 # git's modes of what is read at once: git has just seen that it is a file
 FILES = "100644", "100755"
-
-# What is found of the files that differ: by path the new sides, why others are left out, the paths of those that are not read, what
-# stands for the contents of these by their names, and of files that were read what stat said of them and their sides.
-Found = collections.namedtuple("Found", "sides left_out unread contents seen")
 
 
 def mark_of(found):
@@ -90,7 +85,10 @@ def read_file(folder, name, most=MOST_BYTES):
 class Look:
     """A look at files of the working tree, by `scratch`. `modes` has by path the mode that git sees, or None if git does not know the
     file. `old_sizes` has the sizes of old versions. `unread` are the paths that are not read, or None if they are to be found out by
-    `most`, how many bytes are read at most. A file that is as an earlier look found it is not read again: `seen` are the sides of that."""
+    `most`, how many bytes are read at most. A file that is as an earlier look found it is not read again: `seen` are the sides of that.
+
+    Behind `sides` it has by path why files are left out (`left_out`), the paths of those that are not read (`unread`), what stands for the
+    contents of these by name (`contents`), and of files that were read what stat said of them and their sides (`seen`)."""
 
     def __init__(self, scratch, modes, old_sizes, unread, most, seen):
         self.scratch, self.modes, self.folder = scratch, modes, scratch.opened[scratch.top]
@@ -127,8 +125,8 @@ class Look:
         can_be_run = mode & 0o100 and self.scratch.setting("core.filemode") not in FALSE
         return LINK if stat.S_ISLNK(mode) else "100755" if can_be_run else "100644"
 
-    def found(self):
-        """Reads the files. Returns what is found of them."""
+    def sides(self):
+        """Reads the files. Returns their sides by path."""
         self.algorithm = self.scratch.algorithm if self.modes else None
         converted = self.converted([*self.modes])
         sides = self.read_at_once(converted) if self.unread is None else None
@@ -137,7 +135,7 @@ class Look:
         left_out = self.scratch.add(sorted(self.by_git))
         sides.update(self.scratch.sides(self.by_git - left_out.keys()))
         self.left_out.update(left_out)
-        return Found(sides, self.left_out, self.unread, self.contents, self.seen)
+        return sides
 
     def read_at_once(self, converted):
         """Reads the files one after another, without a look at all of them first. Returns the sides of those that git is not to store, or None if

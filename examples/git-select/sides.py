@@ -50,12 +50,13 @@ def changed_in_tree(way, scratch, only=None, is_new_shown=True):
     sizes = scratch.sizes([side.name for side in old.values() if side.name], way.most_read()) if way.unread is None else {}
     old_sizes = {path: sizes[side.name] for path, side in old.items() if side.name in sizes}
     modes = {path: found[path][1] for path in paths if found[path][1] != ABSENT}
-    new = Look(scratch, modes, old_sizes, way.unread, way.most_read(), way.seen).found()
-    left_out.update(new.left_out)
-    way.unread, way.seen = new.unread, new.seen
-    scratch.known.update(new.contents)
-    scratch.leave_unread({old[path].name: old_sizes[path] for path in new.unread if path in old_sizes})
-    pairs = [(path, old[path], new.sides.get(path, GONE)) for path in paths if path not in left_out]
+    look = Look(scratch, modes, old_sizes, way.unread, way.most_read(), way.seen)
+    new = look.sides()
+    left_out.update(look.left_out)
+    way.unread, way.seen = look.unread, look.seen
+    scratch.known.update(look.contents)
+    scratch.leave_unread({old[path].name: old_sizes[path] for path in look.unread if path in old_sizes})
+    pairs = [(path, old[path], new.get(path, GONE)) for path in paths if path not in left_out]
     return {path: (then, now) for path, then, now in pairs if differ(then, now, scratch.known)}, [*notes, *notes_on(left_out)]
 
 
