@@ -1,4 +1,4 @@
-"""What the files of the working tree contain, as `git add` would store it. What git stores as it is is read and named here, and git is
+"""What the files of the working tree contain, as `git add` would store it. What git stores as it is is read here, and git is
 asked for the rest. The largest files are not read, where all of them together are too much."""
 import contextlib
 import os
