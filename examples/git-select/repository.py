@@ -31,7 +31,7 @@ def index_lines(entries):
 
 def lines_of(paths):
     """Returns paths as git reads them with -z."""
-    return os.fsencode("".join([path + "\0" for path in paths]))
+    return os.fsencode("\0".join(paths) + "\0") if paths else b""
 
 
 def update_index(git, entries, **more):

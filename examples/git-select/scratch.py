@@ -25,7 +25,7 @@ LONGEST_HEAD = 100
 
 def names_to_ask(names):
     """Returns the names of objects as git takes them."""
-    return "".join([name + "\n" for name in names]).encode()
+    return ("\n".join(names) + "\n").encode() if names else b""
 
 
 def contents_in(output, names):
@@ -130,8 +130,8 @@ class Scratch(Git):
 
     def sizes(self, names, most):
         """Returns how many bytes objects have, by name. They are read too, if they have no more than `most` bytes together."""
-        names = set(names)
-        found = self.contents_within(sorted(names), most)
+        names = [*dict.fromkeys(names)]
+        found = self.contents_within(names, most)
         if found is not None:
             self.known.update(found)
             return {name: len(data) for name, data in found.items()}
