@@ -121,8 +121,8 @@ class Folder:
 
 
 def open_folder(path):
-    """Opens the folder at `path`, and makes it and those above it that are missing. Stops at a link of another user, in a folder with a sticky
-    bit that all may write to: it could lead anywhere."""
+    """Opens the folder at `path`, and makes it and those above it that are missing. Stops at a link of another user, in a folder that
+    others may write to: it could lead anywhere."""
     missing, at = [], os.path.abspath(path)
     while not os.path.isdir(at):
         missing.append(os.path.basename(at))

@@ -8,7 +8,7 @@ from .folders import AT_ONCE, IS_FOLDER, IS_PLAIN, closing, read_whole
 from .words import Stop, shown
 
 MOST_LINKS = 40  # as the kernel follows
-IS_OF_ANOTHER = "%s: it is another user's, in a folder that all may write to"
+IS_OF_ANOTHER = "%s: it is another user's, in a folder that others may write to"
 # a folder on the way need not be one that the user may list
 IS_ON_THE_WAY = getattr(os, "O_PATH", os.O_RDONLY) | os.O_DIRECTORY | os.O_CLOEXEC
 
@@ -22,10 +22,11 @@ def find(name, folder):
 
 
 def is_trusted(folder, found):
-    """Whether what lies in an open folder is this user's, or the folder's owner's, or came there by a right that not all have. So the kernel
-    looks at links, if it is told to (fs.protected_symlinks)."""
+    """Whether what lies in an open folder is this user's, or the folder's owner's, or nobody else may put something there. So the kernel looks
+    at links, if it is told to (fs.protected_symlinks), but only where a sticky bit is. Without that bit, only a file may be another's: who may
+    write to the folder may replace it, and it leads nowhere."""
     around = os.fstat(folder)
-    is_shared = around.st_mode & stat.S_ISVTX and around.st_mode & 0o022
+    is_shared = around.st_mode & 0o022 and (around.st_mode & stat.S_ISVTX or not stat.S_ISREG(found.st_mode))
     return not is_shared or found.st_uid in (os.geteuid(), around.st_uid)
 
 

@@ -52,7 +52,7 @@ static bool close_written(int file, bool is_written) {
 const char *reason(void) {
     return errno == EOVERFLOW    ? "it has more than 1,073,741,824 bytes"
            : errno == ESTALE     ? "it changed meanwhile"
-           : errno == OF_ANOTHER ? "it is another user's, in a folder that all may write to"
+           : errno == OF_ANOTHER ? "it is another user's, in a folder that others may write to"
            : errno == TOO_DEEP   ? "it lies in more than 4,096 folders"
                                  : strerror(errno);
 }

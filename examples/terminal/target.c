@@ -24,12 +24,13 @@ typedef struct walk {
     bool is_led;        /* by a link of another user than this one and root */
 } walk;
 
-/* Returns whether what is in a folder is the user's, or the folder's owner's, or came there by a right that not all have. So the kernel
- * looks at links, if it is told to (fs.protected_symlinks). */
+/* Returns whether what is in a folder is the user's, or the folder's owner's, or nobody else may put something there. So the kernel looks
+ * at links, if it is told to (fs.protected_symlinks), but only where a sticky bit is. Without that bit, only a file may be another's: who may write
+ * to the folder may replace it, and it leads nowhere. */
 static bool is_trusted(int folder, const struct stat *status) {
     struct stat around;
     bool is_known = fstat(folder, &around) == 0;
-    bool is_shared = is_known && (around.st_mode & S_ISVTX) && (around.st_mode & OTHERS_MAY_WRITE);
+    bool is_shared = is_known && (around.st_mode & OTHERS_MAY_WRITE) && ((around.st_mode & S_ISVTX) || !S_ISREG(status->st_mode));
     bool is_own = is_known && (!is_shared || status->st_uid == geteuid() || status->st_uid == around.st_uid);
     errno = is_known && !is_own ? OF_ANOTHER : errno;
     return is_own;

@@ -152,8 +152,8 @@ def a_prefix_of_another_user(place):
 
 
 def a_prefix_behind_a_link(place):
-    """Where all may put links, one of another user leads to no PREFIX: neither the last part of its path, nor one before it. A link of the
-    user's own does. Skipped without the rights of two users."""
+    """Where others may put links, with a sticky bit or without one, one of another user leads to no PREFIX: neither the last part of its
+    path, nor one before it. A link of the user's own does. Skipped without the rights of two users."""
     if os.geteuid():
         return "that needs another user"
     source, outside = place.folder("source", {"bin/new": b"1\n"}), place.folder("outside/deep", {"bin/old": b"2\n"})
@@ -162,11 +162,12 @@ def a_prefix_behind_a_link(place):
     os.symlink(os.path.dirname(outside), shared + "/around")
     for name in "last", "around":
         os.chown(os.path.join(shared, name), NOBODY, NOBODY, follow_symlinks=False)
-    os.chmod(shared, 0o1777)
-    tops = [os.path.join(shared, path) for path in ("last", "last/new", "around/deep", "around/new/er")]
-    ends = [call(*words, top) for top in tops for words in ([PLACE, "--from", source], [PLACE, "--try"], [UNINSTALL])]
+    tops, ends = [os.path.join(shared, path) for path in ("last", "last/new", "around/deep", "around/new/er")], []
+    for mode in 0o1777, 0o775, 0o757:
+        os.chmod(shared, mode)
+        ends += [call(*words, top) for top in tops for words in ([PLACE, "--from", source], [PLACE, "--try"], [UNINSTALL])]
     is_named = all("a link of another user is on the way to %s/" % shared in said for _, said in ends)
-    is_refused = [status for status, _ in ends] == [2, 2, 1, 2, 2, 1, 2, 2, 1, 2, 2, 1] and is_named
+    is_refused = [status for status, _ in ends] == [2, 2, 1] * 12 and is_named
     is_refused = is_refused and changed.read(place.top + "/outside") == {"deep/bin/old": b"2\n"}
     os.chown(shared + "/last", 0, 0, follow_symlinks=False)
     is_followed = call(PLACE, "--from", source, shared + "/last/new")[0] == 0 and changed.read(outside + "/new")["bin/new"] == b"1\n"

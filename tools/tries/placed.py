@@ -65,12 +65,15 @@ def is_refused(command, folder, outside):
 
 
 def behind_links(place, command, outside):
-    """Whether a command stops where a link of another user leads to its folder, or to one around it."""
+    """Whether a command stops where a link of another user, with a sticky bit around it or without one, leads to its folder, or to one around
+    it."""
     shared, before = place.folder("shared"), seen(outside)
     os.symlink(outside, shared + "/link")
     os.chown(shared + "/link", NOBODY, NOBODY, follow_symlinks=False)
-    os.chmod(shared, 0o1777)
-    ends = [subprocess.run(command(shared + path), stdout=subprocess.DEVNULL, stderr=subprocess.PIPE) for path in ("/link", "/link/new")]
+    ends = []
+    for mode, path in (0o1777, "/link"), (0o1777, "/link/new"), (0o775, "/link"), (0o775, "/link/new"):
+        os.chmod(shared, mode)
+        ends.append(subprocess.run(command(shared + path), stdout=subprocess.DEVNULL, stderr=subprocess.PIPE))
     return all(end.returncode == 2 and b"another user" in end.stderr for end in ends) and seen(outside) == before
 
 

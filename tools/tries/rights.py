@@ -2,6 +2,7 @@
 import contextlib
 import json
 import os
+import select
 import shutil
 import signal
 import stat
@@ -133,10 +134,10 @@ def what_another_user_put_there(place):
     for name in ("link", "lost", "around/z", "file", "pipe"):
         path = os.path.join(folder, name)
         status, said, _ = type_into(place, ["a", "c"], "-o", path, old, new)
-        ends.append(status == 2 and "%s: it is another user's, in a folder that all may write to\n" % path in said)
+        ends.append(status == 2 and "%s: it is another user's, in a folder that others may write to\n" % path in said)
     os.close(held)
     said = place.call("scm-select", "-d", place.folder("left"), folder + "/around")
-    ends.append(said == (2, "scm-select: %s/around: it is another user's, in a folder that all may write to\n" % folder))
+    ends.append(said == (2, "scm-select: %s/around: it is another user's, in a folder that others may write to\n" % folder))
     is_left = changed.read(private) == {"x": OLD} and data_of(folder + "/file") == b"theirs\n"
     os.symlink(private + "/x", folder + "/own")
     ends.append(type_into(place, ["a", "c"], "-o", folder + "/own", old, new)[0] == 0 and data_of(private + "/x") == NEW)
@@ -161,9 +162,41 @@ def what_is_read_through_links(place):
         commands = ["scm-select", path, old], ["scm-select", old, path], *(
             ["gabrosty-merge-tool", *(path if number == turn else old for number in range(3)), output] for turn in range(3)
         )
-        refused = "%s: it is another user's, in a folder that all may write to\n" % path
+        refused = "%s: it is another user's, in a folder that others may write to\n" % path
         ends += [(refused in place.call(*command)[1]) != is_read for command in commands]
     return all(ends)
+
+
+def links_in_a_folder_of_a_group(place):
+    """Where a group may put files, and no sticky bit is, a link of another user is followed neither to write nor to read, and a pipe of theirs
+    gets nothing; they are named. A file of theirs is replaced, and a link of the folder's owner is followed."""
+    if os.geteuid():
+        return NOT_ROOT
+    folder, private = place.folder("group"), place.folder("private", {"x": OLD, "gabrosty/keys": b"w c\n"})
+    old, new = two(place)
+    changed.write(folder, {"link": ("link", private + "/x"), "around": ("link", private), "file": OLD})
+    os.mkfifo(folder + "/pipe")
+    for name in os.listdir(folder):
+        os.chown(os.path.join(folder, name), NOBODY, NOBODY, follow_symlinks=False)
+    held, ends = os.open(folder + "/pipe", os.O_RDWR | os.O_NONBLOCK), []
+    for mode in 0o775, 0o757:
+        os.chmod(folder, mode)
+        refused = "%s: it is another user's, in a folder that others may write to\n"
+        for name in "link", "around/x", "around/lost", "pipe":
+            path = os.path.join(folder, name)
+            ends.append(place.call("scm-select", "-o", path, old, new) == (2, "scm-select: " + refused % path))
+            ends.append(refused % path in place.call("gabrosty-merge-tool", old, old, new, path)[1])
+        for name in "link", "around/x":
+            path = os.path.join(folder, name)
+            ends += [refused % path in place.call(*words)[1] for words in (["scm-select", path, new], ["gabrosty-merge-tool", path, old, new, old])]
+        for words in ["-d", place.folder("left"), folder + "/around"], ["-d", folder + "/around", place.folder("left")]:
+            ends.append(place.call("scm-select", *words) == (2, "scm-select: " + refused % (folder + "/around")))
+    is_left = data_of(private + "/x") == OLD and not select.select([held], [], [], 0)[0]
+    os.close(held)
+    ends.append(type_into(place, ["a", "c"], "-o", folder + "/file", old, new)[0] == 0 and data_of(folder + "/file") == NEW)
+    os.chown(folder, NOBODY, NOBODY)
+    ends.append(type_into(place, ["a", "c"], "-o", folder + "/link", old, new)[0] == 0 and data_of(private + "/x") == NEW)
+    return all(ends) and is_left
 
 
 def what_takes_the_place_of_output(place):
@@ -262,7 +295,7 @@ def keys_through_links(place):
     os.chown(folder + "/link", NOBODY, NOBODY, follow_symlinks=False)
     more = {"SELECT_LAYER": "on", "SELECT_KEYS": folder + "/link"}
     status, said = place.type(["scm-select", *two(place)], [], **more)
-    refused = "%s: it is another user's, in a folder that all may write to" % more["SELECT_KEYS"]
+    refused = "%s: it is another user's, in a folder that others may write to" % more["SELECT_KEYS"]
     is_refused = status == 2 and refused in said and "secret" not in said
     output = os.path.join(place.top, "output")
     status, _ = place.type(["scm-select", "-o", output, *two(place)], ["a", "w"], **{**more, "SELECT_KEYS": folder + "/own"})
@@ -600,7 +633,7 @@ def a_handler_that_comes_late(place):
 
 
 ALL = (
-    group_and_list_stay, no_more_for_another_group, lists_that_cannot_be_read, what_another_user_put_there, what_is_read_through_links, what_takes_the_place_of_output, what_comes_to_the_place_of_an_output, keys_of_another_home, keys_through_links,
+    group_and_list_stay, no_more_for_another_group, lists_that_cannot_be_read, what_another_user_put_there, what_is_read_through_links, links_in_a_folder_of_a_group, what_takes_the_place_of_output, what_comes_to_the_place_of_an_output, keys_of_another_home, keys_through_links,
     signals_while_it_writes, a_signal_before_the_first_step, what_happens_between, names_of_one_file, a_folder_that_is_moved,
     what_a_new_folder_has, another_folder_where_one_was_made, a_deeper_tree, many_small_files, characters_of_both_lists,
     what_another_program_hands_in, marks_that_another_would_read, json_for_a_terminal, folders_in_one_another, a_handler_that_comes_late,

@@ -4,6 +4,7 @@ import json
 import os
 import re
 import resource
+import shlex
 import shutil
 import signal
 import stat
@@ -22,6 +23,7 @@ from faults import ACCEPTS, END_AT, HERE, lock_of, points, select
 from outputs import PATCHED
 from places import Repository
 from settings import write_hook
+from typed import Typed
 
 EDITOR = "gabrosty-diff-editor"
 FAIL_AT = os.path.join(HERE, "fail-at")
@@ -625,7 +627,7 @@ def named_files_through_links(place):
     for name, owner in (("link", NOBODY), ("own", 0)):
         os.symlink(private, os.path.join(shared, name))
         os.chown(os.path.join(shared, name), owner, owner, follow_symlinks=False)
-    refused = 1, "git-select: %s/link: it is another user's, in a folder that all may write to\n" % shared
+    refused = 1, "git-select: %s/link: it is another user's, in a folder that others may write to\n" % shared
     ends = [select(repository, "--marks", shared + "/link") == refused]
     ends.append(select(repository, "--marks", shared + "/own") == (1, "git-select: %s/own has no marks that were kept\n" % shared))
     repository.git("config", "commit.template", shared + "/link")
@@ -813,9 +815,56 @@ def a_message_in_another_host(place):
     for folder, where in (("own", "/tmp"), (own, own)):
         status, said = place.type(command, ["e", "c"], VISUAL=editor, TMPDIR=folder)
         made = changed.read_file(listed).decode()
-        if (status, said.strip()) != (0, "accepted after") or os.path.dirname(made) != where or os.path.lexists(made):
+        around = os.path.dirname(made)
+        if (status, said.strip()) != (0, "accepted after") or os.path.dirname(around) != where or os.path.lexists(around):
             return False
     return os.listdir(own) == []
+
+
+# an editor: it keeps a copy of what it had beside the file, as many do, while another user who saw the file's name puts a link there
+COPIES = """import os, sys
+path, victim, status = sys.argv[3], sys.argv[1], int(sys.argv[2])
+stranger = os.fork()
+if stranger == 0:
+    os.setgid(65534), os.setuid(65534)
+    try:
+        os.symlink(victim, path + "~")
+    except OSError:
+        pass
+    os._exit(0)
+os.waitpid(stranger, 0)
+with open(path + "~", "w") as copy, open(path, "r+") as file:
+    copy.write(file.read())
+    file.write("after\\n")
+sys.exit(status)
+"""
+
+
+def what_an_editor_writes_beside_a_message(place):
+    """Where all may put files, a message is edited in a folder that is the user's alone: no link leads away what an editor writes beside it.
+    That is removed with the message, but stays if the editor fails. Skipped without the rights of two users."""
+    if os.geteuid():
+        return "that needs another user"
+    os.chmod(place.top, 0o755)
+    shared, victim = place.folder("shared"), os.path.join(place.folder("private", {"x": b"mine\n"}), "x")
+    os.chmod(shared, 0o1777)
+    script = os.path.join(place.folder("editor", {"copies": COPIES.encode()}), "copies")
+    command = [sys.executable, "-B", "-c", HOST, os.path.join(place.prefix, "lib/gabrosty")]
+    ends = []
+    for status, accepted in (0, "accepted beforeafter"), (1, "accepted before"):
+        visual = " ".join(map(shlex.quote, [sys.executable, script, victim, str(status)]))
+        typed = Typed(command, 60, 24, {**place.environment, "VISUAL": visual, "TMPDIR": shared}, place.top)
+        typed.write(b"e")
+        if status:
+            typed.wait_for(b"Press Enter")
+            typed.write(b"\n")
+        typed.wait_for_frames(2)
+        typed.press("c")
+        ends.append(typed.end() == 0 and typed.said().rstrip().endswith(accepted) and changed.read_file(victim) == b"mine\n")
+        ends.append(len(os.listdir(shared)) == status)
+    found = changed.read(shared)
+    kept = [path for path in found if path.endswith("/message~")]
+    return all(ends) and list(found.values()) == [b"before"] and kept == list(found) and os.stat(os.path.join(shared, os.listdir(shared)[0])).st_mode & 0o777 == 0o700
 
 
 def a_state_folder_of_a_clone(place):
@@ -921,7 +970,7 @@ def links_of_another_user(place):
         os.chown(os.path.join(shared, name), NOBODY, NOBODY, follow_symlinks=False)
     os.chown(shared + "/file", NOBODY, NOBODY)
     left, right = place.folder("left", {"x": b"1\n"}), place.folder("right", {"x": b"2\n"})
-    files, words = (left + "/x", right + "/x"), "%s: %s: it is another user's, in a folder that all may write to\n"
+    files, words = (left + "/x", right + "/x"), "%s: %s: it is another user's, in a folder that others may write to\n"
     ends = []
     for name in "link", "lost", "around/z", "file":
         path = os.path.join(shared, name)
@@ -953,6 +1002,37 @@ files.Files.read = read
 """
 
 
+def links_where_a_group_may_write(place):
+    """In a folder that a group may write to, without a sticky bit, a link of another user is not followed: not to OUTPUT, LEFT or RIGHT, nor to
+    the files that --marks and commit.template name. A file of theirs is replaced, and a link of the folder's owner is followed. Skipped without
+    the right to give files away."""
+    if os.geteuid():
+        return "that needs another user"
+    private, shared = place.folder("private", {"x": b"private\n"}), place.folder("shared", {"file": b"theirs\n"})
+    for name, target in (("link", private + "/x"), ("around", private)):
+        os.symlink(target, os.path.join(shared, name))
+    for name in "link", "around", "file":
+        os.chown(os.path.join(shared, name), NOBODY, NOBODY, follow_symlinks=False)
+    os.chmod(shared, 0o775)
+    left, right = place.folder("left", {"x": b"1\n"}), place.folder("right", {"x": b"2\n"})
+    files, link, around = (left + "/x", right + "/x"), shared + "/link", shared + "/around"
+    refused, ends = "%s: %s: it is another user's, in a folder that others may write to\n", []
+    for path in link, around + "/x":
+        for given in (["--output", path, *files], [files[0], path], [path, files[1]]):
+            ends.append(editor(place, *given) == (1, refused % (EDITOR, path)))
+    for given in (["--output", around, left, right], [left, around], [around, right]):
+        ends.append(editor(place, *given) == (1, refused % (EDITOR, around)))
+    repository = Repository(place, {"a": b"1\n"}, {"a": b"2\n"})
+    ends.append(select(repository, "--marks", link) == (1, refused % ("git-select", link)))
+    repository.git("config", "commit.template", link)
+    ends.append(select(repository, "--commit", GIT_EDITOR="false") == (1, refused % ("git-select", link)))
+    is_left = (changed.read(private), changed.read(right)) == ({"x": b"private\n"}, {"x": b"2\n"})
+    ends.append(editor(place, "--output", shared + "/file", *files)[0] == 0 and changed.read(shared)["file"] == b"2\n")
+    os.chown(shared, NOBODY, NOBODY)
+    ends.append(editor(place, "--output", link, *files)[0] == 0 and changed.read(private) == {"x": b"2\n"})
+    return all(ends) and is_left
+
+
 def a_file_of_another_user_in_time(place):
     """A file or a link that another user puts where OUTPUT is to be, in a folder that all may write to, is named, and stays. Skipped without
     the right to give files away."""
@@ -965,7 +1045,7 @@ def a_file_of_another_user_in_time(place):
     for name, is_kind in (("file", stat.S_ISREG), ("link", stat.S_ISLNK)):
         end = edit_patched(place, PUT_BY_ANOTHER, "--output", output, os.path.join(files, name), os.path.join(files, "new"))
         found = os.lstat(output)
-        is_named = end == (1, "%s: %s: it is another user's, in a folder that all may write to\n" % (EDITOR, output))
+        is_named = end == (1, "%s: %s: it is another user's, in a folder that others may write to\n" % (EDITOR, output))
         ends.append(is_named and is_kind(found.st_mode) and found.st_uid == NOBODY)
         os.unlink(output)
     return all(ends) and os.listdir(shared) == []
@@ -1059,8 +1139,8 @@ ALL = (
     a_race_by_another_user, names_like_ours_beside_the_index, marks_that_are_no_text, marks_in_what_is_no_file, named_files_through_links,
     paths_that_git_refuses, what_git_says_beside_its_editor, files_that_have_too_much_together, a_lock_that_was_copied,
     links_where_plans_are_kept, a_file_that_changes_unseen, no_home, folders_of_half_a_path,
-    a_message_in_another_host,
+    a_message_in_another_host, what_an_editor_writes_beside_a_message,
     a_home_of_another_user, a_plan_where_another_leads, a_state_folder_of_a_clone, a_race_for_a_new_folder,
-    links_of_another_user, a_file_of_another_user_in_time, a_spare_folder_that_others_may_read, a_lock_that_is_a_pipe,
+    links_of_another_user, links_where_a_group_may_write, a_file_of_another_user_in_time, a_spare_folder_that_others_may_read, a_lock_that_is_a_pipe,
     texts_of_many_megabytes, characters_that_disks_leave_out, a_repository_that_a_clone_tracks,
 )

@@ -3,9 +3,9 @@
 use scm_record::helpers::CrosstermInput;
 use scm_record::{Event, RecordError, RecordInput, Recorder, TerminalKind};
 use std::env;
-use std::fs::{self, OpenOptions};
-use std::io::{self, Write};
-use std::os::unix::fs::OpenOptionsExt;
+use std::fs::{self, DirBuilder};
+use std::io;
+use std::os::unix::fs::DirBuilderExt;
 use std::process::{self, Command, ExitCode};
 
 mod two_lines;
@@ -18,19 +18,15 @@ struct Editing {
 impl Editing {
     /// Returns what the editor makes of `message`.
     fn edit(&self, message: &str) -> io::Result<String> {
-        let path = env::temp_dir().join(format!("message-{}", process::id()));
-        // a file or a link that is there already is left alone
-        let mut options = OpenOptions::new();
-        let mut file = options
-            .write(true)
-            .create_new(true)
-            .mode(0o600)
-            .open(&path)?;
-        file.write_all(message.as_bytes())?;
+        // a folder for the user alone: an editor may follow links beside the file. One that is there already is left alone
+        let folder = env::temp_dir().join(format!("message-{}", process::id()));
+        DirBuilder::new().mode(0o700).create(&folder)?;
+        let path = folder.join("message");
+        fs::write(&path, message)?;
         let editor = ["-c", &self.editor, "sh"];
         let status = Command::new("sh").args(editor).arg(&path).status()?;
         let edited = fs::read_to_string(&path);
-        fs::remove_file(&path)?;
+        fs::remove_dir_all(&folder)?;
         if !status.success() {
             let error = format!("the editor failed: {status}");
             return Err(io::Error::new(io::ErrorKind::Other, error));

@@ -3,6 +3,7 @@
 #define _GNU_SOURCE
 #include "bytes.h"
 
+#include <dirent.h>
 #include <limits.h>
 #include <sched.h>
 #include <signal.h>
@@ -369,34 +370,91 @@ static const char *temporary_folder(void) {
     return folder && *folder == '/' ? folder : "/tmp";
 }
 
-/* Makes the file in which a message is edited. Returns false with errno set if that fails. */
-static bool make_message(char *path, size_t room, const text *message) {
-    if (snprintf(path, room, "%s/message-XXXXXX", temporary_folder()) >= (int)room) {
-        errno = ENAMETOOLONG;
-        return false;
+/* The file in which a message is edited, and the folder that it is in alone. An editor writes other files beside it, and may follow links
+ * there: nobody else can put one into this folder. */
+typedef struct draft {
+    char folder[PATH_MAX], path[PATH_MAX];
+    int opened; /* the folder, or -1 */
+} draft;
+
+static const char DRAFT[] = "message";
+
+/* Makes a folder of a name that nobody knows before, for its owner alone. Returns false with errno set if that fails; `folder` is empty then. */
+static bool make_folder(char *folder, size_t room) {
+    int length = snprintf(folder, room, "%s/message-XXXXXX", temporary_folder());
+    bool is_too_long = length + sizeof DRAFT >= room;
+    bool is_made = !is_too_long && mkdtemp(folder);
+    if (!is_made) {
+        folder[0] = 0;
     }
-    int file = mkostemp(path, O_CLOEXEC);
+    errno = is_too_long ? ENAMETOOLONG : errno;
+    return is_made;
+}
+
+/* Opens the folder of a draft, unless another user has put a folder of theirs in its place. Returns false with errno set if that fails. */
+static bool open_folder(draft *draft) {
+    struct stat found;
+    draft->opened = open(draft->folder, O_RDONLY | O_DIRECTORY | O_NOFOLLOW | O_CLOEXEC);
+    bool is_known = draft->opened >= 0 && fstat(draft->opened, &found) == 0;
+    bool is_own = is_known && found.st_uid == geteuid();
+    if (is_known && !is_own) {
+        close(draft->opened);
+        draft->opened = -1;
+        errno = EPERM;
+    }
+    return is_own;
+}
+
+/* Makes the file of a draft. Returns false with errno set if that fails. */
+static bool fill_draft(const draft *draft, const text *message) {
+    int file = openat(draft->opened, DRAFT, O_WRONLY | O_CREAT | O_EXCL | O_NOFOLLOW | O_CLOEXEC, 0600);
     bool is_written = file >= 0 && write_bytes(file, message->bytes, message->length);
     int error = errno;
     if (file >= 0) {
         close(file);
     }
-    if (file >= 0 && !is_written) {
-        unlink(path);
-    }
     errno = error;
     return is_written;
 }
 
+/* Removes each file in an open folder. */
+static void remove_files(int folder) {
+    int again = openat(folder, ".", O_RDONLY | O_DIRECTORY | O_CLOEXEC);
+    DIR *names = again >= 0 ? fdopendir(again) : NULL;
+    for (struct dirent *found = names ? readdir(names) : NULL; found; found = readdir(names)) {
+        if (strcmp(found->d_name, ".") != 0 && strcmp(found->d_name, "..") != 0) {
+            unlinkat(folder, found->d_name, 0);
+        }
+    }
+    if (names) {
+        closedir(names);
+    } else if (again >= 0) {
+        close(again);
+    }
+}
+
+/* Removes a draft and its folder, with what the editor left beside it if `is_edited`: else that may be what the user typed. */
+static void remove_draft(const draft *draft, bool is_edited) {
+    if (draft->opened >= 0) {
+        unlinkat(draft->opened, DRAFT, 0);
+        if (is_edited) {
+            remove_files(draft->opened);
+        }
+        close(draft->opened);
+    }
+    rmdir(draft->folder);
+}
+
 /* Has the user edit a message, and sets `edited` to the new one. Returns why that failed, or NULL. */
 static const char *edit_text(const run *run, const text *message, text *edited) {
-    char path[PATH_MAX];
-    if (!make_message(path, sizeof path, message)) {
-        return strerror(errno);
-    }
-    bool is_edited = run_editor(run, path) && read_file(path, edited);
-    unlink(path);
-    return is_edited ? NULL : "the editor failed";
+    draft draft = {.opened = -1};
+    bool is_filled = make_folder(draft.folder, sizeof draft.folder) && open_folder(&draft) && fill_draft(&draft, message);
+    int error = errno;
+    snprintf(draft.path, sizeof draft.path, "%s/%s", draft.folder, DRAFT);
+    bool is_edited = is_filled && run_editor(run, draft.path)
+                     && read_and_close(openat(draft.opened, DRAFT, O_RDONLY | O_NOCTTY | O_CLOEXEC), edited);
+    remove_draft(&draft, is_edited);
+    return is_edited ? NULL : is_filled ? "the editor failed" : strerror(error);
 }
 
 /* Says on the main screen that the message stays, and waits for Enter. */
