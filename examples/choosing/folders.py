@@ -141,8 +141,10 @@ def remove_below(top):
         walk.through(enter, lambda name: os.rmdir(name, dir_fd=walk.at))
 
 
-def remove_folder(path):
-    """Removes a folder with all below it, however deep that is."""
-    with closing(os.open(path, IS_FOLDER)) as folder:
-        remove_below(folder)
+def remove_opened(path, opened):
+    """Removes the folder at `path`, which is open, with all below it, however deep that is. If another folder has its path by now, that stays."""
+    remove_below(opened)
+    found = os.stat(path, follow_symlinks=False)
+    if (found.st_dev, found.st_ino) != identity_of(opened):
+        raise OSError(errno.EBUSY, "another folder is in its place", path)
     os.rmdir(path)

@@ -1,11 +1,12 @@
 """How a program begins and ends: its folder for temporary files, signals, and what is said where it fails."""
 import contextlib
+import errno
 import os
 import signal
 import sys
 
 from .faults import reason_of
-from .folders import remove_folder
+from .folders import IS_FOLDER, closing, remove_opened
 from .said import program, say, take_standard_files
 from .signals import SIGNALS, Stopped, ignore, stop_on_signals
 from .temporary import new_folder
@@ -14,17 +15,26 @@ from .words import shown
 
 @contextlib.contextmanager
 def temporary_folder():
-    """Gives a folder for temporary files, which is removed in the end. If that fails, it is said, and undoes nothing."""
+    """Gives a folder for temporary files, which is removed in the end. If that fails, it is said, and undoes nothing. Another folder that has
+    its name by then stays."""
     folder = new_folder(program() + "-")
-    try:
-        yield folder
-    finally:
-        # what removes the folder is not cut off
-        ignore(SIGNALS)
+    with closing(os.open(folder, IS_FOLDER)) as opened:
+        check_new(opened)
         try:
-            remove_folder(folder)
-        except OSError as error:
-            say("%s stays: %s" % (shown(folder), error.strerror))
+            yield folder
+        finally:
+            # what removes the folder is not cut off
+            ignore(SIGNALS)
+            try:
+                remove_opened(folder, opened)
+            except OSError as error:
+                say("%s stays: %s" % (shown(folder), error.strerror))
+
+
+def check_new(opened):
+    """Raises OSError if an open folder is another one than this user has just made."""
+    if os.fstat(opened).st_uid != os.geteuid() or os.listdir(opened):
+        raise PermissionError(errno.EPERM, "another folder is in the place of the one for temporary files")
 
 
 def run(work):

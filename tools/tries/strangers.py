@@ -14,7 +14,7 @@ import time
 
 import changed
 from choosing.change import digest_of
-from choosing.folders import remove_folder
+from choosing.folders import IS_FOLDER, closing, remove_opened
 from choosing.paths import IGNORABLE, is_own
 from choosing.plans import key_of
 from choosing.words import shown
@@ -96,6 +96,12 @@ def cut_off(repository, words=("--restore",), wanted="with 1 of "):
     at = os.path.join(repository.folder, ".git", "gabrosty")
     names = sorted(os.listdir(at), key=lambda name: name.startswith("."))
     return [os.path.join(at, name) for name in names]
+
+
+def remove_folder(path):
+    """Removes a folder with all below it, however deep that is."""
+    with closing(os.open(path, IS_FOLDER)) as opened:
+        remove_opened(path, opened)
 
 
 def clear(place):
@@ -867,6 +873,23 @@ def what_an_editor_writes_beside_a_message(place):
     return all(ends) and list(found.values()) == [b"before"] and kept == list(found) and os.stat(os.path.join(shared, os.listdir(shared)[0])).st_mode & 0o777 == 0o700
 
 
+def another_folder_for_temporary_files(place):
+    """Another folder of the user's, which someone put in the place of the program's own for temporary files while the user chooses, stays with
+    all that is in it, and is named."""
+    repository, ends = Repository(place, {"a": b"1\n"}, {"a": b"2\n"}), []
+    left, right, shared = place.folder("left", {"a": b"1\n"}), place.folder("right", {"a": b"2\n"}), place.folder("shared")
+    for call in (lambda **more: editor(place, "--output", right, right, left, **more)), (lambda **more: select(repository, **more)):
+        mine = place.folder("shared/mine", {"b/c": b"mine\n"})
+        exchange = 'cd "%s" && for made in *-select-* *-editor-*; do if [ -d "$made" ]; then mv "$made" moved && mv mine "$made" && break; fi; done' % shared
+        said = call(TMPDIR=shared, MEANWHILE=exchange)[1]
+        names = [name for name in os.listdir(shared) if name not in ("moved", "mine")]
+        kept = [name for name in names if changed.read(os.path.join(shared, name)).get("b/c") == b"mine\n"]
+        ends.append(not os.path.exists(mine) and len(kept) == 1 and "%s/%s stays: another folder is in its place\n" % (shared, kept[0]) in said)
+        shutil.rmtree(shared)
+        os.mkdir(shared)
+    return all(ends)
+
+
 def a_state_folder_of_a_clone(place):
     """Where XDG_STATE_HOME is a folder that a repository tracks, no plan in it is followed, though it fits in each part."""
     left, right = place.folder("left", {"a": b"1\n"}), place.folder("right", {"a": b"2\n"})
@@ -1140,7 +1163,7 @@ ALL = (
     paths_that_git_refuses, what_git_says_beside_its_editor, files_that_have_too_much_together, a_lock_that_was_copied,
     links_where_plans_are_kept, a_file_that_changes_unseen, no_home, folders_of_half_a_path,
     a_message_in_another_host, what_an_editor_writes_beside_a_message,
-    a_home_of_another_user, a_plan_where_another_leads, a_state_folder_of_a_clone, a_race_for_a_new_folder,
+    another_folder_for_temporary_files, a_home_of_another_user, a_plan_where_another_leads, a_state_folder_of_a_clone, a_race_for_a_new_folder,
     links_of_another_user, links_where_a_group_may_write, a_file_of_another_user_in_time, a_spare_folder_that_others_may_read, a_lock_that_is_a_pipe,
     texts_of_many_megabytes, characters_that_disks_leave_out, a_repository_that_a_clone_tracks,
 )
