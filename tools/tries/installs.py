@@ -151,6 +151,22 @@ def a_prefix_of_another_user(place):
     return is_refused and is_followed and call(UNINSTALL, top)[0] == 0 and changed.read(outside) == before
 
 
+def what_lies_above_a_prefix(place):
+    """Where another folder comes to the place of one above PREFIX while it is removed, nothing is removed there."""
+    if not shutil.which("strace"):
+        return "there is no strace"
+    source, victim = place.folder("source", {"bin/new": b"1\n"}), place.folder("victim/prefix")
+    around, moved = os.path.join(place.top, "around"), os.path.join(place.top, "moved")
+    is_installed = call(PLACE, "--from", source, around + "/prefix")[0] == 0
+    slow = ["strace", "-f", "-o", os.devnull, "-e", "trace=unlinkat", "-e", "inject=unlinkat:delay_enter=5000000:when=1"]
+    removing = subprocess.Popen([*slow, UNINSTALL, around + "/prefix"], stdout=subprocess.DEVNULL)
+    time.sleep(3)
+    os.rename(around, moved)
+    os.symlink(os.path.dirname(victim), around)
+    is_removed = removing.wait() == 0 and os.listdir(moved) == []
+    return is_installed and is_removed and os.path.isdir(victim)
+
+
 def a_prefix_behind_a_link(place):
     """Where others may put links, with a sticky bit or without one, one of another user leads to no PREFIX: neither the last part of its
     path, nor one before it. A link of the user's own does. Skipped without the rights of two users."""
@@ -287,6 +303,6 @@ def a_module_of_another(place):
 
 ALL = (
     a_reinstall_on_a_full_disk, with_a_mask_of_the_user, files_of_others, what_is_in_the_way, where_nothing_can_be_written,
-    an_install_that_is_stopped, a_prefix_of_another_user, a_prefix_behind_a_link, a_list_that_is_a_pipe, an_image_elsewhere,
+    an_install_that_is_stopped, a_prefix_of_another_user, what_lies_above_a_prefix, a_prefix_behind_a_link, a_list_that_is_a_pipe, an_image_elsewhere,
     what_lies_above, a_module_of_another,
 )
