@@ -4,6 +4,7 @@ import os
 
 from choosing.change import ABSENT, LINK
 from choosing.files import Files
+from choosing.folders import IS_FOLDER, closing, folder_of
 from choosing.front_end import choices_in
 from choosing.git import Git
 from choosing.waiting import waits
@@ -14,16 +15,32 @@ from ways import USES, Stage
 
 
 def write_out(top, entries):
-    """Writes paths with their modes and bytes into the new folder `top`. Links come last, so no path leads through one."""
+    """Writes paths with their modes and bytes into the new folder `top`. Raises OSError if a path leads through a link, as one of these may
+    where a disk folds names."""
     os.makedirs(top)
-    for path, (mode, data) in sorted(entries, key=lambda entry: entry[1][0] == LINK):
-        place = os.path.join(top, path)
-        os.makedirs(os.path.dirname(place), exist_ok=True)
-        if mode == LINK:
-            os.symlink(data, os.fsencode(place))
-        elif mode != ABSENT:
-            with open(os.open(place, os.O_WRONLY | os.O_CREAT | os.O_EXCL, 0o777 if mode == "100755" else 0o666), "wb") as file:
-                file.write(data)
+    with closing(os.open(top, IS_FOLDER)) as opened:
+        for path, side in entries:
+            make_folders(path, opened)
+            with folder_of(path, opened) as (folder, name):
+                write_in(folder, name, *side)
+
+
+def make_folders(path, top):
+    """Makes the folders that `path` lies in below the open folder `top`, where they are missing."""
+    for at, sign in enumerate(path):
+        if sign == "/":
+            with folder_of(path[:at], top) as (folder, name), contextlib.suppress(FileExistsError):
+                os.mkdir(name, dir_fd=folder)
+
+
+def write_in(folder, name, mode, data):
+    """Writes a new file or link in an open folder, or nothing if `mode` is that of no file."""
+    if mode == LINK:
+        os.symlink(data, os.fsencode(name), dir_fd=folder)
+    elif mode != ABSENT:
+        made = os.open(name, os.O_WRONLY | os.O_CREAT | os.O_EXCL | os.O_NOFOLLOW, 0o777 if mode == "100755" else 0o666, dir_fd=folder)
+        with open(made, "wb") as file:
+            file.write(data)
 
 
 class Trial(Git):

@@ -46,6 +46,25 @@ def changed_by(words, place, swap, ran):
     return is_stopped and is_free and before == after and not os.path.exists(ran) and repository.is_sound()
 
 
+# writes a link, and another one in a folder of that name, as they come where a disk folds names: A and a/b
+FOLDED = """import os, sys
+sys.path[:0] = [os.path.join(sys.argv[1], "lib/gabrosty", name) for name in ("git-select", "")]
+from stash import write_out
+entries = [("a/x", ("100644", b"1")), ("link", ("120000", os.fsencode(sys.argv[3]))), ("link/made", ("120000", b"x"))]
+try:
+    write_out(sys.argv[2], entries)
+except OSError as error:
+    print(error.strerror)
+"""
+
+
+def links_where_a_disk_folds_names(place):
+    """Where the folder for temporary files folds names, nothing is written through a link of a stash while that is tried on a copy."""
+    outside, top = place.folder("outside"), os.path.join(place.top, "top")
+    end = place.call("python3", "-B", "-c", FOLDED, place.prefix, top, outside)
+    return end == (0, "Not a directory\n") and os.listdir(outside) == [] and sorted(os.listdir(top)) == ["a", "link"]
+
+
 def swap_all(folder, other, moved):
     os.rename(folder, moved)
     os.rename(other, folder)
@@ -290,5 +309,5 @@ def a_link_in_the_working_tree(place):
 ALL = (
     another_repository_meanwhile, another_repository_at_the_start, a_folder_behind_the_last_look, a_folder_that_becomes_a_link,
     a_repository_of_another_user, a_link_that_leads_elsewhere, a_named_folder_that_becomes_a_link, a_link_in_the_working_tree,
-    a_file_that_becomes_large,
+    a_file_that_becomes_large, links_where_a_disk_folds_names,
 )
