@@ -6,7 +6,7 @@ import os
 import stat
 
 from .change import ABSENT, LINK, digest_of
-from .folders import AT_ONCE, IS_FOLDER, IS_PLAIN, closing, read_whole
+from .folders import IS_FOLDER, IS_PLAIN, closing, read_whole
 from .named import IS_OF_ANOTHER, is_trusted
 from .paths import check_path
 from .permissions import OF_ANY_FILE, give, permissions_of_file, permissions_of_folder, permissions_of_new
@@ -76,13 +76,13 @@ def give_to_new_folder(at, name, permissions):
 
 
 class Files:
-    """The files below the folder `top`. With `follows`, a link to a file counts as that file. `room` is where the plan of a change
+    """The files below the folder `top`. With `follow`, which opens what a link in an open folder leads to, such a link counts as that file. `room` is where the plan of a change
     is kept, if they are changed (see rooms.py). `at` is that folder, if it is open already. `name` is the file in it that the user
     names, if that is all: it is refused if it is another user's, and all may put theirs there. `folders` has by path the permissions of
     folders that are made."""
 
-    def __init__(self, top, follows=False, room=None, at=None, name=None):
-        self.top, self.follows, self.room, self.name, self.folders = top, follows, room, name, {}
+    def __init__(self, top, follow=None, room=None, at=None, name=None):
+        self.top, self.follow, self.room, self.name, self.folders = top, follow, room, name, {}
         if at is not None:
             self.at = at
 
@@ -137,15 +137,15 @@ class Files:
         except FileNotFoundError:
             return ABSENT_SIDE, None
         self.check(folder, name, found)
-        flags = IS_PLAIN
-        if stat.S_ISLNK(found.st_mode):
-            found = self.target(folder, name)
-            if not found:
-                return (LINK, os.fsencode(os.readlink(name, dir_fd=folder))), None
-            flags = AT_ONCE
-        if not stat.S_ISREG(found.st_mode):
+        if stat.S_ISREG(found.st_mode):
+            opened = os.open(name, os.O_RDONLY | IS_PLAIN, dir_fd=folder)
+        elif not stat.S_ISLNK(found.st_mode):
             return ABSENT_SIDE, None
-        with closing(os.open(name, os.O_RDONLY | flags, dir_fd=folder)) as file:
+        else:
+            opened = self.target(folder, name)
+            if opened is None:
+                return (LINK, os.fsencode(os.readlink(name, dir_fd=folder))), None
+        with closing(opened) as file:
             self.check(folder, name, os.fstat(file))
             return read_open(file)
 
@@ -155,9 +155,9 @@ class Files:
             raise Stop(IS_OF_ANOTHER % shown(os.path.join(self.top, name)))
 
     def target(self, folder, name):
-        """Returns what a link leads to, or None if it counts as a link."""
+        """Opens what a link leads to. Returns None if it counts as a link."""
         try:
-            return os.stat(name, dir_fd=folder) if self.follows else None
+            return self.follow(name, folder) if self.follow else None
         except FileNotFoundError:
             return None
 

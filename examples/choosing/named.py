@@ -117,6 +117,24 @@ class Named:
             self.begin()
 
 
+def open_of_process(name, folder):
+    """Opens what a link of /proc in an open folder leads to: a file that is open already."""
+    return os.open(name, os.O_RDONLY | AT_ONCE, dir_fd=folder)
+
+
+def open_of_tree(name, folder):
+    """Opens the file of a working tree to which git has made the link `name` in an open folder: by a whole path, on which no link lies. Stops if
+    one is there by now. Raises FileNotFoundError if no such path is there."""
+    path = os.readlink(name, dir_fd=folder)
+    if not os.path.isabs(path):
+        raise FileNotFoundError(errno.ENOENT, os.strerror(errno.ENOENT), path)
+    found = Named(path, is_to_be_read=True)
+    with closing(found.at) as at:
+        if found.path != path or found.name is None:
+            raise Stop("%s changed meanwhile" % shown(path))
+        return os.open(found.name, os.O_RDONLY | IS_PLAIN, dir_fd=at)
+
+
 def read_named(path):
     """Returns the bytes of the file that the user names by `path`, as Named finds it. Raises OSError if it is no file, or too large."""
     found = Named(path, is_to_be_read=True)

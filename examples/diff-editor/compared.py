@@ -10,7 +10,7 @@ from choosing.decided import GOAL, KEPT, Row, decide, row_of, row_that_goes, ver
 from choosing.files import ABSENT_SIDE, Files
 from choosing.folders import MOST_BYTES, TOO_LARGE, below
 from choosing.git import Git
-from choosing.named import Named, is_of_processes
+from choosing.named import Named, is_of_processes, open_of_process, open_of_tree
 from choosing.paths import is_own
 from choosing.permissions import permissions_of_both
 from choosing.rooms import BESIDE, WITHIN, UserRoom
@@ -26,6 +26,7 @@ OWN = ".git", ".jj"
 INSTRUCTIONS, MOST_INSTRUCTIONS = "JJ-INSTRUCTIONS", 10_000  # bytes
 # git difftool --dir-diff sets it. Its folder RIGHT has links to the files of the working tree.
 IS_DIFFTOOL = os.environ.get("GIT_DIFFTOOL_DIRDIFF") == "true"
+OF_RIGHT = open_of_tree if IS_DIFFTOOL else None
 # hg sets it for the programs that it calls. It hands in files of a repository, in which a link is not the file or folder that it leads to.
 IS_HG = "HG" in os.environ
 # git sets it for what shows a single file. A file of the working tree has a relative path then, and a temporary one an absolute path.
@@ -95,16 +96,16 @@ def folder_at(path):
     return found
 
 
-def files_in(folder, room, follows=False, name=None):
+def files_in(folder, room, follow=None, name=None):
     """Returns the files of a folder that was found."""
-    return Files(folder.folder, follows, room, folder.open_folder(), name)
+    return Files(folder.folder, follow, room, folder.open_folder(), name)
 
 
 def target_of(options):
     """Returns the files that are changed: those of the folder RIGHT or OUTPUT, or of the folder that such a file lies in, with its `name`."""
     path = options.output or options.right
     if is_folder(options):
-        return files_in(folder_at(path), UserRoom(BESIDE), IS_DIFFTOOL and not options.output)
+        return files_in(folder_at(path), UserRoom(BESIDE), None if options.output else OF_RIGHT)
     folder, name = place_of(path)
     return files_in(folder, UserRoom(WITHIN), name=name)
 
@@ -130,7 +131,7 @@ class Folders:
 
     def __init__(self, options, target):
         self.left, self.target = files_in(folder_at(options.left), target.room), target
-        self.right = files_in(folder_at(options.right), target.room, IS_DIFFTOOL) if options.output else target
+        self.right = files_in(folder_at(options.right), target.room, OF_RIGHT) if options.output else target
         self.pairs = {}  # the two sides of each file that differs, by path
         self.total, self.sizes = 0, []  # how many bytes they have, and each by a number below 0, with its path: a heap
         self.sources = {}  # the permissions that a new file may have, by path
@@ -251,7 +252,7 @@ def file_at(path):
     """Returns the mode and the bytes of a file, and its permissions. What is no file has to be the device for none."""
     if os.path.isfile(path) or is_link(path):
         folder, name = place_of(path, is_to_be_read=True)
-        return files_in(folder, None, follows=is_of_processes(folder.at)).read(name)
+        return files_in(folder, None, open_of_process if is_of_processes(folder.at) else None).read(name)
     if os.path.exists(path) and os.path.samefile(path, os.devnull):
         return ABSENT_SIDE, None
     raise Stop("%s is no file" % shown(path))

@@ -46,6 +46,37 @@ def changed_by(words, place, swap, ran):
     return is_stopped and is_free and before == after and not os.path.exists(ran) and repository.is_sound()
 
 
+def a_link_in_the_tree_of_a_folder(place):
+    """git difftool hands in a folder with links to files of the working tree. A folder or a file of that which is a link by then, or becomes one
+    while the user chooses, is named: what it leads to is not read, and git keeps nothing of it."""
+    private, ends = b"private\n", []
+    repository = Repository(place, {"d/x": b"1\n"}, {"d/x": b"2\n"})
+    outside, left = place.folder("outside", {"x": private}), place.folder("left", {"d/x": b"1\n"})
+    swaps = "mv d moved && ln -s '%s' d" % outside, "rm d/x && ln -s '%s/x' d/x" % outside
+    back = "rm -rf d && mv moved d", "rm d/x && printf '2\\n' > d/x"
+    for swap, undo in zip(swaps, back):
+        for is_begun in False, True:
+            right = place.folder("right/d")
+            os.symlink(repository.folder + "/d/x", right + "/x")
+            if not is_begun:
+                place.call("sh", "-c", swap, folder=repository.folder)
+            meanwhile = "cd '%s' && %s" % (repository.folder, swap if is_begun else "true")
+            words = {"GIT_DIFFTOOL_DIRDIFF": "true", "GIT_DIR": repository.folder + "/.git", "MEANWHILE": meanwhile, "ADDS": "added\n"}
+            status, said = editor(place, left, place.top + "/right", **words)
+            ends.append(status == 1 and "changed meanwhile" in said and os.readlink(right + "/x") == repository.folder + "/d/x")
+            ends.append(not has_object(repository, private) and changed.read(outside) == {"x": private})
+            place.call("sh", "-c", undo, folder=repository.folder)
+            shutil.rmtree(place.top + "/right")
+            place.forget_marks()
+    return all(ends) and repository.files() == {"d/x": b"2\n"}
+
+
+def has_object(repository, data):
+    """Whether git keeps these bytes."""
+    name = repository.git("hash-object", "--stdin", given=data).strip()
+    return bool(repository.git("cat-file", "-t", name, check=False))
+
+
 # writes a link, and another one in a folder of that name, as they come where a disk folds names: A and a/b
 FOLDED = """import os, sys
 sys.path[:0] = [os.path.join(sys.argv[1], "lib/gabrosty", name) for name in ("git-select", "")]
@@ -309,5 +340,5 @@ def a_link_in_the_working_tree(place):
 ALL = (
     another_repository_meanwhile, another_repository_at_the_start, a_folder_behind_the_last_look, a_folder_that_becomes_a_link,
     a_repository_of_another_user, a_link_that_leads_elsewhere, a_named_folder_that_becomes_a_link, a_link_in_the_working_tree,
-    a_file_that_becomes_large, links_where_a_disk_folds_names,
+    a_file_that_becomes_large, a_link_in_the_tree_of_a_folder, links_where_a_disk_folds_names,
 )
