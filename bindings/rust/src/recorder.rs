@@ -104,7 +104,7 @@ pub(crate) fn failure(error: Error) -> RecordError {
 }
 
 /// Writes `state` to a file, if the variable of the environment asks for it. A link of that name in the current folder, which may be a
-/// stranger's, is replaced.
+/// stranger's, is replaced. The file is for its owner alone: it has the texts of the changed files.
 #[cfg(feature = "debug")]
 fn write_state_if_asked(state: &RecordState<'_>) -> Result<(), RecordError> {
     use crate::consts::{DUMP_UI_STATE_FILENAME, ENV_VAR_DUMP_UI_STATE};
@@ -120,10 +120,12 @@ fn write_state_if_asked(state: &RecordState<'_>) -> Result<(), RecordError> {
 #[cfg(feature = "debug")]
 fn replace_file(path: &str, text: &str) -> std::io::Result<()> {
     use std::io::Write as _;
+    use std::os::unix::fs::OpenOptionsExt as _;
     let beside = format!("{path}.{}", std::process::id());
     let mut file = std::fs::OpenOptions::new()
         .write(true)
         .create_new(true)
+        .mode(0o600)
         .open(&beside)?;
     let written = file
         .write_all(text.as_bytes())
