@@ -877,7 +877,7 @@ uint32_t gabro_version(void);
 /* Shows a session that has begun on the terminal `terminal`, an open file, and hands in what the user types, until the session
  * waits no more: `gabro_end` returns how it ended. Sets raw mode, takes the second screen, the mouse and marks around pasted text,
  * follows new sizes, and stops at ctrl-z. Tab presses the word "view", and ctrl-l draws every row. A message is edited by the
- * program VISUAL, EDITOR or vi, in a file of the folder TMPDIR, or of /tmp if that names no folder by its whole path; if that fails, the
+ * program VISUAL, EDITOR or vi, in a folder of its own in TMPDIR, or in /tmp if that names no folder by its whole path; if that fails, the
  * user hears why, and the message stays.
  * The window's title is `title`, in ASCII without controls, or another one if it is NULL. A terminal of more than GABRO_MAX_COLUMNS
  * or GABRO_MAX_ROWS shows the screen at its top left.
