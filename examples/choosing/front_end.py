@@ -58,10 +58,20 @@ SELECT names another front end: a command that takes --changes, a file of change
 man page of scm-select has their form, and says how to choose colours (SELECT_THEME, NO_COLOR) and keys (~/.config/gabrosty/keys)."""
 
 
+def is_own(path):
+    """Whether a program, and the folder that it lies in, belong to this user, to root, or to the owner of this module: others may put theirs
+    into a folder above."""
+    owners = 0, os.geteuid(), os.stat(__file__).st_uid
+    return all(os.lstat(at).st_uid in owners for at in (path, os.path.dirname(path)))
+
+
 def own_front_end():
-    """Returns the command of scm-select as the tree of this program builds it, else as it is installed with it: beside a tree others may
-    have put a program."""
-    return [BUILDS if os.path.exists(BUILDS) else INSTALLED]
+    """Returns the command of scm-select as the tree of this program builds it, else as it is installed with it. Stops if another user has put
+    that there."""
+    path = BUILDS if os.path.exists(BUILDS) and is_own(BUILDS) else INSTALLED
+    if os.path.exists(path) and not is_own(path):
+        raise Stop("%s is another user's, and is not run" % shown(os.path.realpath(path)))
+    return [path]
 
 
 def front_end():

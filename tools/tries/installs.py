@@ -237,17 +237,22 @@ def what_lies_above(place):
         return "that needs another user"
     ran, planted = os.path.join(place.top, "ran"), {"bin/scm-select": ("run", b"#!/bin/sh\ntouch \"$RAN\"\n")}
     own = {"clone/tools/select": ("run", b"#!/bin/sh\nexit 1\n"), "libscm_c.a": b"", "liblibc_c.a": b"", "crate/x": b"x\n"}
-    shared = place.folder("shared", {**planted, **own})
+    shared = place.folder("shared", {**planted, **own, "tools/select": planted["bin/scm-select"]})
     for name in "choosing", "git-select":
-        shutil.copytree(os.path.join(trying.EXAMPLES, name), os.path.join(shared, "clone/examples", name))
+        for copy in "clone/examples", "examples", "host/gabrosty":
+            shutil.copytree(os.path.join(trying.EXAMPLES, name), os.path.join(shared, copy, name))
     shutil.copytree(os.path.join(place.prefix, "lib/gabrosty/scm"), os.path.join(shared, "host/scm"))
     shutil.copy(os.path.join(place.prefix, "lib/libgabrosty.so.1"), shared)
-    for name in "bin", "bin/scm-select", "libscm_c.a", "libgabrosty.so.1":
+    for name in "bin", "bin/scm-select", "tools", "tools/select", "libscm_c.a", "libgabrosty.so.1":
         os.chown(os.path.join(shared, name), NOBODY, NOBODY)
     os.chmod(shared, 0o1777)
     repository = Repository(place, {"a": b"1\n"}, {"a": b"2\n"})
     end = place.call("env", "RAN=" + ran, os.path.join(shared, "clone/examples/git-select/git-select"), folder=repository.folder)
     is_run = end == (1, "git-select: nothing changed\n") and not os.path.exists(ran)
+    for copy in "examples", "host/gabrosty":
+        end = place.call("env", "RAN=" + ran, os.path.join(shared, copy, "git-select/git-select"), folder=repository.folder)
+        is_run = is_run and end[0] == 1 and not os.path.exists(ran)
+    is_run = is_run and end == (1, "git-select: %s/bin/scm-select is another user's, and is not run\n" % shared)
     python = "env", "PYTHONPATH=%s/host" % shared, sys.executable, "-B", "-c", LOADED
     is_loaded = place.call(*python)[1] == shared + "/libgabrosty.so.1\n"
     os.chown(shared + "/host/scm/_library.py", NOBODY, NOBODY)
