@@ -235,21 +235,22 @@ def what_lies_above(place):
     user's own is. Skipped without the rights of two users."""
     if os.geteuid():
         return "that needs another user"
-    ran, planted = os.path.join(place.top, "ran"), {"bin/scm-select": ("run", b"#!/bin/sh\ntouch \"$RAN\"\n")}
+    ran, module = os.path.join(place.top, "ran"), b"import os\nopen(os.environ['RAN'], 'w')\n"
+    planted = {"bin/scm-select": ("run", b"#!/bin/sh\ntouch \"$RAN\"\n"), "contextlib.py": module, "subprocess.py": module}
     own = {"clone/tools/select": ("run", b"#!/bin/sh\nexit 1\n"), "libscm_c.a": b"", "liblibc_c.a": b"", "crate/x": b"x\n"}
     shared = place.folder("shared", {**planted, **own, "tools/select": planted["bin/scm-select"]})
     for name in "choosing", "git-select":
-        for copy in "clone/examples", "examples", "host/gabrosty":
+        for copy in "clone/examples", "examples", "host/gabrosty", "":
             shutil.copytree(os.path.join(trying.EXAMPLES, name), os.path.join(shared, copy, name))
     shutil.copytree(os.path.join(place.prefix, "lib/gabrosty/scm"), os.path.join(shared, "host/scm"))
     shutil.copy(os.path.join(place.prefix, "lib/libgabrosty.so.1"), shared)
-    for name in "bin", "bin/scm-select", "tools", "tools/select", "libscm_c.a", "libgabrosty.so.1":
+    for name in "bin", "bin/scm-select", "tools", "tools/select", "contextlib.py", "subprocess.py", "libscm_c.a", "libgabrosty.so.1":
         os.chown(os.path.join(shared, name), NOBODY, NOBODY)
     os.chmod(shared, 0o1777)
     repository = Repository(place, {"a": b"1\n"}, {"a": b"2\n"})
     end = place.call("env", "RAN=" + ran, os.path.join(shared, "clone/examples/git-select/git-select"), folder=repository.folder)
     is_run = end == (1, "git-select: nothing changed\n") and not os.path.exists(ran)
-    for copy in "examples", "host/gabrosty":
+    for copy in "", "examples", "host/gabrosty":
         end = place.call("env", "RAN=" + ran, os.path.join(shared, copy, "git-select/git-select"), folder=repository.folder)
         is_run = is_run and end[0] == 1 and not os.path.exists(ran)
     is_run = is_run and end == (1, "git-select: %s/bin/scm-select is another user's, and is not run\n" % shared)
