@@ -10,7 +10,7 @@ from .records import record
 from .said import program, say, tell
 from .temporary import new_file
 from .terminal import Kept
-from .words import Stop, shown, words_of
+from .words import Stop, is_own, shown, words_of
 
 HERE = os.path.dirname(os.path.realpath(__file__))
 # where it lies beside an installed program, and what builds it in a tree
@@ -56,13 +56,6 @@ KEYS = """Keys:
 EPILOGUE = KEYS + """
 SELECT names another front end: a command that takes --changes, a file of changes, and a file to write to what was accepted. The
 man page of scm-select has their form, and says how to choose colours (SELECT_THEME, NO_COLOR) and keys (~/.config/gabrosty/keys)."""
-
-
-def is_own(path):
-    """Whether a program, and the folder that it lies in, belong to this user, to root, or to the owner of this module: others may put theirs
-    into a folder above."""
-    owners = 0, os.geteuid(), os.stat(__file__).st_uid
-    return all(os.lstat(at).st_uid in owners for at in (path, os.path.dirname(path)))
 
 
 def own_front_end():

@@ -7,11 +7,19 @@ VERSION = "1.1.0"
 BUILD = os.path.join(os.path.dirname(os.path.realpath(__file__)), "../unproved")
 
 
+def is_own(path):
+    """Whether a file, and the folder that it lies in, belong to this user, to root, or to the owner of this module: others may put theirs into
+    a folder above."""
+    owners = 0, os.geteuid(), os.stat(__file__).st_uid
+    return all(os.lstat(at).st_uid in owners for at in (path, os.path.dirname(path)))
+
+
 def version_of(name):
     """Returns what the program `name` says of its version, and in a second line that nothing was proved for its build, if so."""
     lines = ["%s %s" % (name, VERSION)]
-    with contextlib.suppress(FileNotFoundError), open(BUILD, encoding="utf-8") as file:
-        lines.append(file.read().rstrip("\n"))
+    if os.path.exists(BUILD) and is_own(BUILD):
+        with contextlib.suppress(FileNotFoundError), open(BUILD, encoding="utf-8") as file:
+            lines.append(file.read().rstrip("\n"))
     return "\n".join(lines)
 
 

@@ -236,7 +236,7 @@ def what_lies_above(place):
     if os.geteuid():
         return "that needs another user"
     ran, module = os.path.join(place.top, "ran"), b"import os\nopen(os.environ['RAN'], 'w')\n"
-    planted = {"bin/scm-select": ("run", b"#!/bin/sh\ntouch \"$RAN\"\n"), "contextlib.py": module, "subprocess.py": module}
+    planted = {"bin/scm-select": ("run", b"#!/bin/sh\ntouch \"$RAN\"\n"), "contextlib.py": module, "subprocess.py": module, "unproved": b"theirs\n"}
     own = {"clone/tools/select": ("run", b"#!/bin/sh\nexit 1\n"), "libscm_c.a": b"", "liblibc_c.a": b"", "crate/x": b"x\n"}
     shared = place.folder("shared", {**planted, **own, "tools/select": planted["bin/scm-select"]})
     for name in "choosing", "git-select":
@@ -244,12 +244,13 @@ def what_lies_above(place):
             shutil.copytree(os.path.join(trying.EXAMPLES, name), os.path.join(shared, copy, name))
     shutil.copytree(os.path.join(place.prefix, "lib/gabrosty/scm"), os.path.join(shared, "host/scm"))
     shutil.copy(os.path.join(place.prefix, "lib/libgabrosty.so.1"), shared)
-    for name in "bin", "bin/scm-select", "tools", "tools/select", "contextlib.py", "subprocess.py", "libscm_c.a", "libgabrosty.so.1":
+    for name in "bin", "bin/scm-select", "tools", "tools/select", "contextlib.py", "subprocess.py", "unproved", "libscm_c.a", "libgabrosty.so.1":
         os.chown(os.path.join(shared, name), NOBODY, NOBODY)
     os.chmod(shared, 0o1777)
     repository = Repository(place, {"a": b"1\n"}, {"a": b"2\n"})
     end = place.call("env", "RAN=" + ran, os.path.join(shared, "clone/examples/git-select/git-select"), folder=repository.folder)
     is_run = end == (1, "git-select: nothing changed\n") and not os.path.exists(ran)
+    is_run = is_run and "theirs" not in place.call(os.path.join(shared, "git-select/git-select"), "--version")[1]
     for copy in "", "examples", "host/gabrosty":
         end = place.call("env", "RAN=" + ran, os.path.join(shared, copy, "git-select/git-select"), folder=repository.folder)
         is_run = is_run and end[0] == 1 and not os.path.exists(ran)
