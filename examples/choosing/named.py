@@ -106,12 +106,20 @@ class Named:
         if not is_trusted(self.at, found):
             raise Stop(IS_OF_ANOTHER % shown(self.asked))
 
+    def read_link(self, name):
+        """Returns where a link leads to. Another one may have come there since it was looked at: what is read is looked at too."""
+        if not hasattr(os, "O_PATH"):
+            return os.readlink(name, dir_fd=self.at)
+        with closing(os.open(name, os.O_PATH | os.O_NOFOLLOW | os.O_CLOEXEC, dir_fd=self.at)) as link:
+            self.check(os.fstat(link))
+            return os.readlink("", dir_fd=link)
+
     def follow(self, name):
         """Goes on along a link."""
         self.links += 1
         if self.links > MOST_LINKS:
             raise OSError(errno.ELOOP, os.strerror(errno.ELOOP), self.asked)
-        target = os.readlink(name, dir_fd=self.at)
+        target = self.read_link(name)
         self.left += target.split("/")[::-1]
         if os.path.isabs(target):
             self.begin()

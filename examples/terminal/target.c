@@ -64,10 +64,10 @@ static bool begin(walk *walk) {
     return (walk->folder >= 0 && !is_absolute) || enter(walk, open(is_absolute ? "/" : ".", O_PATH | O_DIRECTORY | O_CLOEXEC));
 }
 
-/* Puts the target of a link before the rest of the path. */
-static bool follow_link(walk *walk, const char *name, bool is_last) {
+/* Puts the target of a link that is open before the rest of the path. */
+static bool put_target(walk *walk, int opened, bool is_last) {
     char link[2 * PATH_MAX];
-    ssize_t length = readlinkat(walk->folder, name, link, PATH_MAX);
+    ssize_t length = readlinkat(opened, "", link, PATH_MAX);
     size_t left = strlen(walk->rest);
     if (length < 0) {
         return false;
@@ -80,6 +80,21 @@ static bool follow_link(walk *walk, const char *name, bool is_last) {
     memcpy(link + length + 1, walk->rest, left + 1);
     memcpy(walk->rest, link, (size_t)length + left + 2);
     return begin(walk);
+}
+
+/* Follows a link, if it may be. It is opened, as another one may have come there since it was looked at. */
+static bool follow_link(walk *walk, const char *name, bool is_last) {
+    struct stat status;
+    int opened = openat(walk->folder, name, O_PATH | O_NOFOLLOW | O_CLOEXEC);
+    bool is_known = opened >= 0 && fstat(opened, &status) == 0;
+    walk->is_led = walk->is_led || (is_known && !is_own(&status));
+    bool is_followed = is_known && is_trusted(walk->folder, &status) && put_target(walk, opened, is_last);
+    int error = errno;
+    if (opened >= 0) {
+        close(opened);
+    }
+    errno = error;
+    return is_followed;
 }
 
 /* Returns whether a folder is one of /proc. */
@@ -116,8 +131,7 @@ static bool step(walk *walk, target *target, bool *is_found) {
         return *is_found && (is_any || is_trusted(walk->folder, status));
     }
     if (S_ISLNK(status->st_mode)) {
-        walk->is_led = walk->is_led || !is_own(status);
-        return is_trusted(walk->folder, status) && follow_link(walk, target->name, is_last);
+        return follow_link(walk, target->name, is_last);
     }
     return enter(walk, openat(walk->folder, target->name, O_PATH | O_DIRECTORY | O_NOFOLLOW | O_CLOEXEC));
 }

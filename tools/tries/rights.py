@@ -199,6 +199,22 @@ def links_in_a_folder_of_a_group(place):
     return all(ends) and is_left
 
 
+def a_link_that_is_exchanged(place):
+    """In a folder of a group, another user's link that takes the place of the user's own, just when that was looked at, is not followed."""
+    if os.geteuid() or not shutil.which("strace"):
+        return NOT_ROOT
+    private, mine, folder = (place.folder(name, {"x": OLD}) for name in ("private", "mine", "group"))
+    old, new = two(place)
+    os.chmod(folder, 0o775)
+    changed.write(folder, {"out": ("link", mine), "theirs": ("link", private)})
+    os.chown(folder + "/theirs", NOBODY, NOBODY, follow_symlinks=False)
+    slow = ["strace", "-f", "-o", os.devnull, "-e", "trace=readlinkat", "-e", "inject=readlinkat:delay_enter=6000000:when=1"]
+    merging = subprocess.Popen([*slow, "gabrosty-merge-tool", old, new, old, folder + "/out/x"], env={**os.environ, **place.environment})
+    time.sleep(3)
+    os.rename(folder + "/theirs", folder + "/out")
+    return merging.wait() == 0 and data_of(private + "/x") == OLD and data_of(mine + "/x") == NEW
+
+
 def what_takes_the_place_of_output(place):
     """OUTPUT of a merge, which its owner alone may read, stays so where another user puts a file of the same owner in its place that all may
     read. A file with the permissions of before in its place keeps them."""
@@ -633,7 +649,7 @@ def a_handler_that_comes_late(place):
 
 
 ALL = (
-    group_and_list_stay, no_more_for_another_group, lists_that_cannot_be_read, what_another_user_put_there, what_is_read_through_links, links_in_a_folder_of_a_group, what_takes_the_place_of_output, what_comes_to_the_place_of_an_output, keys_of_another_home, keys_through_links,
+    group_and_list_stay, no_more_for_another_group, lists_that_cannot_be_read, what_another_user_put_there, what_is_read_through_links, links_in_a_folder_of_a_group, a_link_that_is_exchanged, what_takes_the_place_of_output, what_comes_to_the_place_of_an_output, keys_of_another_home, keys_through_links,
     signals_while_it_writes, a_signal_before_the_first_step, what_happens_between, names_of_one_file, a_folder_that_is_moved,
     what_a_new_folder_has, another_folder_where_one_was_made, a_deeper_tree, many_small_files, characters_of_both_lists,
     what_another_program_hands_in, marks_that_another_would_read, json_for_a_terminal, folders_in_one_another, a_handler_that_comes_late,

@@ -1056,6 +1056,34 @@ def links_where_a_group_may_write(place):
     return all(ends) and is_left
 
 
+# another user's link takes the place of the user's own, just before that is read
+EXCHANGED = """kept = os.readlink
+def readlink(path, **more):
+    if more and os.path.lexists("theirs"):
+        os.rename("theirs", "group/out")
+    return kept(path, **more)
+os.readlink = readlink
+"""
+
+
+def a_link_in_time(place):
+    """The same of the diff editor, for OUTPUT and for a file that is read. Skipped without the right to give files away."""
+    if os.geteuid():
+        return "that needs another user"
+    ends = []
+    for words in ["--output", "group/out/x", "files/old", "files/new"], ["--dry-run", "group/out/x", "files/new"]:
+        private, mine = (place.folder(name, {"x": b"1\n"}) for name in ("private", "mine"))
+        group, _ = place.folder("group"), place.folder("files", {"old": b"1\n", "new": b"2\n"})
+        os.chmod(group, 0o775)
+        changed.write(group, {"out": ("link", mine)})
+        os.symlink(private, place.top + "/theirs")
+        os.chown(place.top + "/theirs", NOBODY, NOBODY, follow_symlinks=False)
+        os.chmod(private, 0o700)
+        status, said = edit_patched(place, EXCHANGED, *words)
+        ends.append(changed.read(private) == {"x": b"1\n"} and not os.path.lexists(place.top + "/theirs") and (status, said[:3]) in ((0, ""), (0, "wou")))
+    return all(ends) and changed.read(mine) == {"x": b"1\n"}
+
+
 def a_file_of_another_user_in_time(place):
     """A file or a link that another user puts where OUTPUT is to be, in a folder that all may write to, is named, and stays. Skipped without
     the right to give files away."""
@@ -1164,6 +1192,6 @@ ALL = (
     links_where_plans_are_kept, a_file_that_changes_unseen, no_home, folders_of_half_a_path,
     a_message_in_another_host, what_an_editor_writes_beside_a_message,
     another_folder_for_temporary_files, a_home_of_another_user, a_plan_where_another_leads, a_state_folder_of_a_clone, a_race_for_a_new_folder,
-    links_of_another_user, links_where_a_group_may_write, a_file_of_another_user_in_time, a_spare_folder_that_others_may_read, a_lock_that_is_a_pipe,
+    links_of_another_user, links_where_a_group_may_write, a_link_in_time, a_file_of_another_user_in_time, a_spare_folder_that_others_may_read, a_lock_that_is_a_pipe,
     texts_of_many_megabytes, characters_that_disks_leave_out, a_repository_that_a_clone_tracks,
 )
