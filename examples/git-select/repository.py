@@ -18,6 +18,8 @@ SETTINGS = r"^(core\.(filemode|safecrlf)|status\.showuntrackedfiles)$"
 IS_ANOTHER = "%s is another folder by now"
 # the words by which git takes no bare repository that GIT_DIR does not name: a clone may track the files of one. Git 2.38 knows them
 NAMED = "-c", "safe.bareRepository=explicit"
+# the words by which git leaves no process behind: it would know an open folder by the number of this program, which another one may have then
+AT_ONCE = "-c", "gc.autoDetach=false", "-c", "maintenance.autoDetach=false"
 # git's letter for a path that a sparse working tree is not to have
 SKIPPED = "S"
 # what git says before a path that it passes over
@@ -104,6 +106,7 @@ class Repository(Git):
         self.index = self.index_at(index)
         if not self.is_found():
             self.check_is_named()
+            self.options = AT_ONCE
             self.environment = {**environment, "GIT_DIR": self.path_to(self.own), "GIT_WORK_TREE": top}
 
     def open(self, path):

@@ -4,6 +4,7 @@ import os
 import shutil
 
 import changed
+from faults import select
 from outputs import select_patched
 from places import Repository
 from settings import configure, write_hook
@@ -206,6 +207,19 @@ def another_repository_at_the_start(place):
     return all(are_said) and is_staged and changed.read(tree) == {"a": b"3\n"} and repository.is_sound()
 
 
+def what_git_leaves_at_work(place):
+    """Where a setting names another folder for the files, git knows the repository by a folder that is open in git-select. So git leaves no
+    process at work, which could find another folder by that later."""
+    tree, told = place.folder("tree", {"a": b"3\n"}), os.path.join(place.top, "told")
+    repository = Repository(place, {"a": b"1\n"}, {"a": b"2\n"})
+    write_hook(repository, "post-commit", "echo \"$(git config --get gc.autoDetach) $(git config --get maintenance.autoDetach)\" > '%s'\n" % told)
+    ends = []
+    for is_apart in False, True:
+        configure(repository, {"core.worktree": tree} if is_apart else {"gc.autoDetach": "true", "maintenance.autoDetach": "true"})
+        ends.append(select(repository, "--commit", "-m", "x")[0] == 0 and changed.read_file(told) == (b"false false\n" if is_apart else b"true true\n"))
+    return all(ends) and repository.is_sound()
+
+
 # a folder becomes a link between the look at its files and the reading
 LINKS = """import look
 kept = look.Look.converted
@@ -338,7 +352,7 @@ def a_link_in_the_working_tree(place):
 
 
 ALL = (
-    another_repository_meanwhile, another_repository_at_the_start, a_folder_behind_the_last_look, a_folder_that_becomes_a_link,
+    another_repository_meanwhile, another_repository_at_the_start, what_git_leaves_at_work, a_folder_behind_the_last_look, a_folder_that_becomes_a_link,
     a_repository_of_another_user, a_link_that_leads_elsewhere, a_named_folder_that_becomes_a_link, a_link_in_the_working_tree,
     a_file_that_becomes_large, a_link_in_the_tree_of_a_folder, links_where_a_disk_folds_names,
 )
