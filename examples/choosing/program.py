@@ -33,7 +33,9 @@ def temporary_folder():
 
 def check_new(opened):
     """Raises OSError if an open folder is another one than this user has just made."""
-    if os.fstat(opened).st_uid != os.geteuid() or os.listdir(opened):
+    with os.scandir(opened) as found:
+        is_empty = next(found, None) is None
+    if not is_empty or os.fstat(opened).st_uid != os.geteuid():
         raise PermissionError(errno.EPERM, "another folder is in the place of the one for temporary files")
 
 
