@@ -3,12 +3,12 @@ use Rattle.std.proofs.Common.{◌≡◌, ℕ, zero, suc, ◌+◌, ◌-◌, ◌�
 use Rattle.std.proofs.lemmas.Bool.Decides.{nat_tests}
 use Rattle.scm_pager.specs.declared.lines.SideLine.{SideLine}
 use Rattle.scm_pager.specs.WindowView.{Shown}
-use Rattle.scm_pager.specs.Windows.{after_line, after_lines, capped, capped_length, cleared, empty_window}
+use Rattle.scm_pager.specs.Windows.{after_line, after_all_lines, capped, capped_length, cleared, empty_window}
 
 -- ---- lines
 
 -- lines after lines
-pub after-append : (w : Shown) (xs ys : List SideLine) → after_lines (after_lines w xs) ys ≡ after_lines w (xs ++ ys)
+pub after-append : (w : Shown) (xs ys : List SideLine) → after_all_lines (after_all_lines w xs) ys ≡ after_all_lines w (xs ++ ys)
 after-append w [] ys = refl
 after-append w (x ∷ xs) ys = after-append (after_line w x) xs ys
 
@@ -25,7 +25,7 @@ cleared-line w x = steps (nat_lt 0 w.before) (nat_lt (length w.rows) w.height)
     steps false true = refl
     steps false false = refl
 
-pub cleared-lines : (w : Shown) (xs : List SideLine) → cleared (after_lines w xs) ≡ cleared w
+pub cleared-lines : (w : Shown) (xs : List SideLine) → cleared (after_all_lines w xs) ≡ cleared w
 cleared-lines w [] = refl
 cleared-lines w (x ∷ xs) = cleared-lines (after_line w x) xs ∙ cleared-line w x
 
@@ -43,7 +43,7 @@ count-line w x = steps (nat_lt 0 w.before) (nat_lt (length w.rows) w.height)
     steps false true = refl
     steps false false = refl
 
-count-lines : (w : Shown) (xs : List SideLine) (n : ℕ) → w.count ≡ capped n → (after_lines w xs).count ≡ capped (n + length xs)
+count-lines : (w : Shown) (xs : List SideLine) (n : ℕ) → w.count ≡ capped n → (after_all_lines w xs).count ≡ capped (n + length xs)
 count-lines w [] n e = let all : n ≡ n + 0 = omega arith in e ∙ ap capped all
 count-lines w (x ∷ xs) n e =
     let next : (after_line w x).count ≡ capped (n + 1) = rw (count-line w x, e) (omega arith) in
@@ -62,7 +62,7 @@ none-left (suc n) (suc k) = refl
 
 -- lines from the next one on, while there is room
 rows-from : (top before height count : ℕ) (rows xs : List SideLine) → length rows ≤ height
-    → (after_lines (record { top = top; before = before; height = height; count = count; rows = rows }) xs).rows
+    → (after_all_lines (record { top = top; before = before; height = height; count = count; rows = rows }) xs).rows
     ≡ rows ++ take (height - length rows) (drop before xs)
 rows-from top before height count rows [] h = sym (append-nil rows) ∙ ap (λ (l : List SideLine). rows ++ l) (sym (none-left (height - length rows) before))
 rows-from top (suc before) height count rows (x ∷ xs) h =
@@ -70,13 +70,13 @@ rows-from top (suc before) height count rows (x ∷ xs) h =
   where
     -- a line that comes before the first one
     later : (b : Bool) (k : ℕ) → b ≡ true → k ≡ before
-        → (after_lines (record { top = top; before = before; height = height; count = capped (count + 1); rows = rows }) xs).rows ≡ rows ++ take (height - length rows) (drop before xs)
-        → (after_lines (if b then record { top = top; before = k; height = height; count = capped (count + 1); rows = rows }
+        → (after_all_lines (record { top = top; before = before; height = height; count = capped (count + 1); rows = rows }) xs).rows ≡ rows ++ take (height - length rows) (drop before xs)
+        → (after_all_lines (if b then record { top = top; before = k; height = height; count = capped (count + 1); rows = rows }
         else if nat_lt (length rows) height then record { top = top; before = suc before; height = height; count = capped (count + 1); rows = rows ++ (x ∷ []) }
         else record { top = top; before = suc before; height = height; count = capped (count + 1); rows = rows }) xs).rows
         ≡ rows ++ take (height - length rows) (drop before xs)
     later true k e f ih =
-        ap (λ (n : ℕ). (after_lines (record { top = top; before = n; height = height; count = capped (count + 1); rows = rows }) xs).rows) f ∙ ih
+        ap (λ (n : ℕ). (after_all_lines (record { top = top; before = n; height = height; count = capped (count + 1); rows = rows }) xs).rows) f ∙ ih
     later false k e f ih = cc
 rows-from top zero height count rows (x ∷ xs) h =
     steps (nat_lt (length rows) height) refl
@@ -87,8 +87,8 @@ rows-from top zero height count rows (x ∷ xs) h =
 
     steps : (b : Bool) → nat_lt (length rows) height ≡ b
         → ((all : List SideLine) → length all ≤ height
-        → (after_lines (record { top = top; before = zero; height = height; count = capped (count + 1); rows = all }) xs).rows ≡ all ++ take (height - length all) xs)
-        → (after_lines (if b then record { top = top; before = zero; height = height; count = capped (count + 1); rows = rows ++ (x ∷ []) }
+        → (after_all_lines (record { top = top; before = zero; height = height; count = capped (count + 1); rows = all }) xs).rows ≡ all ++ take (height - length all) xs)
+        → (after_all_lines (if b then record { top = top; before = zero; height = height; count = capped (count + 1); rows = rows ++ (x ∷ []) }
         else record { top = top; before = zero; height = height; count = capped (count + 1); rows = rows }) xs).rows
         ≡ rows ++ take (height - length rows) (x ∷ xs)
     steps true e ih =
@@ -105,10 +105,10 @@ rows-from top zero height count rows (x ∷ xs) h =
 
 -- ---- a new window, after all lines
 
-pub new-count : (top height : ℕ) (xs : List SideLine) → (after_lines (empty_window top height) xs).count ≡ capped_length xs
+pub new-count : (top height : ℕ) (xs : List SideLine) → (after_all_lines (empty_window top height) xs).count ≡ capped_length xs
 new-count top height xs = let all : 0 + length xs ≡ length xs = omega arith in count-lines (empty_window top height) xs 0 refl ∙ ap capped all
 
-pub new-rows : (top height : ℕ) (xs : List SideLine) → (after_lines (empty_window top height) xs).rows ≡ take height (drop top xs)
+pub new-rows : (top height : ℕ) (xs : List SideLine) → (after_all_lines (empty_window top height) xs).rows ≡ take height (drop top xs)
 new-rows top height xs =
     let all : height - 0 ≡ height = omega arith in
     rows-from top top height 0 [] xs (omega arith) ∙ ap (λ (n : ℕ). take n (drop top xs)) all

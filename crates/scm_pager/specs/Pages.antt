@@ -48,8 +48,8 @@ abbrev pub left_text : Pager → File → List ℕ
 left_text p file = shown_text file.path ++ side_words p.selected
 
 -- which lines are shown
-abbrev pub range_text : ℕ → ℕ → ℕ → List ℕ
-range_text top shown count =
+abbrev pub lines_text : ℕ → ℕ → ℕ → List ℕ
+lines_text top shown count =
     codes "  " ++ (decimal (capped (top + 1)) ++ (codes "-" ++ (decimal (capped (top + shown)) ++ (codes "/" ++ decimal count))))
 
 -- which lines are shown, or why none are
@@ -57,7 +57,7 @@ abbrev pub place_text : Pager → File → List SideLine → List ℕ
 place_text p file lines =
     if is_replaced p.selected file then codes "  binary contents"
     else if length lines == 0 then codes "  no lines"
-    else range_text p.top (length lines) (capped_length (shown_lines p.selected file))
+    else lines_text p.top (length lines) (capped_length (shown_lines p.selected file))
 
 -- what stands on the right of the status row
 abbrev pub right_text : Pager → File → List SideLine → List ℕ

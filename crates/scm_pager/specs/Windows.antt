@@ -22,9 +22,9 @@ after_line w line =
     else record w { count = capped (w.count + 1) }
 
 -- the window after lines
-abbrev pub after_lines : Shown → List SideLine → Shown
-after_lines w [] = w
-after_lines w (line ∷ lines) = after_lines (after_line w line) lines
+abbrev pub after_all_lines : Shown → List SideLine → Shown
+after_all_lines w [] = w
+after_all_lines w (line ∷ lines) = after_all_lines (after_line w line) lines
 
 -- the window as it began
 abbrev pub cleared : Shown → Shown
@@ -32,7 +32,7 @@ cleared w = record w { before = w.top; count = 0; rows = [] }
 
 -- the window after a section: binary contents drop what was before them
 abbrev pub after_section : Bool → Shown → Section → Shown
-after_section selected w s = if is_binary s then cleared w else after_lines w (lines_of selected s)
+after_section selected w s = if is_binary s then cleared w else after_all_lines w (lines_of selected s)
 
 -- the window after sections
 abbrev pub after_sections : Bool → Shown → List Section → Shown

@@ -1,6 +1,6 @@
 //! The page of a pager, as a grid.
 ghost use Rattle.std.specs.Prelude.{◌≡◌, ◌<◌, ◌≤◌, IfErr, IfOk, OnOk, length, string_bytes};
-ghost use Rattle.scm_pager.specs.Pages.{left_text, page_of, place_text, range_text, right_text, side_words, sign_of, with_line, with_lines, with_status};
+ghost use Rattle.scm_pager.specs.Pages.{left_text, page_of, place_text, lines_text, right_text, side_words, sign_of, with_line, with_lines, with_status};
 ghost use Rattle.scm_pager.specs.Windows.{capped_length};
 ghost use Rattle.scm_pager.specs.Sides.{is_replaced, shown_lines};
 ghost use Rattle.scm_errors.specs.declared.error.RecordError.TheVariants.{OutOfMemory};
@@ -85,8 +85,8 @@ fn left_text(alloc: Global, pager: Pager, file: &File<'_>) -> Result<String, Rec
 }
 
 /// Returns which lines are shown of `count`: `shown` from line `top` on, counted from 0.
-fn range_text(alloc: Global, top: usize, shown: usize, count: usize) -> Result<String, RecordError>
-    ensures ok { IfOk result (λ text. string_bytes text ≡ range_text top shown count) }
+fn lines_text(alloc: Global, top: usize, shown: usize, count: usize) -> Result<String, RecordError>
+    ensures ok { IfOk result (λ text. string_bytes text ≡ lines_text top shown count) }
     ensures err { IfErr result (λ e. e ≡ OutOfMemory) }
 {
     let first = top.saturating_add(1);
@@ -114,7 +114,7 @@ fn place_text(
         let text = String::from_str(alloc, "  no lines")?;
         Ok(text)
     } else {
-        range_text(alloc, pager.top, shown, window.count())
+        lines_text(alloc, pager.top, shown, window.count())
     }
 }
 

@@ -2,7 +2,7 @@
 ghost use Rattle.std.specs.Prelude.{◌≡◌, IfErr, IfOk, None, OnOk, drop, filter, map, take};
 ghost use Rattle.scm_types.specs.Split.{takes};
 ghost use Rattle.scm_pager.specs.Sides.{changed_line, context_line, is_replaced, last_mark, shown_lines};
-ghost use Rattle.scm_pager.specs.Windows.{after_line, after_lines, after_section, after_sections, capped_length, cleared, empty_window};
+ghost use Rattle.scm_pager.specs.Windows.{after_line, after_all_lines, after_section, after_sections, capped_length, cleared, empty_window};
 ghost use Rattle.scm_errors.specs.declared.error.RecordError.TheVariants.{OutOfMemory};
 
 use scm_errors::RecordError;
@@ -80,7 +80,7 @@ impl<'s> Window<'s> {
 
     /// Takes `lines`, context, which each side has.
     fn offer_context(&mut self, lines: &'s [Text<'_>]) -> Result<(), AllocError>
-        ensures { OnOk result (self.new ≡ after_lines self.old (map context_line lines.now)) }
+        ensures { OnOk result (self.new ≡ after_all_lines self.old (map context_line lines.now)) }
     {
         for line in lines {
             self.offer(SideLine {
@@ -98,7 +98,7 @@ impl<'s> Window<'s> {
         selected: bool,
     ) -> Result<(), AllocError>
         ensures { OnOk result (self.new
-            ≡ after_lines self.old (map changed_line (filter (takes selected) lines.now))) }
+            ≡ after_all_lines self.old (map changed_line (filter (takes selected) lines.now))) }
     {
         for line in lines {
             if takes(line, selected) {
