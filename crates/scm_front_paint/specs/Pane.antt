@@ -7,6 +7,9 @@ use Rattle.scm_input.specs.declared.terminal.KeyModifiers.{KeyModifiers}
 use Rattle.scm_input.specs.declared.terminal.KeyCode.{KeyCode}
 use Rattle.scm_input.specs.declared.terminal.KeyEventKind.{KeyEventKind}
 use Rattle.scm_input.specs.declared.terminal.KeyEventKind.TheVariants.{Press, Repeat, Release}
+use Rattle.scm_input.specs.declared.terminal.MouseEvent.{MouseEvent}
+use Rattle.scm_input.specs.declared.terminal.MouseEventKind.{MouseEventKind}
+use Rattle.scm_input.specs.declared.terminal.MouseEventKind.TheVariants as mouse
 use Rattle.scm_input.specs.declared.terminal.TerminalEvent.{TerminalEvent}
 use Rattle.scm_input.specs.declared.terminal.TerminalEvent.TheVariants as terminal
 use Rattle.scm_record.specs.Live.{Live}
@@ -68,15 +71,29 @@ sideways_key p Press modifiers code =
 sideways_key p Repeat modifiers code = None
 sideways_key p Release modifiers code = None
 
+-- the wheel: down is to the right, and up to the left
+abbrev pub sideways_wheel : Pane → MouseEventKind → Option ℕ
+sideways_wheel p mouse.ScrollUp = Some (left_of p)
+sideways_wheel p mouse.ScrollDown = Some (right_of p)
+sideways_wheel p (mouse.Down b) = None
+sideways_wheel p (mouse.Up b) = None
+sideways_wheel p (mouse.Drag b) = None
+sideways_wheel p mouse.Moved = None
+sideways_wheel p mouse.Other = None
+
+-- the wheel, if shift alone is held
+abbrev pub sideways_mouse : Pane → MouseEvent → Option ℕ
+sideways_mouse p e = if same_modifiers shift e.modifiers then sideways_wheel p e.kind else None
+
 abbrev pub sideways_event : Pane → TerminalEvent → Option ℕ
 sideways_event p (terminal.Key e) = sideways_key p e.kind e.modifiers e.code
-sideways_event p (terminal.Mouse e) = None
+sideways_event p (terminal.Mouse e) = sideways_mouse p e
 sideways_event p terminal.Other = None
 
 abbrev pub show_or : Option ℕ → TerminalEvent → Heard
 show_or (Some x) event = Show x
 show_or None event = Hand event
 
--- What an event of the terminal is. `is_own` says that `>` and `<` are keys of the view.
+-- What an event of the terminal is. `is_own` says that `>`, `<` and the wheel with shift are the view's.
 abbrev pub heard_as : Pane → Bool → ℕ → TerminalEvent → Heard
 heard_as p is_own x event = show_or (if is_own then sideways_event p event else None) (moved x event)

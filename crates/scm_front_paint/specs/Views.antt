@@ -44,7 +44,7 @@ pub data IsShown (p : Pane) : FrontTurn → ViewTurn → Type 0 where
   edits : {e : FrontEditing} → IsShown p (fronts.Editing e) (Editing (record { beneath = e; pane = p }))
   accepts : {state : RecordState} → IsShown p (fronts.Accepted state) (Accepted state)
 
--- whether `>` and `<` are keys of the view: no text is asked for, no dialog is open, and the event is none of the user's own keys
+-- whether `>`, `<` and the wheel with shift are the view's: no text is asked for, no dialog is open, and the event is none of the user's own keys
 abbrev pub is_own : Seen → TerminalEvent → Bool
 is_own v event = (not v.front.query.is_asking && is_free v.front.beneath) && not (has_key v.front.kept.keys event)
 

@@ -3,11 +3,11 @@ ghost use Rattle.std.specs.Prelude.{◌≡◌, ℕ, ◌+◌, ◌≤◌, ◌<◌}
 ghost use Rattle.scm_input.specs.declared.terminal.KeyEventKind.TheVariants.{Press};
 ghost use Rattle.scm_input.specs.declared.terminal.MouseEvent.{MouseEvent};
 ghost use Rattle.scm_input.specs.declared.terminal.TerminalEvent.TheVariants.{Mouse};
-ghost use Rattle.scm_front_paint.specs.Pane.{heard_as, is_free, kind_for, left_of, moved, offset, right_of, sideways_event, sideways_key, step, with_size, with_x};
+ghost use Rattle.scm_front_paint.specs.Pane.{heard_as, is_free, kind_for, left_of, moved, offset, right_of, sideways_event, sideways_key, sideways_mouse, sideways_wheel, step, with_size, with_x};
 
 use scm_record::{
-    KeyCode, KeyEvent, KeyEventKind, KeyModifiers, LiveSession, MouseEvent, TerminalEvent,
-    TerminalKind,
+    KeyCode, KeyEvent, KeyEventKind, KeyModifiers, LiveSession, MouseEvent, MouseEventKind,
+    TerminalEvent, TerminalKind,
 };
 
 /// Where a terminal stands over a session.
@@ -136,20 +136,47 @@ fn sideways_key(pane: Pane, key: KeyEvent) -> Option<u16>
     }
 }
 
-/// Returns the column that `event` shows first, if it is a key `>` or `<`.
+/// Returns the column that the wheel shows first: down is to the right, and up to the left.
+fn sideways_wheel(pane: Pane, kind: MouseEventKind) -> Option<u16>
+    ensures { result ≡ sideways_wheel pane kind }
+{
+    match kind {
+        MouseEventKind::ScrollUp => Some(left_of(pane)),
+        MouseEventKind::ScrollDown => Some(right_of(pane)),
+        MouseEventKind::Down(_)
+        | MouseEventKind::Up(_)
+        | MouseEventKind::Drag(_)
+        | MouseEventKind::Moved
+        | MouseEventKind::Other => None,
+    }
+}
+
+/// Returns the column that the mouse shows first, if it is the wheel with shift alone.
+fn sideways_mouse(pane: Pane, mouse: MouseEvent) -> Option<u16>
+    ensures { result ≡ sideways_mouse pane mouse }
+{
+    if KeyModifiers::SHIFT == mouse.modifiers {
+        sideways_wheel(pane, mouse.kind)
+    } else {
+        None
+    }
+}
+
+/// Returns the column that `event` shows first, if it is a key `>` or `<`, or the wheel with shift.
 fn sideways_event(pane: Pane, event: TerminalEvent) -> Option<u16>
     ensures { result ≡ sideways_event pane event }
 {
     match event {
         TerminalEvent::Key(key) => sideways_key(pane, key),
-        TerminalEvent::Mouse(_) | TerminalEvent::Other => None,
+        TerminalEvent::Mouse(mouse) => sideways_mouse(pane, mouse),
+        TerminalEvent::Other => None,
     }
 }
 
 /// Returns what `event` of the terminal is, while `x` columns of the window stand to its left.
 ///
-/// `is_own` says that `>` and `<` are keys of the view: no text is asked for, no dialog is open, and they
-/// are none of the user's own keys.
+/// `is_own` says that `>`, `<` and the wheel with shift are the view's: no text is asked for, no dialog is
+/// open, and the event is none of the user's own keys.
 pub fn heard_as(pane: Pane, is_own: bool, x: u16, event: TerminalEvent) -> Heard
     ensures { result ≡ heard_as pane is_own x event }
 {

@@ -167,8 +167,8 @@ impl<'state> View<'state> {
         view_of(front, pane)
     }
 
-    /// Returns whether `>` and `<` are keys of the view: no text is asked for, no dialog is open, and
-    /// `event` is none of the user's own keys.
+    /// Returns whether `>`, `<` and the wheel with shift are the view's: no text is asked for, no dialog is
+    /// open, and `event` is none of the user's own keys.
     fn is_own(&self, event: TerminalEvent) -> bool
         ensures { result ≡ is_own self.now event }
     {
@@ -199,8 +199,9 @@ impl<'state> View<'state> {
         }
     }
 
-    /// Hears `event` of the terminal: `>` and `<` show the window from another column on, unless they are
-    /// the user's own keys. All else goes to the front, with the mouse where it stands in the window.
+    /// Hears `event` of the terminal: `>`, `<` and the wheel with shift show the window from another column
+    /// on, unless they are the user's own keys. All else goes to the front, with the mouse where it stands in
+    /// the window.
     ///
     /// # Errors
     ///
