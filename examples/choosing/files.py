@@ -76,10 +76,10 @@ def give_to_new_folder(at, name, permissions):
 
 
 class Files:
-    """The files below the folder `top`. With `follow`, which opens what a link in an open folder leads to, such a link counts as that file. `room` is where the plan of a change
-    is kept, if they are changed (see rooms.py). `at` is that folder, if it is open already. `name` is the file in it that the user
-    names, if that is all: it is refused if it is another user's, and all may put theirs there. `folders` has by path the permissions of
-    folders that are made."""
+    """The files below the folder `top`. With `follow`, which opens what a link in an open folder leads to, such a link counts as that file.
+    `room` is where the plan of a change is kept, if they are changed (see rooms.py). `at` is that folder, if it is open already. `name` is
+    the file in it that the user names, if that is all: it is refused if it is another user's, and all may put theirs there. `folders` has by
+    path the permissions of folders that are made."""
 
     def __init__(self, top, follow=None, room=None, at=None, name=None):
         self.top, self.follow, self.room, self.name, self.folders = top, follow, room, name, {}

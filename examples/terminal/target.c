@@ -25,8 +25,8 @@ typedef struct walk {
 } walk;
 
 /* Returns whether what is in a folder is the user's, or the folder's owner's, or nobody else may put something there. So the kernel looks
- * at links, if it is told to (fs.protected_symlinks), but only where a sticky bit is. Without that bit, only a file may be another's: who may write
- * to the folder may replace it, and it leads nowhere. */
+ * at links, if it is told to (fs.protected_symlinks), but only where a sticky bit is. Without that bit, only a file may be another's: who may
+ * write to the folder may replace it, and it leads nowhere. */
 static bool is_trusted(int folder, const struct stat *status) {
     struct stat around;
     bool is_known = fstat(folder, &around) == 0;

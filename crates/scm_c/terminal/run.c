@@ -379,7 +379,8 @@ typedef struct draft {
 
 static const char DRAFT[] = "message";
 
-/* Makes a folder of a name that nobody knows before, for its owner alone. Returns false with errno set if that fails; `folder` is empty then. */
+/* Makes a folder of a name that nobody knows before, for its owner alone. Returns false with errno set if that fails; `folder` is empty
+ * then. */
 static bool make_folder(char *folder, size_t room) {
     int length = snprintf(folder, room, "%s/message-XXXXXX", temporary_folder());
     bool is_too_long = length + sizeof DRAFT >= room;
