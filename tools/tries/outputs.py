@@ -117,7 +117,7 @@ def each_write_of_output(place):
 def the_order_of_writes(place):
     """The table of docs/WRITES.md has for each way what the table of the ways says that it writes, in this order. Each option has a row of
     its own there."""
-    code = "import options, ways; them = [ways.Stage, *(it.way for it in options.OPTIONS if hasattr(it.way, 'use'))]; " \
+    code = "import options as o, ways; them = [ways.Stage, *(o.class_of(it.way) for it in o.OPTIONS if it.way and '.' in it.way)]; " \
         "assert all(it.use is ways.USES[it.__name__] for it in them); print({it.__name__: it.use.writes for it in them})"
     folder = os.path.join(place.prefix, "lib/gabrosty")
     where = {**os.environ, "PYTHONPATH": os.pathsep.join((os.path.join(folder, "git-select"), folder)), "PYTHONDONTWRITEBYTECODE": "1"}
