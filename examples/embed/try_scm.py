@@ -8,6 +8,7 @@ import os
 import pathlib
 import pty
 import random
+import re
 import select
 import signal
 import termios
@@ -321,6 +322,74 @@ def sides_of(session):
     """Returns both sides of each file, and their bytes."""
     places = [(file, is_selected) for file in range(len(session)) for is_selected in (True, False)]
     return [(session.side(*place), session.side_bytes(*place), session.marks(place[0])) for place in places]
+
+
+# what stands between the rows of a page: places of the cursor, styles, and how symbols wrap
+BETWEEN = re.compile(rb"\x1b\[(\d+);(\d+)H|\x1b\[[0-9;?]*[hlm]")
+
+
+def rows_of(update):
+    """Returns the rows of a page by its update, without blanks at their ends. Each symbol but the sign of a line end is ASCII."""
+    rows, row, column, at = {}, 0, 0, 0
+    for between in [*BETWEEN.finditer(update), None]:
+        text = update[at : between.start() if between else None].decode()
+        for symbol in text:
+            rows.setdefault(row, {})[column] = symbol
+            column += 1
+        if between:
+            at = between.end()
+            if between[1]:
+                row, column = int(between[1]) - 1, int(between[2]) - 1
+    return ["".join(symbol for _, symbol in sorted(rows[row].items())).rstrip() for row in sorted(rows)]
+
+
+def lines_of_pages(session, file, is_selected, width, height):
+    """Returns the lines of a side as a pager shows them, page by page."""
+    pager, lines = session.pager(file, is_selected), []
+    while True:
+        rows = rows_of(pager.paint(width, height))
+        lines[pager.top :] = rows[:-1]
+        before = pager.top
+        pager.type(b"\x06", width, height)
+        if pager.top == before:
+            return [line for line in lines if line], rows[-1]
+
+
+def check_pagers(count):
+    """A pager shows the side that accepting gives, whatever is marked: each line once, with a sign if a mark has it there."""
+    chance = random.Random(7)
+    for _ in range(count):
+        old, new = ["".join("%s\n" % chance.choice("abcdefg") for _ in range(chance.randrange(12))) for _ in range(2)]
+        with scm.Session() as session:
+            session.add_texts("f", old, new)
+            session.begin(60, 20)
+            session.press(*chance.choices("space j l a A".split(), k=chance.randrange(12)))
+            shown = {side: lines_of_pages(session, 0, side, 40, chance.randrange(2, 9)) for side in (True, False)}
+            session.press("c")
+            for side, (lines, status) in shown.items():
+                wanted = session.side_bytes(0, side).decode().splitlines()
+                assert [line[2:].rstrip("⏎") for line in lines] == wanted, (old, new, side, lines, wanted)
+                assert {line[:2] for line in lines} <= {"  ", "+ " if side else "- "}, lines
+                assert status.endswith("p: back") and ("no lines" in status) == (not wanted), (status, wanted)
+
+
+def check_pager_keys():
+    """What is typed goes to the pager, which closes by its key, and a side that is not there is refused."""
+    with scm.Session() as session:
+        session.add_texts("f", b"", b"".join(b"line %d\n" % number for number in range(9)))
+        assert refused(session.pager, 1) == "no_item"
+        session.begin(60, 20)
+        session.press("a")
+        before = session.text()
+        pager = session.pager(0)
+        for typed, top, left, is_selected, is_open in (
+            (b"jj", 2, 0, True, True), (b"G", 5, 0, True, True), (b">", 5, 15, True, True), (b"P", 0, 0, False, True), (b"p", 0, 0, True, True),
+            (b"\x1b[B", 1, 0, True, True), (b"\x1bk", 1, 0, True, True), (b"\x1b", 1, 0, True, False), (b"j", 1, 0, True, False),
+        ):
+            pager.type(typed, 30, 5)
+            assert (pager.top, pager.left, pager.is_selected, pager.is_open) == (top, left, is_selected, is_open), typed
+        assert pager.file == 0 and session.text() == before
+    assert refused(scm.Session().pager, 0) in ("closed", "no_item")
 
 
 def check_previews():
@@ -669,6 +738,8 @@ def main():
     check_values()
     check_paths()
     check_previews()
+    check_pagers(int(os.environ.get("PAGERS", 100)))
+    check_pager_keys()
     check_marks_in()
     check_structure()
     check_select()

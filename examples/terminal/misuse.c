@@ -493,6 +493,51 @@ static void take_layer(void) {
     done(type("q"), GABRO_ENDED);
 }
 
+/* Whether a pager is open on the first file, with this line on its first row. */
+static bool is_page(const gabro_pager *pager, size_t top, bool selected) {
+    return pager->is_open && pager->file == 0 && pager->top == top && pager->left == 0 && pager->selected == selected;
+}
+
+/* A pager opens on a file that is there, hears keys and paints, and no call changes the session. A call that is refused writes nothing. */
+static void show_pages(void) {
+    char out[] = "............";
+    size_t length = 77;
+    gabro_pager pager = {7, 77, 7, true, true};
+    done(gabro_state_new(&session, false), GABRO_BUILDING);
+    refused(gabro_pager_open(&session, 0, false, &pager), GABRO_NO_ITEM);
+    refused(gabro_pager_type(&session, &pager, "p", 1, 20, 2), GABRO_NO_ITEM);
+    refused(gabro_pager_paint(&session, &pager, 20, 2, out, sizeof out, &length), GABRO_NO_ITEM);
+    assert(pager.file == 7 && pager.top == 77 && pager.left == 7 && pager.selected && pager.is_open && length == 77 && strcmp(out, "............") == 0);
+    done(gabro_state_file(&session, "f", 1, "", 0, 0100644), GABRO_BUILDING);
+    done(gabro_state_changes(&session, true, true, "a\nb\nc\n", 6), GABRO_BUILDING);
+    done(gabro_begin(&session, WIDTH, HEIGHT), GABRO_WAITING);
+    refused(gabro_pager_open(&session, 0, true, &pager), GABRO_DONE);
+    assert(is_page(&pager, 0, true));
+    refused(gabro_pager_type(&session, &pager, "jj", 2, 20, 2), GABRO_DONE);
+    assert(is_page(&pager, 2, true));
+    refused(gabro_pager_paint(&session, &pager, 20, 2, out, 4, &length), GABRO_DONE);
+    assert(length > sizeof out && strcmp(out, "\x1b[?2........") == 0);
+#ifdef __GLIBC__
+    is_refused = true;
+    length = 77;
+    uint32_t code_of_type = gabro_pager_type(&session, &pager, "P", 1, 20, 2), code_of_paint = gabro_pager_paint(&session, &pager, 20, 2, out, 8, &length);
+    is_refused = false;
+    refused(code_of_type, GABRO_NO_MEMORY);
+    refused(code_of_paint, GABRO_NO_MEMORY);
+    assert(is_page(&pager, 2, true) && length == 77 && strcmp(out, "\x1b[?2........") == 0);
+#endif
+    refused(gabro_pager_type(&session, &pager, "P", 1, 20, 2), GABRO_DONE);
+    assert(is_page(&pager, 0, false));
+    refused(gabro_pager_type(&session, &pager, "\x1b", 1, 20, 2), GABRO_DONE);
+    assert(!pager.is_open);
+    done(press("c"), GABRO_ACCEPTED);
+    refused(gabro_pager_open(&session, 0, true, &pager), GABRO_DONE);
+    gabro_free(&session);
+    before = look();
+    refused(gabro_pager_open(&session, 0, true, &pager), GABRO_CLOSED);
+    assert(is_page(&pager, 0, true));
+}
+
 /* A line is as it is handed in, and is read again; marks are those of the file, in its order. */
 static void tell_lines(void) {
     char text[8] = ".......", marks[8] = ".......";
@@ -1188,6 +1233,7 @@ int main(void) {
     take_bytes();
     take_layer();
     tell_lines();
+    show_pages();
     take_texts();
     cut_window();
     done(begin(STATE), GABRO_WAITING);

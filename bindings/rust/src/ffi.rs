@@ -86,6 +86,17 @@ pub struct Cell {
     pub flags: u32,
 }
 
+/// Where a pager stands: in the library's terms, with the line and the file counted from 0.
+#[repr(C)]
+#[derive(Clone, Copy, Debug, Default, Eq, PartialEq)]
+pub struct Pager {
+    pub file: usize,
+    pub top: usize,
+    pub left: u16,
+    pub selected: bool,
+    pub is_open: bool,
+}
+
 /// What there is to tell of a screen.
 #[repr(C)]
 #[derive(Debug, Default)]
@@ -155,6 +166,9 @@ extern "C" {
     pub fn gabro_files(session: Asked, count: *mut usize) -> u32;
     pub fn gabro_side(session: Asked, file: usize, selected: bool, out: Room, length: usize, side: *mut SideInfo) -> u32;
     pub fn gabro_side_bytes(session: Asked, file: usize, selected: bool, out: Room, length: usize, written: *mut usize) -> u32;
+    pub fn gabro_pager_open(session: Asked, file: usize, selected: bool, pager: *mut Pager) -> u32;
+    pub fn gabro_pager_type(session: Asked, pager: *mut Pager, bytes: Bytes, length: usize, width: u16, height: u16) -> u32;
+    pub fn gabro_pager_paint(session: Asked, pager: *const Pager, width: u16, height: u16, out: Room, length: usize, written: *mut usize) -> u32;
     pub fn gabro_mark(session: Asked, key: *const Key, mark: *mut u32) -> u32;
     pub fn gabro_item(session: Asked, key: *const Key, kind: *mut u32, parts: *mut usize) -> u32;
     pub fn gabro_path(session: Asked, file: usize, is_old: bool, out: Room, length: usize, written: *mut usize) -> u32;

@@ -28,9 +28,11 @@ use std::fmt;
 use std::os::raw::c_char;
 
 mod at_terminal;
+mod pager;
 mod screen;
 
 pub use crate::ffi::{MAX_COLUMNS, MAX_ROWS};
+pub use pager::Pager;
 pub use screen::{Cell, CellStyle, Colour};
 
 /// A call that was not done. The session is as it was.

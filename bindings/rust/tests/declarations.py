@@ -11,7 +11,7 @@ TYPES = {
     "const char *": "Bytes", "char *": "Room", "size_t *": "*mut usize", "uint32_t *": "*mut u32", "gabro_key *": "*mut Key",
     "const gabro_key *": "*const Key", "gabro_side_info *": "*mut SideInfo", "gabro_cell *": "*mut Cell",
     "gabro_screen_info *": "*mut ScreenInfo", "const gabro_side_info *": "*const SideInfo", "const gabro_changed *": "*const Changed",
-    "gabro_shown *": "*mut Shown", "gabro_in_tree *": "*mut InTree",
+    "gabro_pager *": "*mut Pager", "const gabro_pager *": "*const Pager", "gabro_shown *": "*mut Shown", "gabro_in_tree *": "*mut InTree",
 }
 
 # the calls that the crate leaves out: this one takes functions of a program, and the crate has `gabro_run`

@@ -389,6 +389,23 @@ fn a_side_is_a_preview() {
 }
 
 #[test]
+fn a_pager_shows_what_accepting_gives() {
+    let mut session = two_files();
+    session.begin(80, 24).unwrap();
+    session.press("space").unwrap();
+    let mut pager = session.pager(0, Side::Selected).unwrap();
+    let page = String::from_utf8(session.paint_pager(&pager, 60, 8).unwrap()).unwrap();
+    assert_eq!(session.side_bytes(0, Side::Selected).unwrap(), b"same\ntwo\n");
+    assert!(page.contains("  same") && page.contains("+ two") && page.contains("1-2/2"), "{page:?}");
+    session.type_in_pager(&mut pager, b"P", 60, 8).unwrap();
+    assert_eq!((pager.side(), pager.top(), pager.is_open()), (Side::Unselected, 0, true));
+    session.type_in_pager(&mut pager, b"\x1b", 60, 8).unwrap();
+    assert!(!pager.is_open());
+    assert_eq!(session.stage(), Stage::Waiting);
+    assert_eq!(session.pager(9, Side::Selected), Err(Error::NoItem));
+}
+
+#[test]
 fn a_refused_call_says_why() {
     let mut session = begun(&[]);
     let refused = session.press("no word").unwrap_err();

@@ -711,6 +711,45 @@ GABRO_USE_CODE uint32_t gabro_path(const gabro_session *session, size_t file, bo
  * `written`. Returns GABRO_NO_ITEM for a commit without a message too. */
 GABRO_USE_CODE uint32_t gabro_message(const gabro_session *session, size_t commit, char *out, size_t length, size_t *written);
 
+/* ---- What accepting gives, on a screen ----
+ *
+ * A pager shows a side of a file line by line: the lines that accepting now would give it. Each line that is there by a mark begins with
+ * a sign, `+ ` on the selected side and `- ` on the other one. The calls read the state as those of the answer do, and return the
+ * same codes. They change nothing of the session: while a program hands what is typed to the pager, no key reaches the session.
+ * gabro_run opens one at `p` and `P`.
+ *
+ * The keys: `j`, `k`, the arrows and the wheel go a line down or up, ctrl-d and ctrl-u half a page, ctrl-f, ctrl-b, page down and page up a
+ * page, `g` to the first line and `G` to the last page; `>` and `<` show the columns further right or left; `p` shows the selected
+ * side, `P` the other one, and the one that is shown already closes the pager, as esc, `q` and ctrl-c do. */
+
+/* Where a pager stands. It owns nothing: it may be copied, and dropped at any time. */
+typedef struct gabro_pager {
+    size_t file;   /* the file that it shows, counted from 0 */
+    size_t top;    /* the line on the first row of the screen, counted from 0 */
+    uint16_t left; /* how many columns of each line stand to the left of the screen */
+    bool selected; /* it shows the selected side, and not the other one */
+    bool is_open;  /* it has not been closed */
+} gabro_pager;
+
+/* Opens `pager` at the top of file `file`, counted from 0: on its selected side if `selected`, or on the other one. */
+GABRO_USE_CODE uint32_t gabro_pager_open(const gabro_session *session, size_t file, bool selected, gabro_pager *pager);
+
+/* Hands what a terminal of `width` columns and `height` rows sent, `length` bytes, to `pager`. The last row of the terminal is the
+ * status row. Nothing more was sent for a while behind the bytes: so an ESC at their end is a key of its own. What comes after the key
+ * that closes the pager is dropped.
+ *
+ * May also return GABRO_NO_MEMORY. */
+GABRO_USE_CODE uint32_t gabro_pager_type(const gabro_session *session, gabro_pager *pager, const char *bytes, size_t length,
+                                         uint16_t width, uint16_t height);
+
+/* Writes the bytes that make a terminal of `width` columns and `height` rows show `pager`, whatever it shows before, to `out`, clipped
+ * to `length` bytes, and their number to `written`. Once the pager is closed, call `gabro_repaint`: the next gabro_paint then draws
+ * every row of the session.
+ *
+ * May also return GABRO_NO_MEMORY. */
+GABRO_USE_CODE uint32_t gabro_pager_paint(const gabro_session *session, const gabro_pager *pager, uint16_t width, uint16_t height,
+                                          char *out, size_t length, size_t *written);
+
 /* ---- From tree to tree ----
  *
  * These calls need no session, and have no state: any thread may call them at any time. */
@@ -876,7 +915,8 @@ uint32_t gabro_version(void);
 
 /* Shows a session that has begun on the terminal `terminal`, an open file, and hands in what the user types, until the session
  * waits no more: `gabro_end` returns how it ended. Sets raw mode, takes the second screen, the mouse and marks around pasted text,
- * follows new sizes, and stops at ctrl-z. Tab presses the word "view", and ctrl-l draws every row. A message is edited by the
+ * follows new sizes, and stops at ctrl-z. Tab presses the word "view", and ctrl-l draws every row. `p` shows what accepting gives of the
+ * selected item's file, and `P` what it leaves, as a pager does. A message is edited by the
  * program VISUAL, EDITOR or vi, in a folder of its own in TMPDIR, or in /tmp if that names no folder by its whole path; if that fails, the
  * user hears why, and the message stays.
  * The window's title is `title`, in ASCII without controls, or another one if it is NULL. A terminal of more than GABRO_MAX_COLUMNS

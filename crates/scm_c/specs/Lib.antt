@@ -4,3 +4,5 @@ pub mod Ownership
 pub mod Merges
 -- a side of a session's file, as trees take it
 pub mod Sides
+-- what calls tell of a pager
+pub mod Pages

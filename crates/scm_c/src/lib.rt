@@ -25,6 +25,7 @@ pub mod count_calls;
 pub mod layer_calls;
 pub mod mark_calls;
 pub mod merge_calls;
+pub mod pager_calls;
 pub mod question_calls;
 mod raw_box;
 pub mod state_calls;

@@ -51,11 +51,11 @@ static inline void end_at(text *text, size_t length) {
     }
 }
 
-/* A call of the library that writes a text. */
-typedef uint32_t reader(gabro_session *session, char *out, size_t length, size_t *written);
+/* Something that writes a text to `out`, clipped to `length` bytes, and the whole length to `written`. It returns a code. */
+typedef uint32_t writer(void *context, char *out, size_t length, size_t *written);
 
-/* Sets `into` to what `read` writes. Returns its code, or GABRO_NO_MEMORY; `into` is empty after any code but GABRO_DONE. */
-static inline uint32_t read_session(gabro_session *session, reader *read, text *into) {
+/* Sets `into` to what `write` writes. Returns its code, or GABRO_NO_MEMORY; `into` is empty after any code but GABRO_DONE. */
+static inline uint32_t read_all(writer *write, void *context, text *into) {
     size_t length = FIRST_ROOM;
     uint32_t code = GABRO_NO_MEMORY;
     end_at(into, 0);
@@ -63,10 +63,31 @@ static inline uint32_t read_session(gabro_session *session, reader *read, text *
         if (!make_room(into, length)) {
             return GABRO_NO_MEMORY;
         }
-        code = read(session, into->bytes, into->room, &length);
+        code = write(context, into->bytes, into->room, &length);
     } while (code == GABRO_DONE && length > into->room);
     end_at(into, code == GABRO_DONE ? length : 0);
     return code;
+}
+
+/* A call of the library that writes a text of a session. */
+typedef uint32_t reader(gabro_session *session, char *out, size_t length, size_t *written);
+
+/* A session, and what is read of it. */
+typedef struct reading {
+    gabro_session *session;
+    reader *read;
+} reading;
+
+/* Makes the call of a reading. */
+static inline uint32_t write_reading(void *context, char *out, size_t length, size_t *written) {
+    const reading *reading = (const struct reading *)context;
+    return reading->read(reading->session, out, length, written);
+}
+
+/* Sets `into` to what `read` writes of a session, as `read_all` does. */
+static inline uint32_t read_session(gabro_session *session, reader *read, text *into) {
+    reading reading = {session, read};
+    return read_all(write_reading, &reading, into);
 }
 
 /* gabro_text, as a reader. */

@@ -35,6 +35,8 @@ static const char CLEAR[] = "\x1b[0m\x1b[2J";
 static const char NO_CHANGE[] = "\x1b[?2026h\x1b[?2026l";
 
 enum { TAB = 9, CONTROL_L = 12, CONTROL_Z = 26, ESC = 27, SILENCE = 50 /* milliseconds */, MOST_WAITS = 20 /* silences */ };
+/* No key of a terminal has as many bytes. */
+enum { MOST_OF_A_KEY = 64 };
 
 typedef struct run {
     gabro_session *session;
@@ -45,6 +47,8 @@ typedef struct run {
     bool is_taken;
     uint16_t width, height; /* of the session's screen; 0 before the first turn */
     text frame;
+    gabro_pager pager; /* what accepting gives, while that is shown */
+    text held;         /* what was typed into the pager and is not handed in yet */
     int error; /* an errno that ends the run, or 0 */
 } run;
 
@@ -303,9 +307,20 @@ static bool follow_terminal(run *run) {
     return true;
 }
 
-/* Draws what has changed. Returns whether the terminal shows the session; if memory fails, the next turn tries again. */
+/* gabro_pager_paint of a run, as a writer. */
+static uint32_t write_page(void *context, char *out, size_t length, size_t *written) {
+    const run *run = (const struct run *)context;
+    return gabro_pager_paint(run->session, &run->pager, run->width, run->height, out, length, written);
+}
+
+/* Sets the frame to what makes the terminal show the pager, if it is open, or else the session. Returns the code of the call. */
+static uint32_t read_frame(run *run) {
+    return run->pager.is_open ? read_all(write_page, run, &run->frame) : read_session(run->session, gabro_paint, &run->frame);
+}
+
+/* Draws what has changed. Returns whether the terminal shows it; if memory fails, the next turn tries again. */
 static bool draw(run *run) {
-    if (is_resized || read_session(run->session, gabro_paint, &run->frame) != GABRO_DONE) {
+    if (is_resized || read_frame(run) != GABRO_DONE) {
         return false;
     }
     if (run->frame.length == 0) {
@@ -535,7 +550,51 @@ static void tell_rest(const run *run) {
     }
 }
 
-/* Handles a key of the run's own, by its code: Tab shows both commits, ctrl-l draws every row, and ctrl-z stops. */
+/* Shows what accepting gives of the selected item's file, or of the first one if nothing is selected: the selected side if `selected`, or
+ * the other one. While a dialog is open, or the state has no file, this is a no-op. */
+static void open_pager(run *run, bool selected) {
+    gabro_key key;
+    if (gabro_dialog(run->session) == GABRO_NO_DIALOG && gabro_selected(run->session, &key) == GABRO_DONE) {
+        size_t file = key.file == GABRO_NO_INDEX ? 0 : key.file;
+        uint32_t code = gabro_pager_open(run->session, file, selected, &run->pager);
+        (void)code; /* without a file the pager stays closed */
+    }
+}
+
+/* Returns whether what was typed may go on as one key: it ends with an ESC, or with a sequence behind one that has not ended. */
+static bool may_go_on(const text *typed) {
+    const char *bytes = typed->bytes;
+    size_t at = typed->length;
+    while (at > 0 && typed->length - at < MOST_OF_A_KEY && bytes[at - 1] >= ' ' && bytes[at - 1] < '@') {
+        at--;
+    }
+    bool is_begun = at > 1 && (bytes[at - 1] == '[' || bytes[at - 1] == 'O') && bytes[at - 2] == ESC;
+    return is_begun || (typed->length > 0 && bytes[typed->length - 1] == ESC);
+}
+
+/* Hands what is held to the pager. If memory for that fails, it is dropped. Once the pager is closed, the screen is drawn as a whole. */
+static void hand_to_pager(run *run) {
+    uint32_t code = gabro_pager_type(run->session, &run->pager, run->held.bytes, run->held.length, run->width, run->height);
+    (void)code;
+    end_at(&run->held, 0);
+    if (!run->pager.is_open) {
+        gabro_repaint(run->session);
+    }
+}
+
+/* Holds what was typed into the pager, and hands it in unless it may go on as one key. If memory for that fails, it is dropped. */
+static void hear_in_pager(run *run, const char *bytes, size_t count) {
+    if (make_room(&run->held, run->held.length + count)) {
+        memcpy(run->held.bytes + run->held.length, bytes, count);
+        end_at(&run->held, run->held.length + count);
+    }
+    if (!may_go_on(&run->held)) {
+        hand_to_pager(run);
+    }
+}
+
+/* Handles a key of the run's own, by its code: Tab shows both commits, ctrl-l draws every row, ctrl-z stops, and p and P show what
+ * accepting gives. */
 static void press_own_key(run *run, uint32_t key) {
     if (key == TAB) {
         gabro_press(run->session, "view", 4);
@@ -543,6 +602,8 @@ static void press_own_key(run *run, uint32_t key) {
         gabro_repaint(run->session);
     } else if (key == CONTROL_Z) {
         stop(run);
+    } else if (key == 'p' || key == 'P') {
+        open_pager(run, key == 'p');
     } else {
         tell_key(run, key);
     }
@@ -560,13 +621,27 @@ static size_t hear_to_key(run *run, const char *bytes, size_t count) {
     return taken;
 }
 
-/* Hands in what was typed, in order. What comes after the key that opens the editor, or ends the session, is dropped. */
+/* Hands in what was typed, in order. What comes after the key that opens the editor, or ends the session, is dropped. What comes after the
+ * one that opens the pager is for that. */
 static void hear(run *run, const char *bytes, size_t count) {
-    for (size_t heard = 0; heard < count && gabro_stage(run->session) == GABRO_WAITING;) {
+    size_t heard = 0;
+    while (heard < count && !run->pager.is_open && gabro_stage(run->session) == GABRO_WAITING) {
         heard += hear_to_key(run, bytes + heard, count - heard);
+    }
+    if (run->pager.is_open) {
+        hear_in_pager(run, bytes + heard, count - heard);
     }
     while (gabro_stage(run->session) == GABRO_EDITING && !run->error) {
         edit_message(run);
+    }
+}
+
+/* Hears a silence: what was cut off is a key of its own. */
+static void hear_silence(run *run) {
+    if (run->pager.is_open) {
+        hand_to_pager(run);
+    } else {
+        gabro_idle(run->session);
     }
 }
 
@@ -589,10 +664,10 @@ static void take_turns(run *run) {
             }
             hear(run, bytes, (size_t)count);
             tell_change(run);
-            is_drawn = is_cut = bytes[count - 1] == ESC;
+            is_drawn = is_cut = bytes[count - 1] == ESC || run->held.length > 0;
             was_silent = false;
         } else if (is_silent) {
-            gabro_idle(run->session);
+            hear_silence(run);
             tell_change(run);
             tell_rest(run);
             is_drawn = is_drawn && !is_cut;
@@ -627,6 +702,7 @@ static int run_alone(run *run) {
     forget_failed_check();
     forget_signals();
     free(run->frame.bytes);
+    free(run->held.bytes);
     errno = run->error;
     return ended_by ? ended_by : run->error ? -1 : 0;
 }

@@ -21,7 +21,7 @@ use std::alloc::Global;
 ///
 /// # Errors
 /// The code of the failure: `CLOSED`, or `NOT_NOW` if the session has no state to ask.
-pub(crate) fn state_of(session: &Session) -> Result<&RecordState<'static>, u32>
+pub fn state_of(session: &Session) -> Result<&RecordState<'static>, u32>
     ensures state { MatchResult result (λ state. asked_state (box_value session.now) ≡ Ok state.now)
         (λ code. asked_state (box_value session.now) ≡ Err code) }
     ensures fails { IfErr result (λ code. 0 < code) }

@@ -22,6 +22,7 @@ from ._library import (
     open_library, path_fault, tree_shown, tree_side, version, words,
 )
 from ._merge import MergeLine, marked_bytes, merge_texts, merged_bytes, open_conflicts
+from ._pager import Pager
 from ._session import Session
 from ._values import (
     ENDS, FOLDS, OWNERS, THEMES, Cell, Colour, Contents, Dialog, Folds, Item, Key, Mark, Path, Side, Stage, Text, Theme,
@@ -37,7 +38,7 @@ UNCHECKED, PARTLY, CHECKED = Mark.UNCHECKED, Mark.PARTLY, Mark.CHECKED
 __all__ = [
     "ABSENT", "ACCEPTED", "BINARY", "BUILDING", "BY_ITEMS", "BY_LINES", "BY_ONE_ITEM", "CHECKED", "CODES", "Cell", "Colour",
     "Contents", "Dialog", "EDITING", "ENDED", "ENDS", "Error", "FOLDS", "Folds", "InTree", "Item", "Key", "Mark", "MergeLine", "NONE",
-    "NO_INDEX", "OF_NEW", "OF_OLD", "OF_SIDE", "OWNERS", "PARTLY", "PATH_FAULTS", "Path", "Session", "Shown", "Side", "Stage",
+    "NO_INDEX", "OF_NEW", "OF_OLD", "OF_SIDE", "OWNERS", "PARTLY", "PATH_FAULTS", "Pager", "Path", "Session", "Shown", "Side", "Stage",
     "TEXT", "THEMES", "Text", "Theme", "UNCHANGED", "UNCHECKED", "WAITING", "__version__", "decide", "library", "marked_bytes",
     "merge_texts", "merged_bytes", "open_conflicts", "open_library", "path_fault", "tree_shown", "tree_side", "words",
 ]

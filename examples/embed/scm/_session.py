@@ -9,6 +9,7 @@ from typing import Dict, Iterable, Iterator, List, Optional, Tuple, Union
 
 from ._library import NO_INDEX, CellOfC, Error, Handle, KeyOfC, ScreenInfo, SideInfo, call, check
 from ._merge import merge_texts
+from ._pager import Pager
 from ._values import (
     ENDS, OWNERS, Cell, Colour, Contents, Dialog, Folds, Item, Key, Mark, Path, Side, Stage, Text, Theme, bytes_of, bytes_of_path, member_of,
     shown_path,
@@ -392,6 +393,10 @@ class Session:
     def side_bytes(self, file: int, is_selected: bool = True) -> bytes:
         """Returns the bytes of a side, in which no two lines are joined: the file to write of one that `add_texts` added."""
         return self._read("side_bytes", file, is_selected)
+
+    def pager(self, file: int, is_selected: bool = True) -> Pager:
+        """Returns a pager at the top of a file: on the side that accepting now would write, or on the other one."""
+        return Pager(self, file, is_selected)
 
     def mark(self, file: int, section: int = NO_INDEX, line: int = NO_INDEX) -> Mark:
         """Returns the mark of a file, of a section in it, or of a line in that."""
