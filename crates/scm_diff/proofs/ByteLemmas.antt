@@ -11,7 +11,7 @@ use Rattle.std.proofs.lemmas.List.Concat.{flat_map-append}
 use Rattle.std.proofs.lemmas.List.Elements.{filter-append}
 use Rattle.std.proofs.lemmas.List.Folds.{list_any-append}
 use Rattle.std.proofs.lemmas.Str.{IsCharBoundary-from_take, IsUtf8-drop, IsUtf8-encode, IsUtf8-from_ascii, IsUtf8-from_is_utf8, IsUtf8-nil, chars-IsAscii, chars-append, chars-nil, chars_past_char, encodes-chars, inside_one, is_utf8-from_IsUtf8, len_utf8_bounds, length-encode}
-use Rattle.scm_diff.specs.Bytes.{IsPiece, bytes_of_char, bytes_of_text, is_plain, is_reserved, plain_len, reserved_char, text_after, text_of_bytes}
+use Rattle.scm_diff.specs.Bytes.{IsPiece, bytes_of_char, bytes_of_text, has_high, is_plain, is_reserved, plain_len, reserved_char, text_after, text_of_bytes}
 
 -- ---- tests
 
@@ -26,6 +26,27 @@ or-both false b e = (refl, e)
 not-true : (a : Bool) → not a ≡ true → a ≡ false
 not-true true e = cc
 not-true false e = refl
+
+-- a text without such a byte is ASCII
+low : (bs : List ℕ) → has_high bs ≡ false → IsAscii bs
+low [] e i = omega arith
+low (b ∷ bs) e zero = let here = (or-both (nat_le 128 b) (has_high bs) e).0 in grind (arith, nat_tests)
+low (b ∷ bs) e (suc i) = low bs (or-both (nat_le 128 b) (has_high bs) e).1 i
+
+not-reserved : (b : ℕ) → b < 128 → is_reserved b ≡ false
+not-reserved b h = ap (λ (t : Bool). t && nat_le b 0xE00FF) (not-high (nat_le 0xE0080 b) refl)
+  where
+    not-high : (t : Bool) → nat_le 0xE0080 b ≡ t → t ≡ false
+    not-high true e = grind (arith, nat_tests)
+    not-high false e = refl
+
+low-chars : (bs : List ℕ) → IsAscii bs → list_any is_reserved bs ≡ false
+low-chars [] h = refl
+low-chars (b ∷ bs) h = rw (not-reserved b (h 0)) (low-chars bs (λ (i : ℕ). h (suc i)))
+
+-- so it has no reserved character
+pub low-plain : (bs : List ℕ) → has_high bs ≡ false → list_any is_reserved (chars bs) ≡ false
+low-plain bs e = let ascii = low bs e in rw (chars-IsAscii bs ascii) (low-chars bs ascii)
 
 -- what a plain text is
 pub plain-utf8 : (bs : List ℕ) → is_plain bs ≡ true → IsUtf8 bs

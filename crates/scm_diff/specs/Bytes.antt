@@ -50,6 +50,10 @@ bytes_of_text text = flat_map bytes_of_char (chars text)
 abbrev pub side_bytes : Bool → File → List ℕ
 side_bytes selected file = bytes_of_text (side_text selected file)
 
+-- whether a byte is none of ASCII
+abbrev pub has_high : List ℕ → Bool
+has_high bs = list_any (λ b. nat_le 128 b) bs
+
 -- whether the bytes have a NUL, as those of files that are no text have
 abbrev pub has_nul : List ℕ → Bool
 has_nul bs = list_any (λ b. b == 0) bs

@@ -2,7 +2,7 @@
 ghost use Rattle.std.specs.Prelude.{◌≡◌, ◌+◌, ◌<◌, ◌≤◌, ◌++◌, IfNone, IfOk, IfSome, OnOk, drop, false, length, string_bytes, take, true};
 ghost use Rattle.std.specs.List.{list_any};
 ghost use Rattle.std.specs.Str.{chars};
-ghost use Rattle.scm_diff.specs.Bytes.{IsPiece, bytes_of_char, bytes_of_text, has_nul, is_plain, is_reserved, plain_len, reserved_char, side_bytes, text_of_bytes};
+ghost use Rattle.scm_diff.specs.Bytes.{IsPiece, bytes_of_char, bytes_of_text, has_high, has_nul, is_plain, is_reserved, plain_len, reserved_char, side_bytes, text_of_bytes};
 
 use crate::sides::side_text;
 use scm_types::{File, OwnedText};
@@ -17,11 +17,29 @@ fn is_reserved(c: char) -> bool
     (0x000E_0080 <= code) & (code <= 0x000E_00FF)
 }
 
-/// Returns whether the text has a reserved character.
-fn has_reserved(text: &str) -> bool
+/// Returns whether a byte is none of ASCII.
+fn has_high(bytes: &[u8]) -> bool
+    ensures { result ≡ has_high bytes.now }
+{
+    bytes.iter().any(|byte| 128 <= *byte)
+}
+
+/// Returns whether a character of the text is reserved.
+fn is_any_reserved(text: &str) -> bool
     ensures { result ≡ list_any is_reserved (chars text.now) }
 {
     text.chars().any(|c| is_reserved(c))
+}
+
+/// Returns whether the text has a reserved character. Of ASCII, as most texts are, only the bytes are read.
+fn has_reserved(text: &str) -> bool
+    ensures { result ≡ list_any is_reserved (chars text.now) }
+{
+    if has_high(text.as_bytes()) {
+        is_any_reserved(text)
+    } else {
+        false
+    }
 }
 
 /// Returns the reserved character of `byte`.
@@ -156,16 +174,6 @@ pub fn text_of_bytes(alloc: Global, bytes: &[u8]) -> Result<OwnedText, AllocErro
     Ok(OwnedText::from(text))
 }
 
-/// Adds the bytes of `piece` at the end of `bytes`.
-fn push_bytes(bytes: &mut Vec<u8>, piece: &[u8]) -> Result<(), AllocError>
-    ensures { OnOk result (bytes.new.items ≡ bytes.old.items ++ piece.now) }
-{
-    for byte in piece {
-        bytes.push(*byte)?;
-    }
-    Ok(())
-}
-
 /// Adds the bytes that the character stands for at the end of `bytes`.
 fn push_char(bytes: &mut Vec<u8>, c: char) -> Result<(), AllocError>
     ensures { OnOk result (bytes.new.items ≡ bytes.old.items ++ bytes_of_char c) }
@@ -177,7 +185,7 @@ fn push_char(bytes: &mut Vec<u8>, c: char) -> Result<(), AllocError>
     } else {
         let mut room = [0u8; 4];
         let piece = c.encode_utf8(&mut room);
-        push_bytes(bytes, piece.as_bytes())
+        bytes.extend_from_slice(piece.as_bytes())
     }
 }
 
@@ -205,7 +213,7 @@ pub fn bytes_of_text(alloc: Global, text: &str) -> Result<Vec<u8>, AllocError>
         return Ok(decoded);
     }
     let mut bytes = Vec::with_capacity(alloc, text.len())?;
-    push_bytes(&mut bytes, text.as_bytes())?;
+    bytes.extend_from_slice(text.as_bytes())?;
     Ok(bytes)
 }
 

@@ -10,3 +10,5 @@ pub mod LawLemmas
 pub mod PageLemmas
 -- events after events
 pub mod HeardLemmas
+-- how many lines there are
+pub mod CountLemmas

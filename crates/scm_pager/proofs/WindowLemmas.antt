@@ -43,7 +43,7 @@ count-line w x = steps (nat_lt 0 w.before) (nat_lt (length w.rows) w.height)
     steps false true = refl
     steps false false = refl
 
-count-lines : (w : Shown) (xs : List SideLine) (n : ℕ) → w.count ≡ capped n → (after_all_lines w xs).count ≡ capped (n + length xs)
+pub count-lines : (w : Shown) (xs : List SideLine) (n : ℕ) → w.count ≡ capped n → (after_all_lines w xs).count ≡ capped (n + length xs)
 count-lines w [] n e = let all : n ≡ n + 0 = omega arith in e ∙ ap capped all
 count-lines w (x ∷ xs) n e =
     let next : (after_line w x).count ≡ capped (n + 1) = rw (count-line w x, e) (omega arith) in

@@ -4,6 +4,8 @@ pub mod Sides
 pub mod WindowView
 -- windows of lines
 pub mod Windows
+-- how many lines there are
+pub mod Counts
 -- the key table
 pub mod Keys
 -- where keys take a pager

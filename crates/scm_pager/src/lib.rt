@@ -5,6 +5,7 @@
 #![tactic(auto)]
 
 mod bytes;
+mod counts;
 mod draw;
 mod keys;
 pub mod laws;

@@ -65,15 +65,19 @@ impl<'s> Window<'s> {
 }
 
 impl<'s> Window<'s> {
-    /// Takes `line`, the next one of the side.
-    fn offer(&mut self, line: SideLine<'s>) -> Result<(), AllocError>
-        ensures { OnOk result (self.new ≡ after_line self.old line.entry) }
+    /// Takes the next line of the side: its text, and whether it is there by a mark.
+    fn offer(&mut self, text: &'s Text<'_>, is_marked: bool) -> Result<(), AllocError>
+        ensures { OnOk result (self.new
+            ≡ after_line self.old (record { text = text.now; is_marked = is_marked })) }
     {
         self.count = self.count.saturating_add(1);
         if 0 < self.before {
             self.before -= 1;
         } else if self.rows.len() < self.height {
-            self.rows.push(line)?;
+            self.rows.push(SideLine {
+                text: text.borrowed(),
+                is_marked,
+            })?;
         }
         Ok(())
     }
@@ -83,10 +87,7 @@ impl<'s> Window<'s> {
         ensures { OnOk result (self.new ≡ after_all_lines self.old (map context_line lines.now)) }
     {
         for line in lines {
-            self.offer(SideLine {
-                text: line.borrowed(),
-                is_marked: false,
-            })?;
+            self.offer(line, false)?;
         }
         Ok(())
     }
@@ -102,10 +103,7 @@ impl<'s> Window<'s> {
     {
         for line in lines {
             if takes(line, selected) {
-                self.offer(SideLine {
-                    text: line.line.borrowed(),
-                    is_marked: line.is_checked,
-                })?;
+                self.offer(&line.line, line.is_checked)?;
             }
         }
         Ok(())
@@ -113,7 +111,7 @@ impl<'s> Window<'s> {
 }
 
 /// Returns whether the selected side, or the other one, has `line`.
-fn takes(line: &SectionChangedLine<'_>, selected: bool) -> bool
+pub(crate) fn takes(line: &SectionChangedLine<'_>, selected: bool) -> bool
     ensures { result ≡ takes selected line.now }
 {
     match line.change_type {

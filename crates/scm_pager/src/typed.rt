@@ -3,7 +3,7 @@ ghost use Rattle.std.specs.Prelude.{◌≡◌, IfErr, IfOk, false, true};
 ghost use Rattle.scm_pager.specs.Heard.{IsTyped, count_on, counts_of, heard, heard_all};
 ghost use Rattle.scm_errors.specs.declared.error.RecordError.TheVariants.{OutOfMemory};
 
-use crate::lines::window_of;
+use crate::counts::line_count;
 use crate::pager::Pager;
 use scm_errors::RecordError;
 use scm_input::TerminalEvent;
@@ -21,13 +21,13 @@ pub(crate) struct SideCounts {
 }
 
 /// Returns how many lines each side of `file` has.
-fn counts_of(alloc: Global, file: &File<'_>) -> Result<SideCounts, RecordError>
-    ensures ok { IfOk result (λ counts. counts ≡ counts_of file.now) }
-    ensures err { IfErr result (λ e. e ≡ OutOfMemory) }
+fn counts_of(file: &File<'_>) -> SideCounts
+    ensures { result ≡ counts_of file.now }
 {
-    let selected = window_of(alloc, file, true, 0, 0)?.count();
-    let other = window_of(alloc, file, false, 0, 0)?.count();
-    Ok(SideCounts { selected, other })
+    SideCounts {
+        selected: line_count(file, true),
+        other: line_count(file, false),
+    }
 }
 
 impl SideCounts {
@@ -88,7 +88,7 @@ pub fn hear(
     ensures ok { IfOk result (λ next. IsTyped pager file.now bytes.now width height next) }
     ensures err { IfErr result (λ e. e ≡ OutOfMemory) }
 {
-    let counts = counts_of(alloc, file)?;
+    let counts = counts_of(file);
     let mut decoder = Decoder::new();
     let found = decoder.decode(alloc, bytes)?;
     let pager = pager.hear_all(found.as_slice(), counts, width, height);

@@ -13,8 +13,8 @@ returns-in-None-clause-ok c = record {
   adds = c.in_ok-found.ensures.ok;
   last = None;
   rests = c.in-None.ensures;
-  is_next = found-heard c.in_ok-counts.counts (counts_of c.args.file.now) c.args.width c.args.height c.args.pager c.as_slice.result.now
-      c.in_ok-found.found.items c.in_ok-counts.ensures.ok c.as_slice.ensures.value c.hear_all-pager.result c.hear_all-pager.ensures;
+  is_next = found-heard c.counts_of-counts.result (counts_of c.args.file.now) c.args.width c.args.height c.args.pager c.as_slice.result.now
+      c.in_ok-found.found.items c.counts_of-counts.ensures c.as_slice.ensures.value c.hear_all-pager.result c.hear_all-pager.ensures;
 }
 
 pub returns-clause-ok : goal.returns-clause-ok
@@ -27,7 +27,7 @@ returns-clause-ok c = record {
   adds = c.in_ok-found.ensures.ok;
   last = Some c.in-Some.event;
   rests = c.in-Some.ensures;
-  is_next = silence-heard c.in_ok-counts.counts (counts_of c.args.file.now) c.args.width c.args.height c.args.pager c.as_slice.result.now
-      c.in_ok-found.found.items c.in_ok-counts.ensures.ok c.as_slice.ensures.value c.in-Some.event c.hear_all-pager.result c.hear_all.result
+  is_next = silence-heard c.counts_of-counts.result (counts_of c.args.file.now) c.args.width c.args.height c.args.pager c.as_slice.result.now
+      c.in_ok-found.found.items c.counts_of-counts.ensures c.as_slice.ensures.value c.in-Some.event c.hear_all-pager.result c.hear_all.result
       c.hear_all-pager.ensures c.hear_all.ensures;
 }
