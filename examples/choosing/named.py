@@ -21,13 +21,24 @@ def find(name, folder):
         return None
 
 
-def is_trusted(folder, found):
+def is_trusted(folder, found, is_foreign=False):
     """Whether what lies in an open folder is this user's, or the folder's owner's, or nobody else may put something there. So the kernel looks
     at links, if it is told to (fs.protected_symlinks), but only where a sticky bit is. Without that bit, only a file may be another's: who may
-    write to the folder may replace it, and it leads nowhere."""
-    around = os.fstat(folder)
-    is_shared = around.st_mode & 0o022 and (around.st_mode & stat.S_ISVTX or not stat.S_ISREG(found.st_mode))
-    return not is_shared or found.st_uid in (os.geteuid(), around.st_uid)
+    write to the folder may replace it, and it leads nowhere. In a folder that `is_foreign` its owner counts as any other user. A second name of
+    what is no file may have been given by another user, too."""
+    around, is_file = os.fstat(folder), stat.S_ISREG(found.st_mode)
+    is_shared, is_sticky = around.st_mode & 0o022, around.st_mode & stat.S_ISVTX
+    if not (is_shared and (is_sticky or not is_file)) and not (is_foreign and not is_file):
+        return True
+    owners = (os.geteuid(),) if is_foreign else (os.geteuid(), around.st_uid)
+    return found.st_uid in owners and not (is_shared and is_sticky and not is_file and found.st_nlink > 1)
+
+
+def can_be_foreign(around, inner, is_up):
+    """Whether another user may have put the folder `inner` into the folder `around`, or, if a way goes up from `inner`, may have moved that into
+    `around`. Both are what fstat says of a folder."""
+    come, left = (around, inner) if is_up else (inner, around)
+    return (is_up or around.st_mode & 0o022) and come.st_uid not in (0, os.geteuid(), left.st_uid)
 
 
 def is_of_processes(folder):
@@ -45,7 +56,8 @@ class Named:
 
     def __init__(self, path, is_to_be_read=False):
         self.asked, self.left, self.links, self.name = path, path.split("/")[::-1], 0, None
-        self.is_to_be_read = is_to_be_read
+        # whether another user may have put there the folder `at`, or one around it
+        self.is_to_be_read, self.is_foreign = is_to_be_read, False
         self.at, self.parts = os.open(os.curdir, IS_ON_THE_WAY), [part for part in os.getcwd().split("/") if part]
         if os.path.isabs(path):
             self.begin()
@@ -76,8 +88,14 @@ class Named:
             at = os.open(path, IS_ON_THE_WAY | os.O_NOFOLLOW, **below)
         except OSError as error:
             raise OSError(error.errno, error.strerror, "/" + "/".join(parts)) from None
-        os.close(self.at)
-        self.at, self.parts = at, parts
+        before, self.at, self.parts = self.at, at, parts
+        with closing(before):
+            self.is_foreign = bool(below) and (self.is_foreign or self.goes_astray(before, path == os.pardir))
+
+    def goes_astray(self, before, is_up):
+        """Whether another user may have put the folder `at` there, to which the way came from the open folder `before`."""
+        found, left = os.fstat(self.at), os.fstat(before)
+        return can_be_foreign(*((found, left) if is_up else (left, found)), is_up)
 
     def begin(self):
         self.go("/", [])
@@ -103,7 +121,7 @@ class Named:
 
     def check(self, found):
         """Stops if what was found in the folder, and is no folder, is not to be used."""
-        if not is_trusted(self.at, found):
+        if not is_trusted(self.at, found, self.is_foreign):
             raise Stop(IS_OF_ANOTHER % shown(self.asked))
 
     def read_link(self, name):

@@ -22,22 +22,34 @@ typedef struct walk {
     int links;
     bool is_to_be_read; /* what is found: then a file of another user will do */
     bool is_led;        /* by a link of another user than this one and root */
+    bool is_foreign;    /* another user may have put here the folder that it came to, or one around it */
 } walk;
 
-/* Returns whether what is in a folder is the user's, or the folder's owner's, or nobody else may put something there. So the kernel looks
- * at links, if it is told to (fs.protected_symlinks), but only where a sticky bit is. Without that bit, only a file may be another's: who may
- * write to the folder may replace it, and it leads nowhere. */
-static bool is_trusted(int folder, const struct stat *status) {
+/* Returns whether what is in the folder of a walk is the user's, or the folder's owner's, or nobody else may put something there. So the kernel
+ * looks at links, if it is told to (fs.protected_symlinks), but only where a sticky bit is. Without that bit, only a file may be another's: who
+ * may write to the folder may replace it, and it leads nowhere. In a folder that another user may have put there, its owner counts as any other
+ * user. A second name of a link or of a pipe may have been given by another user, too. */
+static bool is_trusted(const walk *walk, const struct stat *status) {
     struct stat around;
-    bool is_known = fstat(folder, &around) == 0;
-    bool is_shared = is_known && (around.st_mode & OTHERS_MAY_WRITE) && ((around.st_mode & S_ISVTX) || !S_ISREG(status->st_mode));
-    bool is_own = is_known && (!is_shared || status->st_uid == geteuid() || status->st_uid == around.st_uid);
+    bool is_known = fstat(walk->folder, &around) == 0, is_file = S_ISREG(status->st_mode);
+    bool is_shared = is_known && (around.st_mode & OTHERS_MAY_WRITE), is_sticky = around.st_mode & S_ISVTX;
+    bool is_anyones = (is_shared && (is_sticky || !is_file)) || (walk->is_foreign && !is_file);
+    bool is_of_owner = is_known && !walk->is_foreign && status->st_uid == around.st_uid;
+    bool has_more_names = is_shared && is_sticky && !is_file && status->st_nlink > 1;
+    bool is_own = is_known && (!is_anyones || ((status->st_uid == geteuid() || is_of_owner) && !has_more_names));
     errno = is_known && !is_own ? OF_ANOTHER : errno;
     return is_own;
 }
 
 /* Returns whether something is this user's or root's. */
 static bool is_own(const struct stat *status) { return status->st_uid == 0 || status->st_uid == geteuid(); }
+
+/* Returns whether another user may have put the folder `inner` into the folder `around`, or, if the walk goes up from `inner`, may have moved
+ * that into `around`. */
+static bool can_be_foreign(const struct stat *around, const struct stat *inner, bool is_up) {
+    const struct stat *next = is_up ? around : inner, *before = is_up ? inner : around;
+    return (is_up || (around->st_mode & OTHERS_MAY_WRITE)) && !is_own(next) && next->st_uid != before->st_uid;
+}
 
 /* Goes on in another folder. Returns whether it is open. */
 static bool enter(walk *walk, int folder) {
@@ -60,8 +72,19 @@ static size_t take_off(walk *walk, size_t length) {
 
 /* Begins at the root, if the path does. */
 static bool begin(walk *walk) {
-    bool is_absolute = take_off(walk, 0) > 0;
-    return (walk->folder >= 0 && !is_absolute) || enter(walk, open(is_absolute ? "/" : ".", O_PATH | O_DIRECTORY | O_CLOEXEC));
+    bool is_absolute = take_off(walk, 0) > 0, goes_on = walk->folder >= 0 && !is_absolute;
+    walk->is_foreign = goes_on && walk->is_foreign;
+    return goes_on || enter(walk, open(is_absolute ? "/" : ".", O_PATH | O_DIRECTORY | O_CLOEXEC));
+}
+
+/* Goes on in the folder `name`, or in the one around. */
+static bool enter_named(walk *walk, const char *name) {
+    struct stat before, next;
+    int folder = openat(walk->folder, name, O_PATH | O_DIRECTORY | O_NOFOLLOW | O_CLOEXEC);
+    bool is_up = !strcmp(name, "..");
+    bool is_known = folder >= 0 && fstat(walk->folder, &before) == 0 && fstat(folder, &next) == 0;
+    walk->is_foreign = walk->is_foreign || (is_known && can_be_foreign(is_up ? &next : &before, is_up ? &before : &next, is_up));
+    return enter(walk, folder) && is_known;
 }
 
 /* Puts the target of a link that is open before the rest of the path. */
@@ -88,7 +111,7 @@ static bool follow_link(walk *walk, const char *name, bool is_last) {
     int opened = openat(walk->folder, name, O_PATH | O_NOFOLLOW | O_CLOEXEC);
     bool is_known = opened >= 0 && fstat(opened, &status) == 0;
     walk->is_led = walk->is_led || (is_known && !is_own(&status));
-    bool is_followed = is_known && is_trusted(walk->folder, &status) && put_target(walk, opened, is_last);
+    bool is_followed = is_known && is_trusted(walk, &status) && put_target(walk, opened, is_last);
     int error = errno;
     if (opened >= 0) {
         close(opened);
@@ -128,12 +151,12 @@ static bool step(walk *walk, target *target, bool *is_found) {
     *is_found = is_last && (!is_there ? errno == ENOENT : !S_ISLNK(status->st_mode) || is_of_processes(walk->folder));
     if (*is_found || !is_there) {
         bool is_any = !is_there || S_ISDIR(status->st_mode) || walk->is_to_be_read;
-        return *is_found && (is_any || is_trusted(walk->folder, status));
+        return *is_found && (is_any || is_trusted(walk, status));
     }
     if (S_ISLNK(status->st_mode)) {
         return follow_link(walk, target->name, is_last);
     }
-    return enter(walk, openat(walk->folder, target->name, O_PATH | O_DIRECTORY | O_NOFOLLOW | O_CLOEXEC));
+    return enter_named(walk, target->name);
 }
 
 /* Finds what a path names, for a walk that is to begin. */
@@ -160,14 +183,28 @@ bool find_target(const char *path, target *target) {
     return find(&walk, path, target);
 }
 
+/* Opens what was found, to be read. It waits for a pipe only if one was found. Sets errno to ESTALE if something of another kind came there
+ * since. */
+static int open_found_file(const target *target) {
+    struct stat now;
+    mode_t kind = target->status.st_mode & S_IFMT;
+    int how = kind == S_IFLNK ? 0 : kind == S_IFREG ? O_NOFOLLOW | O_NONBLOCK : O_NOFOLLOW;
+    int file = openat(target->folder, target->name, O_RDONLY | O_NOCTTY | O_CLOEXEC | how);
+    bool is_other = file >= 0 && kind == S_IFREG && (fstat(file, &now) != 0 || !S_ISREG(now.st_mode));
+    if (is_other) {
+        close(file);
+        errno = ESTALE;
+    }
+    return is_other ? -1 : file;
+}
+
 int open_named_file(const char *path) {
     walk walk = {.folder = -1, .is_to_be_read = true};
     target target;
     if (!find(&walk, path, &target)) {
         return -1;
     }
-    bool is_link = S_ISLNK(target.status.st_mode);
-    int file = openat(target.folder, target.name, O_RDONLY | O_NOCTTY | O_CLOEXEC | (is_link ? 0 : O_NOFOLLOW)), error = errno;
+    int file = open_found_file(&target), error = errno;
     close(target.folder);
     errno = error;
     return file;

@@ -13,8 +13,8 @@ typedef struct target {
     struct stat status; /* all zeros if nothing is there; of no link but one of /proc, which leads to what is open */
 } target;
 
-/* Finds what a path names. Follows no link that another user put into a folder in which all may put theirs, and finds no file or pipe of
- * such a user there. Returns false with errno set if that fails, to OF_ANOTHER for what it does not follow; nothing is open then. */
+/* Finds what a path names. Follows no link that another user put into a folder in which others may put theirs, or into a folder that they put
+ * there, and finds no file or pipe of such a user there. Returns false with errno set if that fails, to OF_ANOTHER for what it does not follow; nothing is open then. */
 bool find_target(const char *path, target *target);
 
 /* Opens the file that a path names, to be read. Follows no such link either, but the file may be another user's. Returns -1 with errno set

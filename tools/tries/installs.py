@@ -179,11 +179,16 @@ def a_prefix_behind_a_link(place):
     for name in "last", "around":
         os.chown(os.path.join(shared, name), NOBODY, NOBODY, follow_symlinks=False)
     tops, ends = [os.path.join(shared, path) for path in ("last", "last/new", "around/deep", "around/new/er")], []
+    # a folder of another user, which may be in the place of one of the user's
+    theirs = place.folder("shared/theirs", {"last": ("link", outside)})
+    for path in theirs, theirs + "/last":
+        os.chown(path, NOBODY, NOBODY, follow_symlinks=False)
+    tops += [theirs + "/last", theirs + "/last/new"]
     for mode in 0o1777, 0o775, 0o757:
         os.chmod(shared, mode)
         ends += [call(*words, top) for top in tops for words in ([PLACE, "--from", source], [PLACE, "--try"], [UNINSTALL])]
     is_named = all("a link of another user is on the way to %s/" % shared in said for _, said in ends)
-    is_refused = [status for status, _ in ends] == [2, 2, 1] * 12 and is_named
+    is_refused = [status for status, _ in ends] == [2, 2, 1] * 18 and is_named
     is_refused = is_refused and changed.read(place.top + "/outside") == {"deep/bin/old": b"2\n"}
     os.chown(shared + "/last", 0, 0, follow_symlinks=False)
     is_followed = call(PLACE, "--from", source, shared + "/last/new")[0] == 0 and changed.read(outside + "/new")["bin/new"] == b"1\n"

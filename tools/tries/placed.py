@@ -70,8 +70,12 @@ def behind_links(place, command, outside):
     shared, before = place.folder("shared"), seen(outside)
     os.symlink(outside, shared + "/link")
     os.chown(shared + "/link", NOBODY, NOBODY, follow_symlinks=False)
-    ends = []
-    for mode, path in (0o1777, "/link"), (0o1777, "/link/new"), (0o775, "/link"), (0o775, "/link/new"):
+    # a folder of another user, which may be in the place of one of the user's
+    theirs, ends = place.folder("shared/theirs"), []
+    os.symlink(outside, theirs + "/link")
+    for path in theirs, theirs + "/link":
+        os.chown(path, NOBODY, NOBODY, follow_symlinks=False)
+    for mode, path in ((mode, at + name) for mode in (0o1777, 0o775) for at in ("/link", "/theirs/link") for name in ("", "/new")):
         os.chmod(shared, mode)
         ends.append(subprocess.run(command(shared + path), stdout=subprocess.DEVNULL, stderr=subprocess.PIPE))
     return all(end.returncode == 2 and b"another user" in end.stderr for end in ends) and seen(outside) == before

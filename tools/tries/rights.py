@@ -199,6 +199,73 @@ def links_in_a_folder_of_a_group(place):
     return all(ends) and is_left
 
 
+def folders_of_another_user(place):
+    """Where others may put folders, with a sticky bit or without one, a link in a folder of another user's, or below it, is followed neither to
+    write nor to read, and a pipe there gets nothing: it may be in the place of a folder of the user's. A file there is replaced. A link there of
+    one's own is followed, and one in a folder of another user that nobody else could put there."""
+    if os.geteuid():
+        return NOT_ROOT
+    private, around, ends = place.folder("private", {"x": OLD}), place.folder("around"), []
+    old, new = two(place)
+    theirs = {"link": ("link", private + "/x"), "around": ("link", private), "up": ("link", "."), "below/link": ("link", private + "/x"), "file": OLD}
+    mine = place.folder("around/mine", theirs)
+    os.mkfifo(mine + "/pipe")
+    for path in mine, mine + "/below", *(os.path.join(mine, name) for name in (*theirs, "pipe")):
+        os.chown(path, NOBODY, NOBODY, follow_symlinks=False)
+    held = os.open(mine + "/pipe", os.O_RDWR | os.O_NONBLOCK)
+    for mode in 0o775, 0o1777:
+        os.chmod(around, mode)
+        for name in "link", "around/x", "around/lost", "up/link", "below/link", "below/../link", "pipe":
+            path = os.path.join(mine, name)
+            refused = "%s: it is another user's, in a folder that others may write to\n" % path
+            ends.append(place.call("scm-select", "-o", path, old, new) == (2, "scm-select: " + refused))
+            ends += [refused in place.call("gabrosty-merge-tool", old, old, new, path)[1], name == "pipe" or refused in place.call("scm-select", path, new)[1]]
+        path = mine + "/around"
+        refused = "scm-select: %s: it is another user's, in a folder that others may write to\n" % path
+        ends += [place.call("scm-select", "-d", *words) == (2, refused) for words in ([place.folder("left"), path], [path, place.folder("left")])]
+    is_left = data_of(private + "/x") == OLD and os.listdir(private) == ["x"] and not select.select([held], [], [], 0)[0]
+    os.close(held)
+    ends.append(type_into(place, ["a", "c"], "-o", mine + "/file", old, new)[0] == 0 and data_of(mine + "/file") == NEW)
+    os.symlink(private + "/x", mine + "/own")
+    ends.append(type_into(place, ["a", "c"], "-o", mine + "/own", old, new)[0] == 0 and data_of(private + "/x") == NEW)
+    os.chmod(around, 0o755)
+    ends.append(type_into(place, ["c"], "-o", mine + "/up/link", old, new)[0] == 0 and data_of(private + "/x") == OLD)
+    return all(ends) and is_left
+
+
+def second_names_of_links(place):
+    """In a folder with a sticky bit that all may write to, a link or a pipe of the user's that has a second name is not followed or written
+    to: another user may have given it that name."""
+    folder, private = shared(place), place.folder("private", {"x": OLD})
+    old, new = two(place)
+    os.symlink(private + "/x", place.top + "/own")
+    os.mkfifo(place.top + "/pipe")
+    held, ends = os.open(place.top + "/pipe", os.O_RDWR | os.O_NONBLOCK), []
+    for name in "own", "pipe":
+        path = os.path.join(folder, name)
+        os.link(os.path.join(place.top, name), path, follow_symlinks=False)
+        ends.append(place.call("scm-select", "-o", path, old, new) == (2, "scm-select: %s: it is another user's, in a folder that others may write to\n" % path))
+    is_left = data_of(private + "/x") == OLD and not select.select([held], [], [], 0)[0]
+    os.close(held)
+    os.unlink(place.top + "/own")
+    return all(ends) and is_left and type_into(place, ["a", "c"], "-o", folder + "/own", old, new)[0] == 0 and data_of(private + "/x") == NEW
+
+
+def a_pipe_that_comes_when_a_file_was_found(place):
+    """A pipe that takes the place of a file which is named to be read, when that was looked at, is named, and nothing waits for it."""
+    if not shutil.which("strace"):
+        return "there is no strace"
+    old, new = two(place)
+    os.mkfifo(place.top + "/fifo")
+    slow = ["timeout", "20", "strace", "-o", os.devnull, "-P", "old", "-e", "trace=openat", "-e", "inject=openat:delay_enter=3000000:when=1"]
+    how = {"cwd": place.top, "env": {**os.environ, **place.environment}, "stderr": subprocess.PIPE, "start_new_session": True}
+    merging = subprocess.Popen([*slow, "gabrosty-merge-tool", new, "old", new, "output"], **how)
+    time.sleep(1.5)
+    os.rename(place.top + "/fifo", old)
+    said = merging.communicate()[1].decode()
+    return merging.returncode == 2 and "old: it changed meanwhile\n" in said and not os.path.exists(place.top + "/output")
+
+
 def a_link_that_is_exchanged(place):
     """In a folder of a group, another user's link that takes the place of the user's own, just when that was looked at, is not followed."""
     if os.geteuid() or not shutil.which("strace"):
@@ -649,7 +716,8 @@ def a_handler_that_comes_late(place):
 
 
 ALL = (
-    group_and_list_stay, no_more_for_another_group, lists_that_cannot_be_read, what_another_user_put_there, what_is_read_through_links, links_in_a_folder_of_a_group, a_link_that_is_exchanged, what_takes_the_place_of_output, what_comes_to_the_place_of_an_output, keys_of_another_home, keys_through_links,
+    group_and_list_stay, no_more_for_another_group, lists_that_cannot_be_read, what_another_user_put_there, what_is_read_through_links, links_in_a_folder_of_a_group, folders_of_another_user, second_names_of_links,
+    a_pipe_that_comes_when_a_file_was_found, a_link_that_is_exchanged, what_takes_the_place_of_output, what_comes_to_the_place_of_an_output, keys_of_another_home, keys_through_links,
     signals_while_it_writes, a_signal_before_the_first_step, what_happens_between, names_of_one_file, a_folder_that_is_moved,
     what_a_new_folder_has, another_folder_where_one_was_made, a_deeper_tree, many_small_files, characters_of_both_lists,
     what_another_program_hands_in, marks_that_another_would_read, json_for_a_terminal, folders_in_one_another, a_handler_that_comes_late,

@@ -693,12 +693,12 @@ def what_git_says_beside_its_editor(place):
 FEW = "import compared; compared.MOST_IN_ALL = %d"
 
 
-def edit_patched(place, patch, *words):
-    """Runs the diff editor, of which the statement `patch` changes a part. Returns its status, and all that it wrote."""
+def edit_patched(place, patch, *words, folder=None, **more):
+    """Runs the diff editor in a folder, with more variables, of which the statement `patch` changes a part. Returns its status, and all that it wrote."""
     program, parent = os.path.join(place.prefix, "bin", EDITOR), os.path.join(place.prefix, "lib/gabrosty")
-    environment = {**os.environ, **place.environment, **ACCEPTS, "PARENT": parent}
+    environment = {**os.environ, **place.environment, **ACCEPTS, "PARENT": parent, **more}
     how = {"stdin": subprocess.DEVNULL, "stdout": subprocess.PIPE, "stderr": subprocess.STDOUT, "env": environment}
-    done = subprocess.run([sys.executable, "-I", "-c", PATCHED, program, patch, *words], cwd=place.top, start_new_session=True, **how)
+    done = subprocess.run([sys.executable, "-I", "-c", PATCHED, program, patch, *words], cwd=folder or place.top, start_new_session=True, **how)
     return done.returncode, os.fsdecode(done.stdout)
 
 
@@ -1056,6 +1056,35 @@ def links_where_a_group_may_write(place):
     return all(ends) and is_left
 
 
+def links_in_a_folder_of_another_user(place):
+    """In a folder that another user put into one that a group or all may write to, as in the place of the user's, a link is not followed: not to
+    OUTPUT, LEFT or RIGHT, nor to the file that --marks names. A file there is replaced. Skipped without the right to give files away."""
+    if os.geteuid():
+        return "that needs another user"
+    private, around, ends = place.folder("private", {"x": b"private\n"}), place.folder("around"), []
+    theirs = {"link": ("link", private + "/x"), "around": ("link", private), "file": b"theirs\n", "below/link": ("link", private + "/x")}
+    mine = place.folder("around/mine", theirs)
+    for path in mine, mine + "/below", *(os.path.join(mine, name) for name in theirs):
+        os.chown(path, NOBODY, NOBODY, follow_symlinks=False)
+    left, right = place.folder("left", {"x": b"1\n"}), place.folder("right", {"x": b"2\n"})
+    files, refused = (left + "/x", right + "/x"), "%s: %s: it is another user's, in a folder that others may write to\n"
+    repository = Repository(place, {"a": b"1\n"}, {"a": b"2\n"})
+    for mode in 0o775, 0o1777:
+        os.chmod(around, mode)
+        for path in (os.path.join(mine, name) for name in ("link", "around/x", "below/link", "below/../link")):
+            for given in (["--output", path, *files], [files[0], path], [path, files[1]]):
+                ends.append(editor(place, *given) == (1, refused % (EDITOR, path)))
+            ends.append(select(repository, "--marks", path) == (1, refused % ("git-select", path)))
+        path = mine + "/around"
+        for given in (["--output", path, left, right], [left, path], [path, right]):
+            ends.append(editor(place, *given) == (1, refused % (EDITOR, path)))
+    is_left = (changed.read(private), changed.read(right)) == ({"x": b"private\n"}, {"x": b"2\n"})
+    ends.append(editor(place, "--output", mine + "/file", *files)[0] == 0 and changed.read(mine)["file"] == b"2\n")
+    os.chmod(around, 0o755)
+    ends.append(editor(place, "--output", mine + "/link", *files)[0] == 0 and changed.read(private) == {"x": b"2\n"})
+    return all(ends) and is_left
+
+
 # another user's link takes the place of the user's own, just before that is read
 EXCHANGED = """kept = os.readlink
 def readlink(path, **more):
@@ -1192,6 +1221,6 @@ ALL = (
     links_where_plans_are_kept, a_file_that_changes_unseen, no_home, folders_of_half_a_path,
     a_message_in_another_host, what_an_editor_writes_beside_a_message,
     another_folder_for_temporary_files, a_home_of_another_user, a_plan_where_another_leads, a_state_folder_of_a_clone, a_race_for_a_new_folder,
-    links_of_another_user, links_where_a_group_may_write, a_link_in_time, a_file_of_another_user_in_time, a_spare_folder_that_others_may_read, a_lock_that_is_a_pipe,
+    links_of_another_user, links_where_a_group_may_write, links_in_a_folder_of_another_user, a_link_in_time, a_file_of_another_user_in_time, a_spare_folder_that_others_may_read, a_lock_that_is_a_pipe,
     texts_of_many_megabytes, characters_that_disks_leave_out, a_repository_that_a_clone_tracks,
 )
