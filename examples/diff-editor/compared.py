@@ -101,19 +101,20 @@ def files_in(folder, room, follow=None, name=None):
     return Files(folder.folder, follow, room, folder.open_folder(), name)
 
 
-def target_of(options):
-    """Returns the files that are changed: those of the folder RIGHT or OUTPUT, or of the folder that such a file lies in, with its `name`."""
+def target_of(options, are_folders):
+    """Returns the files that are changed: those of the folder RIGHT or OUTPUT, or of the folder that such a file lies in, with its `name`.
+    `are_folders` is what is_folder said, which is asked once: else another answer would have the folder around RIGHT be changed."""
     path = options.output or options.right
-    if is_folder(options):
+    if are_folders:
         return files_in(folder_at(path), UserRoom(BESIDE), None if options.output else OF_RIGHT)
     folder, name = place_of(path)
     return files_in(folder, UserRoom(WITHIN), name=name)
 
 
-def compared(options, target):
+def compared(options, target, are_folders):
     """Returns the two sides that the options name, and changes the files `target`. Stops if they are not both folders, or both
     files."""
-    if not is_folder(options):
+    if not are_folders:
         return TwoFiles(options, target)
     for path in (options.left, options.right, options.output):
         if path is not None and not is_folder_at(path):

@@ -18,7 +18,7 @@ from choosing.said import say, tell
 from choosing.signals import signals_wait
 from choosing.waiting import counted, waits
 from choosing.words import HalfDone, Stop, printable, shown, version_of
-from compared import compared, target_of
+from compared import compared, is_folder, target_of
 from told import conflict_note, has_conflict, title_of
 
 NOTHING = "nothing was written"
@@ -158,13 +158,14 @@ def check_writable(target):
 
 def edit(options, folder):
     """Shows what differs, puts in place what is chosen, and returns the status. `folder` is for temporary files."""
-    target = target_of(options)
+    are_folders = is_folder(options)
+    target = target_of(options, are_folders)
     if options.mend:
         return mend(target, options.mend)
     is_writing = not options.read_only and not options.dry_run
     if is_writing:
         check_writable(target)
-    sides = compared(options, target)
+    sides = compared(options, target, are_folders)
     changes = read(sides)
     if is_writing and sides.is_copied_back():
         warn_of_added(changes)

@@ -308,6 +308,30 @@ def a_link_that_leads_elsewhere(place):
     return is_said and changed.read(mine) == {"x": b"mine\n"} and changed.read(others) == {"x": b"2\n"}
 
 
+# LEFT and RIGHT are files when RIGHT is looked for, and folders when they are compared
+BECOME_FOLDERS = """import compared
+kept = compared.target_of
+def target_of(options, *more):
+    for name in "left", "right":
+        os.rename(name, "folder of " + name)
+        os.rename("file of " + name, name)
+    target = kept(options, *more)
+    for name in "left", "right":
+        os.rename(name, "file of " + name)
+        os.rename("folder of " + name, name)
+    return target
+compared.target_of = target_of
+"""
+
+
+def files_that_become_folders(place):
+    """Where files are in the places of LEFT and RIGHT for a moment, the folder around RIGHT is neither compared nor changed."""
+    names = {"left/a": b"1\n", "right/a": b"2\n", "file of left": b"x\n", "file of right": b"x\n", "other": b"mine\n"}
+    folder = place.folder("around", names)
+    end = edit_patched(place, BECOME_FOLDERS, "left", "right", folder=folder, ADDS="added\n")
+    return end == (1, EDITOR + ": right is no folder\n") and sorted(changed.read(folder).values()) == sorted(names.values())
+
+
 # a folder that is named becomes a link just when it was looked at
 BECOMES_A_LINK = """sys.path.append(os.environ["PARENT"])
 from choosing import named
@@ -353,6 +377,6 @@ def a_link_in_the_working_tree(place):
 
 ALL = (
     another_repository_meanwhile, another_repository_at_the_start, what_git_leaves_at_work, a_folder_behind_the_last_look, a_folder_that_becomes_a_link,
-    a_repository_of_another_user, a_link_that_leads_elsewhere, a_named_folder_that_becomes_a_link, a_link_in_the_working_tree,
+    a_repository_of_another_user, a_link_that_leads_elsewhere, files_that_become_folders, a_named_folder_that_becomes_a_link, a_link_in_the_working_tree,
     a_file_that_becomes_large, a_link_in_the_tree_of_a_folder, links_where_a_disk_folds_names,
 )
