@@ -3,11 +3,11 @@ use Rattle.std.specs.Prelude.{◌≡◌, ℕ, List, length, Option, Some}
 use Rattle.scm_c_values.specs.Buffers.{over}
 use Rattle.scm_c_values.specs.States.{code_of_found}
 use Rattle.std.specs.Global.{Vec}
-use Rattle.scm_merge_records.specs.declared.markers.LabelBytes.{LabelBytes}
-use Rattle.scm_merge_records.specs.declared.result.Merged.{Merged}
-use Rattle.scm_merge_records.specs.Marked.{IsMergedByMarks}
-use Rattle.scm_merge_records.specs.Records.{ShowsMerge}
-use Rattle.scm_merge_records.specs.WithMarkers.{IsMergedWithMarkers}
+use Rattle.scm_merge.specs.declared.labelled.LabelBytes.{LabelBytes}
+use Rattle.scm_merge.specs.declared.by_marks.Merged.{Merged}
+use Rattle.scm_merge.specs.Marked.{IsMergedByMarks}
+use Rattle.scm_merge.specs.Records.{ShowsMerge}
+use Rattle.scm_merge.specs.WithMarkers.{IsMergedWithMarkers}
 
 -- The records of the merge are written over the buffer, clipped to the buffer's length, and their whole length is told.
 pub record TellsMerge (base ours theirs old new : List ℕ) (told : ℕ) : Type 0 where

@@ -5,7 +5,7 @@ ghost use Rattle.scm_c.specs.Merges.{IsMarkedCode, IsMarkersCode, TellsMarkers, 
 
 use scm_c_values::buffers::write_text;
 use scm_c_values::codes::{DONE, NO_ITEM, NO_MEMORY};
-use scm_merge_records::{LabelBytes, merge_by_marks, merge_records, merge_with_markers};
+use scm_merge::{LabelBytes, merge_by_marks, merge_records, merge_with_markers};
 use std::alloc::Global;
 
 /// Writes to `out` the records of the merge of three files, clipped to the length of `out`, and their whole length to `written`.

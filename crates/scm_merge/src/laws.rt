@@ -4,6 +4,7 @@ ghost use Rattle.std.specs.List.{AllByRecursion, flat_map};
 ghost use Rattle.scm_merge.specs.Laws.{AreToldApart, GivesBytesByChoice, HasBytes, IsClean, IsConflictOfThree, IsTrimmed, ShowsConflicts, all_ours, all_theirs, conflict_count, exchanged, exchanged_region, file_by, ours_first, parts_from, theirs_first};
 ghost use Rattle.scm_merge.specs.Parts.{AreMerged, AreMergedBy, Choice, Part, lines_by, outcomes_from};
 ghost use Rattle.scm_embed.specs.Lines.{lines_of};
+ghost use Rattle.scm_embed.specs.Marked.{marked_file};
 ghost use Rattle.scm_diff.specs.Bytes.{text_of_bytes};
 ghost use Rattle.scm_diff.specs.Change.{unchecked};
 ghost use Rattle.scm_types.specs.Laws.{is_in_side, line_text, lines_of_file};
@@ -254,4 +255,10 @@ pub fn markers_show_the_conflicts(
 /// has at least `least`.
 pub fn markers_are_told_apart(file: &File<'_>, least: usize)
     ensures { AreToldApart least file.now.sections }
+{}
+
+/// Proves that marks change nothing but marks: so what the laws above say of a merge with any marks is true of
+/// the one that is written.
+pub fn marks_change_marks_alone(file: &File<'_>, marks: &[u8])
+    ensures { unchecked (marked_file marks.now file.now) ≡ unchecked file.now }
 {}

@@ -1,7 +1,7 @@
 use Rattle.std.proofs.Common.{List, ℕ, length, Option, ap, ◌∙◌, subst}
 use Rattle.std.specs.Global.{Vec}
 use Rattle.scm_c_values.specs.Buffers.{over}
-use Rattle.scm_merge_records.specs.WithMarkers.{IsMergedWithMarkers}
+use Rattle.scm_merge.specs.WithMarkers.{IsMergedWithMarkers}
 use Rattle.scm_c.proofs.merge_calls.gabro_marked_bytes.Goals as goal
 
 pub returns-in-Some-clause-bytes : goal.returns-in-Some-clause-bytes

@@ -1,7 +1,7 @@
 use Rattle.std.proofs.Common.{List, ℕ, length, Option, ap, ◌∙◌, subst}
 use Rattle.scm_c_values.specs.Buffers.{over}
-use Rattle.scm_merge_records.specs.declared.result.Merged.{Merged}
-use Rattle.scm_merge_records.specs.Marked.{IsMergedByMarks}
+use Rattle.scm_merge.specs.declared.by_marks.Merged.{Merged}
+use Rattle.scm_merge.specs.Marked.{IsMergedByMarks}
 use Rattle.scm_c.proofs.merge_calls.gabro_merged_bytes.Goals as goal
 
 pub returns-in-Some-clause-bytes : goal.returns-in-Some-clause-bytes

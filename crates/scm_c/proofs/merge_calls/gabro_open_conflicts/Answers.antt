@@ -1,6 +1,6 @@
 use Rattle.std.proofs.Common.{Option, refl, subst}
-use Rattle.scm_merge_records.specs.declared.result.Merged.{Merged}
-use Rattle.scm_merge_records.specs.Marked.{IsMergedByMarks}
+use Rattle.scm_merge.specs.declared.by_marks.Merged.{Merged}
+use Rattle.scm_merge.specs.Marked.{IsMergedByMarks}
 use Rattle.scm_c.proofs.merge_calls.gabro_open_conflicts.Goals as goal
 
 pub returns-in-Some-clause-open : goal.returns-in-Some-clause-open

@@ -1,9 +1,9 @@
 //! The file of a state that shows the merge of three files, whatever their bytes are.
 ghost use Rattle.std.specs.Prelude.{◌≡◌, IfOk};
-ghost use Rattle.scm_merge_records.specs.Records.{IsMergeOfTexts, texts_of};
+ghost use Rattle.scm_merge.specs.Records.{IsMergeOfTexts, texts_of};
 
+use crate::merge::merged_file;
 use scm_diff::text_of_bytes;
-use scm_merge::merged_file;
 use scm_types::{File, FileMode, OwnedText, Text};
 use std::alloc::{AllocError, Global};
 

@@ -1,10 +1,11 @@
 //! What marks make of a merge, with markers around each conflict that is open.
 ghost use Rattle.std.specs.Prelude.{◌≡◌, IfOk, false, true};
-ghost use Rattle.scm_merge_records.specs.WithMarkers.{IsLabelled, IsMergedWithMarkers, IsWithMarkers};
+ghost use Rattle.scm_merge.specs.WithMarkers.{IsLabelled, IsMergedWithMarkers, IsWithMarkers};
 
-use crate::merge::{file_of_texts, texts_of};
+use crate::labels::Labels;
+use crate::markers::bytes_with_markers;
+use crate::texts::{file_of_texts, texts_of};
 use scm_embed::{has_items, mark_file};
-use scm_merge::{Labels, bytes_with_markers};
 use scm_types::File;
 use std::alloc::{AllocError, Global};
 
@@ -62,7 +63,7 @@ fn labelled_bytes(
 
 /// Returns what `marks` make of the merge of three files, as [`merge_by_marks`](crate::merge_by_marks)
 /// takes them, with markers of at least `least` signs around each conflict that is open; or `None` if they
-/// are not as many as the items of the conflicts. `scm_merge::bytes_with_markers` has the form of the
+/// are not as many as the items of the conflicts. [`bytes_with_markers`] has the form of the
 /// markers.
 ///
 /// # Errors

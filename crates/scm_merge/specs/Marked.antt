@@ -5,8 +5,8 @@ use Rattle.scm_types.specs.Marks.{file_marks}
 use Rattle.scm_embed.specs.Marked.{marked_file}
 use Rattle.scm_merge.specs.Merge.{merged_bytes}
 use Rattle.scm_merge.specs.Open.{open_conflicts}
-use Rattle.scm_merge_records.specs.declared.result.Merged.{Merged}
-use Rattle.scm_merge_records.specs.Records.{IsMergeOfBytes}
+use Rattle.scm_merge.specs.declared.by_marks.Merged.{Merged}
+use Rattle.scm_merge.specs.Records.{IsMergeOfBytes}
 
 -- whether there are as many marks as items
 abbrev pub is_fit : List ℕ → File → Bool

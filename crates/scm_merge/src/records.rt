@@ -1,9 +1,9 @@
 //! The lines of a merge as records.
 ghost use Rattle.std.specs.Prelude.{◌≡◌, ◌++◌, IfOk, OnOk, map};
 ghost use Rattle.scm_types.specs.declared.line.SectionChangedLine.{SectionChangedLine};
-ghost use Rattle.scm_merge_records.specs.Records.{ShowsMerge, changed_records, context_records, file_records, letter_of, next_of, record_bytes, section_records, seen_after};
+ghost use Rattle.scm_merge.specs.Records.{ShowsMerge, changed_records, context_records, file_records, letter_of, next_of, record_bytes, section_records, seen_after};
 
-use crate::merge::{file_of_texts, texts_of};
+use crate::texts::{file_of_texts, texts_of};
 use scm_types::{File, Section, SectionChangedLine, Text};
 use std::alloc::{AllocError, Global};
 

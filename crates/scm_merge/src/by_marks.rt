@@ -1,10 +1,11 @@
 //! What marks make of a merge.
 ghost use Rattle.std.specs.Prelude.{◌≡◌, IfOk, false, true};
-ghost use Rattle.scm_merge_records.specs.Marked.{IsMergedByMarks, IsMergedFile};
+ghost use Rattle.scm_merge.specs.Marked.{IsMergedByMarks, IsMergedFile};
 
-use crate::merge::{file_of_texts, texts_of};
+use crate::open::open_conflicts;
+use crate::result::merged_bytes;
+use crate::texts::{file_of_texts, texts_of};
 use scm_embed::{has_items, mark_file};
-use scm_merge::{merged_bytes, open_conflicts};
 use scm_types::File;
 use std::alloc::{AllocError, Global};
 

@@ -6,9 +6,9 @@ use Rattle.scm_embed.specs.Marked.{marked_file}
 use Rattle.scm_diff.specs.Bytes.{text_of_bytes}
 use Rattle.scm_merge.specs.declared.labels.Labels.{Labels}
 use Rattle.scm_merge.specs.Markers.{bytes_with_markers}
-use Rattle.scm_merge_records.specs.declared.markers.LabelBytes.{LabelBytes}
-use Rattle.scm_merge_records.specs.Marked.{is_fit}
-use Rattle.scm_merge_records.specs.Records.{IsMergeOfBytes}
+use Rattle.scm_merge.specs.declared.labelled.LabelBytes.{LabelBytes}
+use Rattle.scm_merge.specs.Marked.{is_fit}
+use Rattle.scm_merge.specs.Records.{IsMergeOfBytes}
 
 -- What the marks make of a file, with markers of at least `least` signs, if they are as many as its items.
 abbrev pub IsWithMarkers : ℕ → Labels → List ℕ → File → Option (Vec ℕ) → Type 0

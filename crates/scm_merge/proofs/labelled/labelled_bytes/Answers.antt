@@ -1,6 +1,6 @@
 use Rattle.std.proofs.Common.{◌∙◌, ap}
-use Rattle.scm_merge_records.specs.declared.merge.Texts.{Texts}
-use Rattle.scm_merge_records.proofs.markers.labelled_bytes.Goals as goal
+use Rattle.scm_merge.specs.declared.merge.Texts.{Texts}
+use Rattle.scm_merge.proofs.labelled.labelled_bytes.Goals as goal
 
 pub returns : goal.returns
 returns c = record {
