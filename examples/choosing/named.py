@@ -41,6 +41,23 @@ def can_be_foreign(around, inner, is_up):
     return (is_up or around.st_mode & 0o022) and come.st_uid not in (0, os.geteuid(), left.st_uid)
 
 
+def lies_in_foreign(folder):
+    """Whether another user may have put an open folder where it is, or one around it."""
+    at, is_foreign, is_root = os.open(os.curdir, IS_ON_THE_WAY, dir_fd=folder), False, False
+    try:
+        while not is_foreign and not is_root:
+            above = os.open(os.pardir, IS_ON_THE_WAY, dir_fd=at)
+            with closing(at):
+                inner, around = os.fstat(at), os.fstat(above)
+            at = above
+            is_foreign, is_root = can_be_foreign(around, inner, False), os.path.samestat(inner, around)
+    except OSError:
+        # who may not go further up sees no more
+        pass
+    os.close(at)
+    return bool(is_foreign)
+
+
 def is_of_processes(folder):
     """Whether an open folder is one of /proc: a link there leads to what is open, which may have no name any more."""
     try:
@@ -56,9 +73,10 @@ class Named:
 
     def __init__(self, path, is_to_be_read=False):
         self.asked, self.left, self.links, self.name = path, path.split("/")[::-1], 0, None
-        # whether another user may have put there the folder `at`, or one around it
-        self.is_to_be_read, self.is_foreign = is_to_be_read, False
+        self.is_to_be_read = is_to_be_read
         self.at, self.parts = os.open(os.curdir, IS_ON_THE_WAY), [part for part in os.getcwd().split("/") if part]
+        # whether another user may have put there the folder `at`, or one around it
+        self.is_foreign = not os.path.isabs(path) and lies_in_foreign(self.at)
         if os.path.isabs(path):
             self.begin()
         while self.left:

@@ -51,6 +51,25 @@ static bool can_be_foreign(const struct stat *around, const struct stat *inner, 
     return (is_up || (around->st_mode & OTHERS_MAY_WRITE)) && !is_own(next) && next->st_uid != before->st_uid;
 }
 
+/* Returns whether another user may have put an open folder where it is, or one around it. */
+static bool lies_in_foreign(int folder) {
+    int at = openat(folder, ".", O_PATH | O_DIRECTORY | O_CLOEXEC);
+    bool is_foreign = false, is_root = at < 0;
+    while (!is_foreign && !is_root) {
+        struct stat inner, around;
+        int above = openat(at, "..", O_PATH | O_DIRECTORY | O_CLOEXEC);
+        bool is_known = above >= 0 && fstat(at, &inner) == 0 && fstat(above, &around) == 0;
+        is_root = !is_known || (inner.st_dev == around.st_dev && inner.st_ino == around.st_ino);
+        is_foreign = is_known && can_be_foreign(&around, &inner, false);
+        close(at);
+        at = above;
+    }
+    if (at >= 0) {
+        close(at);
+    }
+    return is_foreign;
+}
+
 /* Goes on in another folder. Returns whether it is open. */
 static bool enter(walk *walk, int folder) {
     int error = errno;
@@ -70,11 +89,15 @@ static size_t take_off(walk *walk, size_t length) {
     return slashes;
 }
 
-/* Begins at the root, if the path does. */
+/* Begins at the root, if the path does, or else in the current folder, unless the walk goes on. */
 static bool begin(walk *walk) {
-    bool is_absolute = take_off(walk, 0) > 0, goes_on = walk->folder >= 0 && !is_absolute;
-    walk->is_foreign = goes_on && walk->is_foreign;
-    return goes_on || enter(walk, open(is_absolute ? "/" : ".", O_PATH | O_DIRECTORY | O_CLOEXEC));
+    bool is_absolute = take_off(walk, 0) > 0;
+    if (walk->folder >= 0 && !is_absolute) {
+        return true;
+    }
+    bool is_open = enter(walk, open(is_absolute ? "/" : ".", O_PATH | O_DIRECTORY | O_CLOEXEC));
+    walk->is_foreign = is_open && !is_absolute && lies_in_foreign(walk->folder);
+    return is_open;
 }
 
 /* Goes on in the folder `name`, or in the one around. */

@@ -223,6 +223,10 @@ def folders_of_another_user(place):
         path = mine + "/around"
         refused = "scm-select: %s: it is another user's, in a folder that others may write to\n" % path
         ends += [place.call("scm-select", "-d", *words) == (2, refused) for words in ([place.folder("left"), path], [path, place.folder("left")])]
+        # the user may have gone there by a name that was the user's
+        for folder, name in (mine, "link"), (mine + "/below", "link"), (mine + "/below", "../link"):
+            refused = "scm-select: %s: it is another user's, in a folder that others may write to\n" % name
+            ends.append(place.call("scm-select", "-o", name, old, new, folder=folder) == (2, refused))
     is_left = data_of(private + "/x") == OLD and os.listdir(private) == ["x"] and not select.select([held], [], [], 0)[0]
     os.close(held)
     ends.append(type_into(place, ["a", "c"], "-o", mine + "/file", old, new)[0] == 0 and data_of(mine + "/file") == NEW)

@@ -1075,6 +1075,10 @@ def links_in_a_folder_of_another_user(place):
             for given in (["--output", path, *files], [files[0], path], [path, files[1]]):
                 ends.append(editor(place, *given) == (1, refused % (EDITOR, path)))
             ends.append(select(repository, "--marks", path) == (1, refused % ("git-select", path)))
+        # the user may have gone there by a name that was the user's
+        for name in "link", "around/x", "below/../link":
+            said = place.call(EDITOR, "--dry-run", name, files[1], folder=mine)
+            ends.append(said == (1, refused % (EDITOR, name)))
         path = mine + "/around"
         for given in (["--output", path, left, right], [left, path], [path, right]):
             ends.append(editor(place, *given) == (1, refused % (EDITOR, path)))
