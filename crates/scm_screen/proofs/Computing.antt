@@ -23,11 +23,13 @@ use Rattle.scm_strips.specs.AreaStrips.{area_section, area_sections, area_file, 
 use Rattle.scm_strips.specs.Parts.{owner_in}
 use Rattle.scm_view.specs.ViewState.{commit_at, file_views_of, section_views_of, are_all_expanded}
 use Rattle.scm_view.specs.Window.{rows_from}
+use Rattle.scm_document.specs.FilesRows.{files_rows}
+use Rattle.scm_screen.specs.DocumentRows.{file_over}
 use Rattle.scm_screen.specs.Beside.{documents_layers, extent_beside, owner_beside, rows_beside, span_beside, window_beside}
 
 -- the rows of documents and where they stand
 unfoldable pub documents : Unit {0}
-unfolding digits commit_at file_views_of section_views_of are_all_expanded shown_file shown_sections section_rows context_rows rows_of_lines file_rows sections_rows area_message area_files area_file area_sections area_section area_pinned documents_layers rows_beside items_strips open_menu_with_column widest_item extent_beside span_beside rows_of_key files_places sections_places rows_places
+unfolding digits commit_at file_views_of section_views_of are_all_expanded shown_file shown_sections section_rows context_rows rows_of_lines file_rows sections_rows area_message area_files area_file area_sections area_section area_pinned documents_layers rows_beside items_strips open_menu_with_column widest_item extent_beside span_beside rows_of_key files_places sections_places rows_places files_rows file_over
 documents = tt
 
 -- the columns of texts

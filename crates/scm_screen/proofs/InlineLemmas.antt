@@ -11,6 +11,7 @@ use Rattle.scm_document.specs.declared.commit_view.CommitViewMode.{CommitViewMod
 use Rattle.scm_document.specs.declared.commit_view.CommitViewMode.TheVariants.{Inline}
 use Rattle.scm_document.specs.DocumentRows.{rows_layers, rows_of_key}
 use Rattle.scm_document.specs.Places.{places}
+use Rattle.scm_document.specs.Rows.{Document}
 use Rattle.scm_overlay.specs.Menus.{menu_layer}
 use Rattle.scm_overlay.specs.Overlays.{quit_layers, help_layers, overlays}
 use Rattle.scm_overlay.specs.Tables.{menus_with}
@@ -23,9 +24,8 @@ use Rattle.scm_screen.specs.Beside.{Placed, documents_in, documents_layers, exte
 
 -- ---- layers
 
-body-same : (w h s : ℕ) (shown : ViewState) → 10 ≤ w → AreSameLayers w (area_layers (whole w) h s (inline_document shown)) (body_layers w h s (inline_document shown))
-body-same w h s shown wide =
-    let d = inline_document shown in
+pub body-same : (w h s : ℕ) (d : Document) → 10 ≤ w → AreSameLayers w (area_layers (whole w) h s d) (body_layers w h s d)
+body-same w h s d wide =
     layers-append w (area_document (whole w) (h - 1) (s + 1) 1 d) (rows_layers w h s d) (area_pinned_layer (whole w) (s + 1) 1 d ∷ []) _
     (document-same w (h - 1) (s + 1) 1 d wide) (pinned_layer-same w (s + 1) 1 d wide, tt)
 
@@ -43,7 +43,14 @@ layers-same w h s shown inline wide =
     let all : documents_layers h s (placed_documents w shown) ≡ area_layers (whole w) h s (inline_document shown) =
     ap (documents_layers h s) (placed w shown inline) ∙ one-document w h s shown in
     subst (λ (ls : List (Layer ComponentId)). AreSameLayers w (ls ++ over) (layers w h s shown)) (sym all)
-    (layers-append w (area_layers (whole w) h s (inline_document shown)) (body_layers w h s (inline_document shown)) over over (body-same w h s shown wide) (layers-self w over))
+    (layers-append w (area_layers (whole w) h s (inline_document shown)) (body_layers w h s (inline_document shown)) over over (body-same w h s (inline_document shown) wide) (layers-self w over))
+
+-- all layers of one commit, at any size
+pub layers-are : (w h s : ℕ) (shown : ViewState) → shown.view_mode ≡ Inline
+    → layers_beside w h s shown ≡ area_layers (whole w) h s (inline_document shown) ++ overlays w h s shown.open_menu shown.quit_dialog shown.is_help_open
+layers-are w h s shown inline =
+    ap (λ (ls : List (Layer ComponentId)). ls ++ overlays w h s shown.open_menu shown.quit_dialog shown.is_help_open)
+    (ap (documents_layers h s) (placed w shown inline) ∙ one-document w h s shown)
 
 -- ---- rows and owners
 

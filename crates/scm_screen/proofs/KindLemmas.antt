@@ -8,7 +8,6 @@ use Rattle.scm_types.specs.declared.line.ChangeType.TheVariants.{Added}
 use Rattle.scm_types.specs.declared.file_mode.FileMode as mode
 use Rattle.scm_types.specs.declared.section.Section.{Section}
 use Rattle.scm_types.specs.declared.section.Section.TheVariants.{Unchanged, Changed, FileMode, Binary}
-use Rattle.scm_rows.specs.declared.row_kind.RowKind.{RowKind}
 use Rattle.scm_rows.specs.declared.row_kind.RowKind.TheVariants as kinds
 use Rattle.scm_rows.specs.declared.section_place.SectionPlace.{SectionPlace}
 use Rattle.scm_rows.specs.declared.section_shape.SectionShape.TheVariants as shapes

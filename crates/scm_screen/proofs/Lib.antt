@@ -1,8 +1,17 @@
 -- The window of one commit.
 pub mod InlineLemmas
+-- What rows of documents show, by their layers.
+mod RowLawLemmas
+-- The rows of a message.
+pub mod MessageLemmas
+-- Rows of the screen, each painted by its number.
+mod EachLemmas
+mod PaintedLemmas
 -- Screens of two commits, computed from the definitions.
 mod Computing
 mod TwoCommits
+-- What rows of a document show, computed from the definitions.
+mod WorkedRows
 -- What each row of a section shows, by its kind.
 mod KindLemmas
 -- The boxes of a section's rows.

@@ -1,8 +1,7 @@
 -- The boxes of a section's rows, by the selected key.
-use Rattle.std.proofs.Common.{◌≡◌, ℕ, ◌+◌, Bool, true, false, ◌&&◌, ◌==◌, nat_eq, nat_lt, refl, sym, ap, ◌∙◌, arith}
-use Rattle.std.specs.Prelude.{if◌then◌else◌, Option, Some, None}
+use Rattle.std.proofs.Common.{◌≡◌, ℕ, ◌+◌, Bool, true, false, ◌&&◌, ◌==◌, nat_eq, nat_lt, refl, sym, arith}
+use Rattle.std.specs.Prelude.{if◌then◌else◌, Some, None}
 use Rattle.std.proofs.lemmas.Bool.Decides.{nat_tests}
-use Rattle.scm_types.specs.declared.keys.LineKey.{LineKey}
 use Rattle.scm_types.specs.declared.keys.SectionKey.{SectionKey}
 use Rattle.scm_types.specs.declared.keys.SelectionKey.{SelectionKey}
 use Rattle.scm_types.specs.declared.keys.SelectionKey.TheVariants as keys
@@ -10,7 +9,6 @@ use Rattle.scm_types.specs.Keys.{has_key, is_key, line_key_of, section_of_line}
 use Rattle.scm_types.specs.declared.tristate.Tristate.TheVariants as tristate
 use Rattle.scm_rows.specs.Heights.{changed_height}
 use Rattle.scm_widgets.specs.Boxes.{is_fold_open, is_some_open}
-use Rattle.scm_document.specs.declared.section_view.SectionSelection.{SectionSelection}
 use Rattle.scm_document.specs.declared.section_view.SectionSelection.TheVariants.{SectionHeader, ChangedLine}
 use Rattle.scm_document.specs.Rows.{is_header_selected, is_line_selected}
 use Rattle.scm_view.specs.ViewState.{ViewState, expand_box_of, section_fold, selected_in}

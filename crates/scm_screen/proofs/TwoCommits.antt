@@ -27,7 +27,7 @@ session files selection expanded = record {
 }
 
 -- a file with one added line
-abbrev one_line : File
+abbrev pub one_line : File
 one_line = record {
   old_path = None;
   path = codes "foo/bar";
@@ -36,7 +36,7 @@ one_line = record {
 }
 
 -- the file of commit k, its section, and the line of that
-abbrev file : ℕ → SelectionKey
+abbrev pub file : ℕ → SelectionKey
 file k = keys.File (record { commit_idx = k; file_idx = 0 })
 
 abbrev section : ℕ → SelectionKey

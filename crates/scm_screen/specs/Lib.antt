@@ -1,3 +1,5 @@
+-- What each row of a document shows.
+pub mod DocumentRows
 -- The window of one commit, and of two beside each other.
 pub mod Beside
 -- Sections by the counts of their files.

@@ -1,5 +1,5 @@
-//! The window of one commit, and of two beside each other: definitions, their laws, and what the rows of files
-//! show.
+//! The window of one commit, and of two beside each other: definitions, their laws, what each row of a document
+//! shows, and its painting.
 #![tactic(auto)]
 
 pub use file_header::shown_header;
