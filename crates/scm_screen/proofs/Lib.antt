@@ -2,6 +2,8 @@
 pub mod InlineLemmas
 -- What rows of documents show, by their layers.
 mod RowLawLemmas
+-- The row of a document that a search finds.
+mod FoundLemmas
 -- The rows of a message.
 pub mod MessageLemmas
 -- Rows of the screen, each painted by its number.

@@ -2,10 +2,12 @@
 //! shows, and its painting.
 #![tactic(auto)]
 
+pub use document_rows::{document_row, pinned_header};
 pub use file_header::shown_header;
 pub use section_rows::{CountedSection, counted_section, has_row, shown_row};
 
 mod boxes;
+mod document_rows;
 mod file_header;
 pub mod laws;
 mod section_rows;
