@@ -9,7 +9,7 @@ use Rattle.scm_types.specs.declared.section.Section.{Section}
 use Rattle.scm_types.specs.declared.section.Section.TheVariants.{Unchanged, Changed, FileMode, Binary}
 use Rattle.scm_diff.specs.Bytes.{text_of_bytes}
 use Rattle.scm_merge.specs.Merge.{IsMerge}
-use Rattle.scm_merge.specs.declared.merge.Texts.{Texts}
+use Rattle.scm_merge.specs.declared.texts.Texts.{Texts}
 
 -- the texts that stand for the bytes of three versions
 abbrev pub texts_of : List ℕ → List ℕ → List ℕ → Texts

@@ -1,5 +1,5 @@
 use Rattle.std.proofs.Common.{◌∙◌, ap}
-use Rattle.scm_merge.specs.declared.merge.Texts.{Texts}
+use Rattle.scm_merge.specs.declared.texts.Texts.{Texts}
 use Rattle.scm_merge.proofs.labelled.labelled_bytes.Goals as goal
 
 pub returns : goal.returns
