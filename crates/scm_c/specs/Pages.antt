@@ -1,5 +1,5 @@
 -- What calls tell of a pager.
-use Rattle.std.specs.Prelude.{◌≡◌, ℕ, List, [], length, Option, Some, None, ⊥, slice_get}
+use Rattle.std.specs.Prelude.{◌≡◌, ℕ, min, List, [], length, Option, Some, None, ⊥, slice_get}
 use Rattle.scm_types.specs.declared.file.File.{File}
 use Rattle.scm_types.specs.declared.state.RecordState.{RecordState}
 use Rattle.scm_terminal.specs.Promise.{Paints}
@@ -13,16 +13,20 @@ use Rattle.scm_pager.specs.Pages.{page_picture}
 abbrev pub file_at : ℕ → RecordState → Option File
 file_at i state = slice_get state.files i
 
+-- The columns or the rows of a page: of a larger terminal 1,000.
+abbrev pub most : ℕ → ℕ
+most length = min length 1000
+
 -- The pager over a file after bytes that a silence follows. Without a file this is false.
 abbrev pub HearsInPager : Option File → Pager → List ℕ → ℕ → ℕ → Pager → Type 0
 HearsInPager None p bytes width height next = ⊥
-HearsInPager (Some file) p bytes width height next = IsTyped p file bytes width height next
+HearsInPager (Some file) p bytes width height next = IsTyped p file bytes (most width) (most height) next
 
 -- Bytes that make a terminal show the pager, whatever it shows before: one synchronized update.
 pub record ShowsPage (p : Pager) (file : File) (width height : ℕ) (update : List ℕ) : Type 0 where
   -- the bytes inside the update
   pub bytes : List ℕ
-  pub paints : Paints width [] (page_picture p file width height) bytes
+  pub paints : Paints (most width) [] (page_picture p file (most width) (most height)) bytes
   pub is : update ≡ as_update bytes
 
 -- Such bytes are written over the buffer, clipped to the buffer's length, and their number is told.

@@ -6,7 +6,7 @@ ghost use Rattle.scm_open_session.specs.Boxes.{box_value};
 ghost use Rattle.scm_open_session.specs.Questions.{asked_state};
 ghost use Rattle.scm_pager.specs.Heard.{IsTyped};
 ghost use Rattle.scm_pager.specs.Moves.{opened};
-ghost use Rattle.scm_c.specs.Pages.{HearsInPager, PaintsPage, ShowsPage, TellsPage, file_at};
+ghost use Rattle.scm_c.specs.Pages.{HearsInPager, PaintsPage, ShowsPage, TellsPage, file_at, most};
 
 use crate::c_session::{CSession, give_back, take};
 use scm_c_values::buffers::write_text;
@@ -17,6 +17,16 @@ use scm_open_session::question_calls::state_of;
 use scm_pager::{Pager, hear, paint};
 use scm_types::File;
 use std::alloc::Global;
+
+/// The most columns of a page, and the most rows.
+const MOST: u16 = 1000;
+
+/// Returns the columns or the rows of a page on a terminal that has `length` of them.
+fn most(length: u16) -> u16
+    ensures { result ≡ most length }
+{
+    length.min(MOST)
+}
 
 /// Returns file `file` of the state of an open session, counted from 0.
 ///
@@ -91,7 +101,7 @@ fn type_in_pager(
     ensures kept { 0 < result → pager.new ≡ pager.old }
 {
     match file_of(session, pager.file) {
-        Ok(file) => match hear(alloc, *pager, file, bytes, width, height) {
+        Ok(file) => match hear(alloc, *pager, file, bytes, most(width), most(height)) {
             Ok(next) => {
                 *pager = next;
                 DONE
@@ -139,7 +149,7 @@ fn page_update(
     ensures { IfSome result
         (λ update. ShowsPage pager file.now width height (string_bytes update)) }
 {
-    let bytes = paint(alloc, pager, file, width, height).ok()?;
+    let bytes = paint(alloc, pager, file, most(width), most(height)).ok()?;
     update_of(alloc, &bytes)
 }
 
