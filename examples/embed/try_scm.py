@@ -389,6 +389,7 @@ def check_pager_keys():
             pager.type(typed, 30, 5)
             assert (pager.top, pager.left, pager.is_selected, pager.is_open) == (top, left, is_selected, is_open), typed
         assert pager.file == 0 and session.text() == before
+        assert len(rows_of(session.pager(0).paint(0xFFFF, 0xFFFF))) == 1000
     assert refused(scm.Session().pager, 0) in ("closed", "no_item")
 
 
