@@ -1,17 +1,14 @@
 -- The boxes of a section's rows, by the selected key.
-use Rattle.std.proofs.Common.{◌≡◌, ℕ, ◌+◌, Bool, true, false, ◌&&◌, ◌==◌, nat_eq, nat_lt, refl, sym, arith}
+use Rattle.std.proofs.Common.{◌≡◌, ℕ, Bool, true, false, ◌&&◌, ◌==◌, nat_eq, refl, arith}
 use Rattle.std.specs.Prelude.{if◌then◌else◌, Some, None}
 use Rattle.std.proofs.lemmas.Bool.Decides.{nat_tests}
 use Rattle.scm_types.specs.declared.keys.SectionKey.{SectionKey}
 use Rattle.scm_types.specs.declared.keys.SelectionKey.{SelectionKey}
 use Rattle.scm_types.specs.declared.keys.SelectionKey.TheVariants as keys
-use Rattle.scm_types.specs.Keys.{has_key, is_key, line_key_of, section_of_line}
-use Rattle.scm_types.specs.declared.tristate.Tristate.TheVariants as tristate
-use Rattle.scm_rows.specs.Heights.{changed_height}
-use Rattle.scm_widgets.specs.Boxes.{is_fold_open, is_some_open}
+use Rattle.scm_types.specs.Keys.{is_key, line_key_of, section_of_line}
 use Rattle.scm_document.specs.declared.section_view.SectionSelection.TheVariants.{SectionHeader, ChangedLine}
 use Rattle.scm_document.specs.Rows.{is_header_selected, is_line_selected}
-use Rattle.scm_view.specs.ViewState.{ViewState, expand_box_of, section_fold, selected_in}
+use Rattle.scm_view.specs.ViewState.{selected_in}
 
 header-if : (b : Bool) → is_header_selected (if b then Some SectionHeader else None) ≡ b
 header-if true = refl
@@ -47,16 +44,3 @@ line_selected k n keys.None = refl
 line_selected k n (keys.File f) = refl
 line_selected k n (keys.Section j) = no-line (is_key (keys.Section k) (keys.Section j)) n
 line_selected k n (keys.Line l) = line-if (nat_eq k.commit_idx l.commit_idx) (nat_eq k.file_idx l.file_idx) (nat_eq k.section_idx l.section_idx) n l.line_idx
-
-open-if : (b : Bool) → is_some_open (if b then tristate.True else tristate.False) ≡ b
-open-if true = refl
-open-if false = refl
-
--- a section is unfolded if its key is expanded
-pub unfolded_is : (s : ViewState) (k : SectionKey) → has_key s.expanded (keys.Section k) ≡ is_fold_open (expand_box_of s (keys.Section k) (section_fold s k))
-unfolded_is s k = sym (open-if (has_key s.expanded (keys.Section k)))
-
--- the rows of changed lines below their header
-pub changed_row_is : (b : Bool) (line n : ℕ) → (b && nat_lt line n) ≡ nat_lt (line + 1) (changed_height b n)
-changed_row_is true line n = grind (arith, nat_tests)
-changed_row_is false line n = grind (arith, nat_tests)

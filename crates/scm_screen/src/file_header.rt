@@ -40,7 +40,7 @@ fn old_path<'a>(file: &'a File<'_>) -> Option<&'a str>
 
 /// Returns what the header of `file` shows, which has the key `key`. The file has the counts `counts`, and
 /// `folded` of its sections of changed lines are folded: its mark and its fold are by these alone.
-pub fn shown_header<'a>(
+pub(crate) fn shown_header<'a>(
     shown: &ViewState<'_>,
     key: FileKey,
     counts: &FileCounts,

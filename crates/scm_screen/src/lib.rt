@@ -3,9 +3,7 @@
 #![tactic(auto)]
 
 pub use document_rows::{document_row, pinned_header};
-pub use file_header::shown_header;
 pub use paint::paint_document;
-pub use section_rows::{CountedSection, counted_section, has_row, shown_row};
 
 mod boxes;
 mod document_rows;

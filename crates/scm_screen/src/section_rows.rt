@@ -1,13 +1,12 @@
 //! What each row of a section shows.
-ghost use Rattle.std.specs.Prelude.{◌≡◌, ◌<◌, ◌≤◌, ◌+◌, ◌^◌, nat_lt, length, get_or};
+ghost use Rattle.std.specs.Prelude.{◌≡◌, ◌<◌, ◌≤◌, ◌+◌, ◌^◌, length, get_or};
 ghost use Rattle.scm_document.specs.Rows.{SectionRow, MarkRow, changed_row, gap_row, is_selected, numbered_row, row_on, section_box, section_heading, section_height};
 ghost use Rattle.scm_document.specs.Texts.{binary_text, mode_change_text};
 ghost use Rattle.scm_layout.specs.Counts.{file_counts};
 ghost use Rattle.scm_rows.specs.Context.{place};
-ghost use Rattle.scm_rows.specs.Heights.{changed_height, shape_of};
+ghost use Rattle.scm_rows.specs.Heights.{shape_of};
 ghost use Rattle.scm_rows.specs.Kinds.{line_of, row_kind};
-ghost use Rattle.scm_view.specs.ViewState.{ViewState, expand_box_of, section_fold, section_views_of, totals_of};
-ghost use Rattle.scm_widgets.specs.Boxes.{is_fold_open};
+ghost use Rattle.scm_view.specs.ViewState.{ViewState, section_views_of, totals_of};
 ghost use Rattle.scm_types.specs.Limits.{file_size, max_items};
 ghost use Rattle.scm_document.specs.declared.section_view.SectionView.{SectionView};
 ghost use Rattle.scm_strips.specs.Shows.{FileRow};
@@ -32,22 +31,22 @@ use scm_widgets::tristate_box::TristateBox;
 
 /// A section, and what its rows show of its file.
 #[derive(Clone, Copy)]
-pub struct CountedSection<'a> {
+pub(crate) struct CountedSection<'a> {
     /// Key of the section.
-    pub key: SectionKey,
+    pub(crate) key: SectionKey,
     /// The section.
-    pub section: &'a Section<'a>,
+    pub(crate) section: &'a Section<'a>,
     /// Counts of the section.
-    pub counts: SectionCounts,
+    pub(crate) counts: SectionCounts,
     /// Number of sections of the file.
-    pub total: usize,
+    pub(crate) total: usize,
     /// Number of editable sections of the file.
-    pub editable: usize,
+    pub(crate) editable: usize,
 }
 
 /// Returns section `index` of `file`, which has the key `key` and the counts `counts`. Reads no line and no other
 /// section.
-pub fn counted_section<'a>(
+pub(crate) fn counted_section<'a>(
     key: FileKey,
     counts: &FileCounts,
     index: usize,
@@ -210,40 +209,6 @@ fn place_of(counted: CountedSection<'_>) -> SectionPlace
     }
 }
 
-/// Returns whether section `key` is unfolded.
-#[tactic(auto, using(crate::proofs::SectionLemmas::unfolded_is))]
-fn is_unfolded(shown: &ViewState<'_>, key: SectionKey) -> bool
-    ensures { result ≡ is_fold_open (expand_box_of shown.now (keys.Section key)
-        (section_fold shown.now key)) }
-{
-    shown.is_expanded(SelectionKey::Section(key))
-}
-
-/// Returns whether a section of `count` changed lines has a row `row`.
-#[tactic(auto, using(crate::proofs::SectionLemmas::changed_row_is))]
-fn has_changed_row(is_unfolded: bool, count: usize, row: usize) -> bool
-    ensures { result ≡ nat_lt row (changed_height is_unfolded count) }
-{
-    match row.checked_sub(1) {
-        None => true,
-        Some(line) => is_unfolded && line < count,
-    }
-}
-
-/// Returns whether a section has a row `row`, counted from 0, if it is shown.
-pub fn has_row(shown: &ViewState<'_>, counted: CountedSection<'_>, row: usize) -> bool
-    ensures { result
-        ≡ nat_lt row (section_height (view_of shown.now counted.entry) counted.entry.section.now) }
-{
-    match counted.section {
-        Section::Unchanged { lines } => row < place_of(counted).context_height(lines.len()),
-        Section::Changed { lines } => {
-            has_changed_row(is_unfolded(shown, counted.key), lines.len(), row)
-        }
-        Section::FileMode { .. } | Section::Binary { .. } => row == 0,
-    }
-}
-
 /// Returns the line that row `row` of a section shows, if it shows one.
 fn line_on(counted: CountedSection<'_>, row: usize) -> Option<usize>
     ensures { result ≡ line_of (row_kind (place counted.entry.total counted.entry.key.section_idx)
@@ -256,7 +221,11 @@ fn line_on(counted: CountedSection<'_>, row: usize) -> Option<usize>
 }
 
 /// Returns what row `row` of a section shows, counted from 0. Makes no text.
-pub fn shown_row<'a>(shown: &ViewState<'_>, counted: CountedSection<'a>, row: usize) -> Shown<'a>
+pub(crate) fn shown_row<'a>(
+    shown: &ViewState<'_>,
+    counted: CountedSection<'a>,
+    row: usize,
+) -> Shown<'a>
     requires editable { counted.counts.editable_before + 1 < 2 ^ 64 }
     requires lines { counted.counts.lines_before + 1 < 2 ^ 64 }
     requires row { row < section_height (view_of shown.now counted) counted.section.now }

@@ -2,6 +2,8 @@
 #![tactic(auto)]
 
 #[cfg(test)]
+mod documents;
+#[cfg(test)]
 mod owners;
 #[cfg(test)]
 mod pages;
@@ -9,5 +11,3 @@ mod pages;
 mod rows;
 #[cfg(test)]
 mod samples;
-#[cfg(test)]
-mod sections;
