@@ -2,7 +2,7 @@
 //! it by a side.
 ghost use Rattle.std.specs.Prelude.{◌≡◌, ◌<◌, true};
 ghost use Rattle.scm_c_values.specs.Codes.{IsCode};
-ghost use Rattle.scm_paths.specs.Names.{fault_of};
+ghost use Rattle.scm_tree.specs.Names.{fault_of};
 ghost use Rattle.scm_tree_records.specs.Calls.{TellsAnswer};
 ghost use Rattle.scm_tree_records.specs.Faults.{fault_number};
 ghost use Rattle.scm_tree_sides.specs.Bits.{changed_of, in_tree_bits, shown_bits};

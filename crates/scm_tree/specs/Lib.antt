@@ -1,5 +1,9 @@
 -- The definitions that contracts cite, in reading order.
 
+-- names that a file system takes for another name
+pub mod Folding
+-- paths that name a file below the top folder
+pub mod Names
 -- the order of paths, and paths in folders
 pub mod Paths
 -- the paths of two trees, and what a choice leaves of them
@@ -10,3 +14,19 @@ pub mod Refusals
 pub mod Scan
 -- laws of what a choice leaves
 pub mod Laws
+-- lists that have the same values at each path
+pub mod Holds
+-- the files of two trees and what marks ask for, path by path
+pub mod Places
+-- why two trees and marks have no rows
+pub mod GatherFaults
+-- the rows of two trees and marks
+pub mod Merge
+-- the row of a path
+pub mod Find
+-- renamed files
+pub mod Renames
+-- what becomes of each path
+pub mod Decisions
+-- why nothing is decided
+pub mod DecideFaults

@@ -1,17 +1,37 @@
-//! From tree to tree: which files a choice adds, changes, removes and must leave out.
+//! From tree to tree: which paths name a file, which files a choice adds, changes, removes and must leave out, and what
+//! becomes of each path.
 #![tactic(auto)]
 
+// paths
+mod folding;
+pub mod names;
+mod path;
+
+// trees
 pub mod check;
 pub mod laws;
-mod path;
 mod refuse;
 mod result;
 pub mod row;
 pub mod scan;
 
+// decisions
+mod decision;
+mod find;
+mod gather;
+mod order;
+mod place;
+mod rename;
+mod rows;
+
 pub use check::{RowFault, check_rows};
+pub use decision::{DecideError, Decision, Moved, Outcome, decide, decision_is_as_promised};
+pub use find::row_number;
+pub use names::{PathFault, path_fault};
 pub use path::{is_before, is_inside};
+pub use place::{Entry, Mark, Wish};
 pub use refuse::refusals;
 pub use result::result_at;
 pub use row::{Row, Version};
+pub use rows::{GatherError, rows_of};
 pub use scan::{Clash, Refusal};

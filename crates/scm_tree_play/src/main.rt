@@ -2,9 +2,7 @@
 //! left out and what becomes of each path. A line `path P` asks what is wrong with the path P.
 #![tactic(auto)]
 
-use scm_decide::{DecideError, Decision, Entry, Mark, Moved, Wish, decide};
-use scm_paths::path_fault;
-use scm_tree::Version;
+use scm_tree::{DecideError, Decision, Entry, Mark, Moved, Version, Wish, decide, path_fault};
 use std::alloc::{AllocError, Global};
 use std::{io, str};
 

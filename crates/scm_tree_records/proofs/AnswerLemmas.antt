@@ -3,13 +3,13 @@ use Rattle.std.proofs.Common.{◌≡◌, ℕ, ◌+◌, ◌<◌, List, [], ◌∷
 use Rattle.std.proofs.lemmas.List.{append-nil, append_assoc, take_more}
 use Rattle.scm_tree.specs.declared.row.Row.{Row}
 use Rattle.scm_tree.specs.declared.scan.Refusal.{Refusal}
-use Rattle.scm_decide.specs.declared.place.Entry.{Entry}
-use Rattle.scm_decide.specs.declared.place.Mark.{Mark}
-use Rattle.scm_decide.specs.declared.decision.Moved.{Moved}
-use Rattle.scm_decide.specs.declared.decision.Decision.{Decision}
-use Rattle.scm_decide.specs.declared.decision.DecideError.{DecideError}
-use Rattle.scm_decide.specs.Decisions.{IsDecision}
-use Rattle.scm_decide.specs.DecideFaults.{IsDecideFault}
+use Rattle.scm_tree.specs.declared.place.Entry.{Entry}
+use Rattle.scm_tree.specs.declared.place.Mark.{Mark}
+use Rattle.scm_tree.specs.declared.decision.Moved.{Moved}
+use Rattle.scm_tree.specs.declared.decision.Decision.{Decision}
+use Rattle.scm_tree.specs.declared.decision.DecideError.{DecideError}
+use Rattle.scm_tree.specs.Decisions.{IsDecision}
+use Rattle.scm_tree.specs.DecideFaults.{IsDecideFault}
 use Rattle.scm_tree_records.specs.declared.asked.Asked.{Asked}
 use Rattle.scm_tree_records.specs.Answers.{IsAnswerTo, answer_of, decided, reason_answer, undecided, refusal_answer, refusals_answer, row_answer, rows_answer}
 

@@ -8,9 +8,9 @@ use Rattle.scm_tree.specs.declared.row.Row.{Row}
 use Rattle.scm_tree.specs.declared.scan.Refusal.{Refusal}
 use Rattle.scm_tree.specs.Rows.{chosen}
 use Rattle.scm_tree.specs.Refusals.{is_refused}
-use Rattle.scm_decide.specs.declared.decision.Moved.{Moved}
-use Rattle.scm_decide.specs.declared.decision.DecideError.{DecideError}
-use Rattle.scm_decide.specs.declared.decision.DecideError.TheVariants.{Twice, Unknown, Path, Rows, Rename, OutOfMemory}
+use Rattle.scm_tree.specs.declared.decision.Moved.{Moved}
+use Rattle.scm_tree.specs.declared.decision.DecideError.{DecideError}
+use Rattle.scm_tree.specs.declared.decision.DecideError.TheVariants.{Twice, Unknown, Path, Rows, Rename, OutOfMemory}
 use Rattle.scm_tree_records.specs.declared.asked.Asked.{Asked}
 use Rattle.scm_tree_records.specs.Records.{Held, rows_in}
 use Rattle.scm_tree_records.specs.Answers.{IsAnswer, IsAnswerTo, decided, letter_of, no_rows, of_rows, reason_answer, record_bytes, refusals_answer, rows_answer, undecided}

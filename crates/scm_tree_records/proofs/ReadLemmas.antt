@@ -10,8 +10,8 @@ use Rattle.std.proofs.lemmas.Option.{slice_get-map}
 use Rattle.std.proofs.lemmas.List.Quantifiers.{position-Some}
 use Rattle.std.proofs.lemmas.List.Sums.{fails_before_first}
 use Rattle.scm_tree.specs.Rows as tree
-use Rattle.scm_decide.specs.declared.place.Mark.{Mark}
-use Rattle.scm_decide.specs.declared.decision.Moved.{Moved}
+use Rattle.scm_tree.specs.declared.place.Mark.{Mark}
+use Rattle.scm_tree.specs.declared.decision.Moved.{Moved}
 use Rattle.scm_tree_records.specs.declared.asked.Asked.{Asked}
 use Rattle.scm_tree_records.specs.Records.{Held, PathRecord, RenamedPaths, ShownPath, after_record, ended, held_by, is_nul, read, record_of, seen_mark, seen_moved, shown_path, with_record, with_second}
 use Rattle.scm_tree_records.specs.Reading.{held_if}

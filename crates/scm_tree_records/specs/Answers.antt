@@ -5,12 +5,12 @@ use Rattle.scm_tree.specs.declared.row.Row.{Row}
 use Rattle.scm_tree.specs.declared.scan.Refusal.{Refusal}
 use Rattle.scm_tree.specs.Rows.{chosen}
 use Rattle.scm_tree.specs.Refusals.{is_refused}
-use Rattle.scm_decide.specs.declared.decision.Moved.{Moved}
-use Rattle.scm_decide.specs.declared.decision.Decision.{Decision}
-use Rattle.scm_decide.specs.declared.decision.DecideError.{DecideError}
-use Rattle.scm_decide.specs.declared.decision.DecideError.TheVariants.{Twice, Unknown, Path, Rows, Rename, OutOfMemory}
-use Rattle.scm_decide.specs.Decisions.{IsDecision}
-use Rattle.scm_decide.specs.DecideFaults.{IsDecideFault}
+use Rattle.scm_tree.specs.declared.decision.Moved.{Moved}
+use Rattle.scm_tree.specs.declared.decision.Decision.{Decision}
+use Rattle.scm_tree.specs.declared.decision.DecideError.{DecideError}
+use Rattle.scm_tree.specs.declared.decision.DecideError.TheVariants.{Twice, Unknown, Path, Rows, Rename, OutOfMemory}
+use Rattle.scm_tree.specs.Decisions.{IsDecision}
+use Rattle.scm_tree.specs.DecideFaults.{IsDecideFault}
 use Rattle.scm_tree_records.specs.declared.asked.Asked.{Asked}
 use Rattle.scm_tree_records.specs.Records.{held_by, rows_in}
 

@@ -1,7 +1,7 @@
 -- What is wrong with a path, as a number.
 use Rattle.std.specs.Prelude.{ℕ, Option, Some, None}
-use Rattle.scm_paths.specs.declared.names.PathFault.{PathFault}
-use Rattle.scm_paths.specs.declared.names.PathFault.TheVariants.{EmptyName, Dot, DotDot, GitFolder, JjFolder, Nul}
+use Rattle.scm_tree.specs.declared.names.PathFault.{PathFault}
+use Rattle.scm_tree.specs.declared.names.PathFault.TheVariants.{EmptyName, Dot, DotDot, GitFolder, JjFolder, Nul}
 
 abbrev pub fault_number : Option PathFault → ℕ
 fault_number None = 0

@@ -2,10 +2,10 @@
 use Rattle.std.specs.Prelude.{ℕ, ◌+◌, ◌-◌, ◌==◌, nat_lt, List, [], ◌∷◌, ◌++◌, Bool, true, false, not, ◌&&◌, ◌||◌, length, drop, map, slice_index, slice_get, Option, Some, None, Result, Ok, Err, if◌then◌else◌}
 use Rattle.scm_tree.specs.declared.row.Version.{Version}
 use Rattle.scm_tree.specs.Rows as tree
-use Rattle.scm_decide.specs.declared.place.Entry.{Entry}
-use Rattle.scm_decide.specs.declared.place.Mark.{Mark}
-use Rattle.scm_decide.specs.declared.place.Wish.{Wish}
-use Rattle.scm_decide.specs.declared.decision.Moved.{Moved}
+use Rattle.scm_tree.specs.declared.place.Entry.{Entry}
+use Rattle.scm_tree.specs.declared.place.Mark.{Mark}
+use Rattle.scm_tree.specs.declared.place.Wish.{Wish}
+use Rattle.scm_tree.specs.declared.decision.Moved.{Moved}
 use Rattle.scm_tree_records.specs.declared.record.Ask.{Ask}
 use Rattle.scm_tree_records.specs.declared.record.Ask.TheVariants.{Keep, Nothing, Old, New, Chosen}
 use Rattle.scm_tree_records.specs.declared.record.Record.{Record}

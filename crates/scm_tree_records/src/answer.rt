@@ -4,8 +4,7 @@ ghost use Rattle.std.specs.Option.{option_map};
 ghost use Rattle.scm_tree_records.specs.Answers.{IsAnswer, IsAnswerTo, answer_of, letter_of, moved_to, path_or, reason_answer, record_bytes, refusal_answer, refusals_answer, row_answer, rows_answer};
 
 use crate::asked::{Asked, ReadError, read_records};
-use scm_decide::{DecideError, Decision, Moved, decide};
-use scm_tree::{Refusal, Row, Version, result_at};
+use scm_tree::{DecideError, Decision, Moved, Refusal, Row, Version, decide, result_at};
 use std::alloc::{AllocError, Global};
 
 /// Returns the letter of a version: of no file, the old one, the new one, or a chosen one.

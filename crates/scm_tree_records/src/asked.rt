@@ -6,7 +6,7 @@ ghost use Rattle.scm_tree_records.specs.Records.{held_by, is_nul, record_of, row
 ghost use Rattle.scm_tree_records.specs.Reading.{IsReadFault, held_if};
 
 use crate::record::{Ask, Record, asked_version, new_version, old_version, record_of};
-use scm_decide::{Entry, Mark, Moved, Wish};
+use scm_tree::{Entry, Mark, Moved, Wish};
 use std::alloc::{AllocError, Global};
 
 /// What records have. Each shown file has a number, in the order of the records.

@@ -1,9 +1,9 @@
 //! What is wrong with a path, as a number.
 ghost use Rattle.std.specs.Prelude.{◌≡◌};
-ghost use Rattle.scm_paths.specs.Names.{fault_of};
+ghost use Rattle.scm_tree.specs.Names.{fault_of};
 ghost use Rattle.scm_tree_records.specs.Faults.{fault_number};
 
-use scm_paths::{PathFault, path_fault};
+use scm_tree::{PathFault, path_fault};
 
 /// Nothing is wrong.
 pub const PATH_FINE: u32 = 0;

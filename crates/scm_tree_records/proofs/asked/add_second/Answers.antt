@@ -1,6 +1,6 @@
 use Rattle.std.proofs.Common.{◌≡◌, ◌-◌, List, Some, length, map, refl, subst, sym}
 use Rattle.std.specs.Prelude.{slice_get}
-use Rattle.scm_decide.specs.declared.place.Mark.{Mark}
+use Rattle.scm_tree.specs.declared.place.Mark.{Mark}
 use Rattle.scm_tree_records.specs.Records.{seen_entry, seen_record}
 use Rattle.scm_tree_records.proofs.ReadLemmas.{second_added}
 use Rattle.scm_tree_records.proofs.asked.add_second.Goals as goal

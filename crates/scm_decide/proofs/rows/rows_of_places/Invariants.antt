@@ -1,5 +1,0 @@
-use Rattle.scm_decide.specs.Merge.{AreRowsBelow}
-use Rattle.scm_decide.proofs.rows.rows_of_places.Given as goal
-
-abbrev pub invariant-loop-i : goal.invariant-loop-i
-invariant-loop-i l = AreRowsBelow l.count l.places l.i l.rows.items

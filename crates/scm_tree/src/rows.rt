@@ -1,0 +1,131 @@
+//! Two trees and marks as rows.
+ghost use Rattle.std.specs.Prelude.{◌≡◌, ◌<◌, IfErr, IfOk, MatchResult, length};
+ghost use Rattle.scm_tree.specs.declared.rows.GatherError.TheVariants.{OutOfMemory};
+ghost use Rattle.scm_tree.specs.GatherFaults.{IsGatherFault, IsRowFaultAt, IsRowsFault};
+ghost use Rattle.scm_tree.specs.Places.{AreListed, ArePlacesInOrder, AreSorted, HaveSameFiles};
+ghost use Rattle.scm_tree.specs.Merge.{AreMerged, AreRowsBelow, IsRowOf};
+
+use crate::gather::gathered;
+use crate::order::sort_places;
+use crate::place::{Entry, Mark, Place, places_of};
+use crate::row::Row;
+use std::alloc::{AllocError, AllocFailed, Global};
+
+/// Why two trees and marks have no rows.
+#[derive(Clone, Copy)]
+pub enum GatherError<'a> {
+    /// A list of files, or the list of marks, has this path twice.
+    Twice(&'a [u8]),
+
+    /// A mark has this path, and neither tree has it.
+    Unknown(&'a [u8]),
+
+    /// An allocation failed.
+    OutOfMemory,
+}
+
+impl From<AllocError> for GatherError<'_> {
+    ghost from_gives = { λ _ e. e ≡ OutOfMemory };
+
+    fn from(_error: AllocError) -> Self {
+        GatherError::OutOfMemory
+    }
+}
+
+impl<T: Drop> From<AllocFailed<T>> for GatherError<'_> {
+    ghost from_gives = { λ _ e. e ≡ OutOfMemory };
+
+    fn from(_error: AllocFailed<T>) -> Self {
+        GatherError::OutOfMemory
+    }
+}
+
+/// Returns the places of two trees and of marks, each path once, in the order of paths.
+///
+/// # Errors
+/// - `Twice`: a list has a path twice.
+/// - `OutOfMemory`: an allocation failed.
+fn places_in_order<'a>(
+    alloc: Global,
+    old: &[Entry<'a>],
+    new: &[Entry<'a>],
+    marks: &[Mark<'a>],
+) -> Result<Vec<Place<'a>>, GatherError<'a>>
+    ensures in_order { IfOk result (λ places. ArePlacesInOrder places.items) }
+    ensures listed { IfOk result (λ places. AreListed old.now new.now marks.now places.items) }
+    ensures fault { IfErr result (IsGatherFault old.now new.now marks.now) }
+{
+    let mut places = places_of(alloc, old, new, marks)?;
+    sort_places(&mut places)?;
+    let done = gathered(alloc, places.as_slice())?;
+    Ok(done)
+}
+
+/// Returns the row of place `i`: a path that is not shown keeps what is there, and has file `count`.
+///
+/// # Errors
+/// `Unknown`: a mark has the path, and neither tree has it.
+fn row_at<'a>(count: usize, places: &[Place<'a>], i: usize) -> Result<Row<'a>, GatherError<'a>>
+    requires { i < length places.now }
+    ensures { MatchResult result (IsRowOf count places.now i) (IsRowFaultAt places.now i) }
+{
+    let place = &places[i];
+    if place.current.is_none() & place.goal.is_none() {
+        return Err(GatherError::Unknown(place.path));
+    }
+    let (file, wanted) = match place.wish {
+        None => (count, place.current),
+        Some(wish) => (wish.file, wish.wanted),
+    };
+    Ok(Row {
+        path: place.path,
+        current: place.current,
+        goal: place.goal,
+        wanted,
+        file,
+    })
+}
+
+/// Returns the rows of `places`.
+///
+/// # Errors
+/// - `Unknown`: a mark has a path that neither tree has.
+/// - `OutOfMemory`: an allocation failed.
+fn rows_of_places<'a>(
+    alloc: Global,
+    count: usize,
+    places: &[Place<'a>],
+) -> Result<Vec<Row<'a>>, GatherError<'a>>
+    ensures { MatchResult result
+        (λ rows. AreRowsBelow count places.now (length places.now) rows.items)
+        (IsRowsFault places.now) }
+{
+    let mut rows = Vec::with_capacity(alloc, places.len())?;
+    for i in 0..places.len() {
+        rows.push(row_at(count, places, i)?)?;
+    }
+    Ok(rows)
+}
+
+/// Returns the rows of two trees and of the marks of `count` shown files: each path of either tree once, in the order
+/// of paths. A path that no mark has keeps what is there, and has file `count`.
+///
+/// # Errors
+/// - `Twice`: a list has a path twice.
+/// - `Unknown`: a mark has a path that neither tree has.
+/// - `OutOfMemory`: an allocation failed.
+pub fn rows_of<'a>(
+    alloc: Global,
+    old: &[Entry<'a>],
+    new: &[Entry<'a>],
+    marks: &[Mark<'a>],
+    count: usize,
+) -> Result<Vec<Row<'a>>, GatherError<'a>>
+    ensures { MatchResult result
+        (λ rows. AreMerged count old.now new.now marks.now rows.items)
+        (IsGatherFault old.now new.now marks.now) }
+{
+    let places = places_in_order(alloc, old, new, marks)?;
+    let rows = rows_of_places(alloc, count, places.as_slice())?;
+    Ok(rows)
+}
