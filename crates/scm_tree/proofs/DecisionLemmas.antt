@@ -1,11 +1,12 @@
 -- What becomes of each path.
-use Rattle.std.proofs.Common.{◌≡◌, ℕ, ◌+◌, ◌<◌, List, [], ◌∷◌, ◌++◌, length, get_or, Bool, true, false, ◌&&◌, cond, eqb, eqb-true, Option, refl, arith, sym, subst, ◌∙◌, ap, inl, inr}
-use Rattle.std.specs.Prelude.{is_some}
+use Rattle.std.proofs.Common.{◌≡◌, ℕ, ◌+◌, ◌<◌, List, [], ◌∷◌, ◌++◌, length, get_or, Bool, true, false, ◌&&◌, cond, eqb, eqb-true, Option, Some, refl, arith, sym, subst, ◌∙◌, ap, ◌⊎◌, inl, inr}
+use Rattle.std.specs.Prelude.{is_some, nat_lt}
 use Rattle.std.specs.List.{All}
 use Rattle.std.proofs.Math.ListN.{get_or-append}
 use Rattle.std.proofs.Math.Seq.{get_or-append_seam}
-use Rattle.std.proofs.lemmas.Bool.{and_parts, cases_lt}
+use Rattle.std.proofs.lemmas.Bool.{and_parts, cases_lt, false≢true}
 use Rattle.std.proofs.lemmas.List.{length-append}
+use Rattle.std.proofs.lemmas.List.Elements.{All-contains}
 use Rattle.scm_tree.specs.declared.row.Version.{Version}
 use Rattle.scm_tree.specs.declared.row.Row.{Row}
 use Rattle.scm_tree.specs.declared.scan.Refusal.{Refusal}
@@ -14,14 +15,15 @@ use Rattle.scm_tree.specs.Refusals.{is_refused}
 use Rattle.scm_tree.proofs.LawLemmas.{is-result, its-own}
 use Rattle.scm_tree.specs.declared.place.Entry.{Entry}
 use Rattle.scm_tree.specs.declared.place.Mark.{Mark}
+use Rattle.scm_tree.specs.declared.place.Wish.{Wish}
 use Rattle.scm_tree.specs.declared.decision.Moved.{Moved}
 use Rattle.scm_tree.specs.declared.decision.Outcome.{Outcome}
 use Rattle.scm_tree.specs.declared.decision.Decision.{Decision}
 use Rattle.scm_tree.specs.Holds.{HaveSame}
 use Rattle.scm_tree.specs.Places.{entry_path, entry_version}
-use Rattle.scm_tree.specs.Merge.{row_current, row_goal, row_path}
+use Rattle.scm_tree.specs.Merge.{IsMarked, IsUnmarked, row_current, row_goal, row_path}
 use Rattle.scm_tree.specs.Renames.{is_one, is_one_of}
-use Rattle.scm_tree.specs.Decisions.{AreOutcomes, IsAtOne, IsDecision, IsMoved, IsOutcome, IsPromise, outcome_after, outcome_path}
+use Rattle.scm_tree.specs.Decisions.{AreOutcomes, IsAtOne, IsDecision, IsMoved, IsOutcome, IsPromise, is_shown, outcome_after, outcome_path}
 use Rattle.scm_tree.proofs.HoldsLemmas.{same_each, same_trans}
 
 -- ---- an outcome more
@@ -84,7 +86,24 @@ moved_at_one rows refused m s = record {
   one = λ d. rename_at_one refused (get_or rows s.old d) (get_or rows s.new d) (s.is_rename.is_one d);
 }
 
-pub promised : (count : ℕ) (old new : List Entry) (marks : List Mark) (moved : List Moved) (d : Decision) → IsDecision count old new marks moved d → IsPromise old new moved d
+-- the file of a mark is a shown one, so a row of no shown file has no mark
+mark_shown : (count : ℕ) (marks : List Mark) (r : Row) → All (λ (m : Mark). is_shown count m ≡ true) marks → IsMarked marks r → nat_lt r.file count ≡ true
+mark_shown count marks r fits s =
+    let m : Mark = s.is_there.0 in
+    let e : m.wish ≡ s.wish = some_same m.wish s.wish s.is_there.1.2 in
+    ap (λ (n : ℕ). nat_lt n count) s.file ∙ ap (λ (w : Wish). nat_lt w.file count) (sym e)
+    ∙ All-contains (λ (m : Mark). is_shown count m ≡ true) marks m fits s.is_there.1.0
+  where
+    some_same : (a b : Wish) → Some a ≡ Some b → a ≡ b
+    some_same a b h = cc
+
+hidden_row : (count : ℕ) (marks : List Mark) (left_out : Bool) (r : Row) → All (λ (m : Mark). is_shown count m ≡ true) marks → IsMarked marks r ⊎ IsUnmarked count marks r → nat_lt r.file count ≡ false → cond left_out r.current r.wanted ≡ r.current
+hidden_row count marks left_out r fits s h = elim s [
+  | inl m ↦ absurd (false≢true (sym h ∙ mark_shown count marks r fits m))
+  | inr u ↦ pick_same left_out r.current r.wanted r.current refl u.wanted
+]
+
+pub promised : (count : ℕ) (old new : List Entry) (marks : List Mark) (moved : List Moved) (d : Decision) → IsDecision count old new marks moved d → IsPromise count old new moved d
 promised count old new marks moved d s =
     let result = is-result (count + 1) d.rows.items d.refused.items s.fits s.refused in
     record {
@@ -98,5 +117,6 @@ promised count old new marks moved d s =
           (outcomes_have d.rows.items d.refused.items d.outcomes.items row_goal s.outcomes
           (λ k e m. chosen_goal (is_refused d.refused.items) (get_or d.rows.items k e) (result.nothing_refused h (get_or d.rows.items k e).file) (h k e m)));
       own = λ k e m. its-own (is_refused d.refused.items) (get_or d.rows.items k e);
+      hidden_stays = λ k e m. hidden_row count marks (is_refused d.refused.items (get_or d.rows.items k e).file) (get_or d.rows.items k e) s.shown (s.rows.marked k e m);
       renames = λ k e m. moved_at_one d.rows.items d.refused.items (get_or moved k e) (s.renames k e m);
     }

@@ -1,7 +1,6 @@
 -- Worked examples of the definitions: what git's core.protectNTFS and core.protectHFS refuse, and what they do not.
-use Rattle.std.proofs.Common.{◌≡◌, ℕ, List, [], ◌∷◌, Option, Some, None, true, false, refl, codes}
+use Rattle.std.proofs.Common.{◌≡◌, [], ◌∷◌, Some, None, refl, codes}
 use Rattle.std.specs.Prelude.{◌++◌}
-use Rattle.scm_tree.specs.declared.names.PathFault.{PathFault}
 use Rattle.scm_tree.specs.declared.names.PathFault.TheVariants.{DotDot, EmptyName, GitFolder, JjFolder}
 use Rattle.scm_tree.specs.Folding.{begins, is_passed, is_same, letters}
 use Rattle.scm_tree.specs.Names.{fault_of, first_fault, is_git, is_jj, name_fault}

@@ -1,8 +1,8 @@
 -- Names that a file system takes for another name.
-use Rattle.std.proofs.Common.{◌≡◌, ℕ, zero, suc, ◌+◌, ◌-◌, ◌<◌, ◌≤◌, List, [], ◌∷◌, length, drop, get_or, Bool, true, false, cond, eqb, ltb, refl, arith, sym, ◌∙◌, ap, add-one, ◌⊎◌, inl, inr, eq-eqb, ne_eqb, eqb-true, ltb-true, lt-ltb, le-ltb}
+use Rattle.std.proofs.Common.{◌≡◌, ℕ, zero, suc, ◌+◌, ◌-◌, ◌<◌, ◌≤◌, List, [], ◌∷◌, length, drop, get_or, Bool, true, false, cond, eqb, ltb, refl, arith, sym, ◌∙◌, ap, add-one, ◌⊎◌, inl, inr, eq-eqb, ne_eqb, eqb-true, ltb-true, lt-ltb}
 use Rattle.std.proofs.Math.Seq.{drop-cons}
 use Rattle.std.proofs.Math.ListN.{drop_of_length-le}
-use Rattle.std.proofs.lemmas.Bool.{false≢true, cases_eq, cases_lt}
+use Rattle.std.proofs.lemmas.Bool.{false≢true, cases_lt}
 use Rattle.scm_tree.specs.declared.folding.Compared.{Compared}
 use Rattle.scm_tree.specs.Folding.{IsNext, small, begins_ignorable, is_letter, letters, is_same, begins, is_dot_or_blank, is_passed}
 

@@ -9,7 +9,7 @@ use Rattle.scm_tree.specs.declared.place.Entry.{Entry}
 use Rattle.scm_tree.specs.declared.place.Mark.{Mark}
 use Rattle.scm_tree.specs.declared.decision.Moved.{Moved}
 use Rattle.scm_tree.specs.declared.decision.DecideError.{DecideError}
-use Rattle.scm_tree.specs.declared.decision.DecideError.TheVariants.{Twice, Unknown, Path, Rows, Rename, OutOfMemory}
+use Rattle.scm_tree.specs.declared.decision.DecideError.TheVariants.{Twice, Unknown, Path, Rows, Rename, File, OutOfMemory}
 use Rattle.scm_tree.specs.declared.rows.GatherError.{GatherError}
 use Rattle.scm_tree.specs.declared.rows.GatherError.TheVariants as gather
 use Rattle.scm_tree.specs.GatherFaults.{IsGatherFault}
@@ -17,7 +17,7 @@ use Rattle.scm_tree.specs.Merge.{AreMerged}
 use Rattle.scm_tree.specs.Find.{HasNoRow, IsRowFor}
 use Rattle.scm_tree.specs.Renames.{IsBadRename, is_one_of}
 use Rattle.scm_tree.specs.Decisions.{IsMoved}
-use Rattle.scm_tree.specs.DecideFaults.{IsDecideFault, IsMovedReason, IsPathReason, IsTreesReason, PathsFit, decide_error}
+use Rattle.scm_tree.specs.DecideFaults.{IsDecideFault, IsMarkReason, IsMovedReason, IsPathReason, IsTreesReason, PathsFit, decide_error}
 use Rattle.scm_tree.proofs.HoldsLemmas.{some_of}
 
 pub gather_reason : (count : ℕ) (old new : List Entry) (marks : List Mark) (moved : List Moved) (error : GatherError) → IsGatherFault old new marks error → IsDecideFault count old new marks moved (decide_error error)
@@ -25,12 +25,22 @@ gather_reason count old new marks moved (gather.Twice p) f = f
 gather_reason count old new marks moved (gather.Unknown p) f = f
 gather_reason count old new marks moved gather.OutOfMemory f = tt
 
+pub mark_reason : (count : ℕ) (old new : List Entry) (marks : List Mark) (moved : List Moved) (error : DecideError) → IsMarkReason count marks error → IsDecideFault count old new marks moved error
+mark_reason count old new marks moved (Twice p) f = absurd f
+mark_reason count old new marks moved (Unknown p) f = absurd f
+mark_reason count old new marks moved (Path p fault) f = absurd f
+mark_reason count old new marks moved (Rows fault) f = absurd f
+mark_reason count old new marks moved (Rename i) f = absurd f
+mark_reason count old new marks moved (File i) f = f
+mark_reason count old new marks moved OutOfMemory f = absurd f
+
 pub path_reason : (count : ℕ) (old new : List Entry) (marks : List Mark) (moved : List Moved) (rows : List Row) (error : DecideError) → AreMerged count old new marks rows → IsPathReason count rows error → IsDecideFault count old new marks moved error
 path_reason count old new marks moved rows (Twice p) s f = absurd f
 path_reason count old new marks moved rows (Unknown p) s f = absurd f
 path_reason count old new marks moved rows (Path p fault) s f = (rows, (s, f))
 path_reason count old new marks moved rows (Rows fault) s f = absurd f
 path_reason count old new marks moved rows (Rename i) s f = absurd f
+path_reason count old new marks moved rows (File i) s f = absurd f
 path_reason count old new marks moved rows OutOfMemory s f = absurd f
 
 pub trees_reason : (count : ℕ) (old new : List Entry) (marks : List Mark) (moved : List Moved) (rows : List Row) (error : DecideError) → AreMerged count old new marks rows → PathsFit count rows → IsTreesReason (count + 1) rows error → IsDecideFault count old new marks moved error
@@ -39,6 +49,7 @@ trees_reason count old new marks moved rows (Unknown p) s t f = absurd f
 trees_reason count old new marks moved rows (Path p fault) s t f = absurd f
 trees_reason count old new marks moved rows (Rows fault) s t f = (rows, (s, (t, f)))
 trees_reason count old new marks moved rows (Rename i) s t f = absurd f
+trees_reason count old new marks moved rows (File i) s t f = absurd f
 trees_reason count old new marks moved rows OutOfMemory s t f = absurd f
 
 pub moved_reason : (count : ℕ) (old new : List Entry) (marks : List Mark) (moved : List Moved) (rows : List Row) (error : DecideError) → AreMerged count old new marks rows → PathsFit count rows → AreRows (count + 1) rows → IsMovedReason rows moved error → IsDecideFault count old new marks moved error
@@ -47,6 +58,7 @@ moved_reason count old new marks moved rows (Unknown p) s t u f = absurd f
 moved_reason count old new marks moved rows (Path p fault) s t u f = absurd f
 moved_reason count old new marks moved rows (Rows fault) s t u f = absurd f
 moved_reason count old new marks moved rows (Rename i) s t u f = (rows, (s, (t, (u, f))))
+moved_reason count old new marks moved rows (File i) s t u f = absurd f
 moved_reason count old new marks moved rows OutOfMemory s t u f = absurd f
 
 -- ---- a renamed file whose paths are not those of rows that are a rename

@@ -20,6 +20,10 @@ use Rattle.scm_tree.specs.Merge.{AreMerged}
 use Rattle.scm_tree.specs.Find.{IsRowFor}
 use Rattle.scm_tree.specs.Renames.{IsRename, is_one}
 
+-- whether the file of the mark is one of `count`
+abbrev pub is_shown : ℕ → Mark → Bool
+is_shown count m = nat_lt m.wish.file count
+
 -- whether the path of a row may get another version: no file is there now, or it is that of one of `count` shown files
 abbrev pub may_change : ℕ → Row → Bool
 may_change count r = is_none r.current || nat_lt r.file count
@@ -55,6 +59,8 @@ pub record IsMoved (rows : List Row) (m : Moved) : Type 0 where
 
 -- The decision is that of two trees and of the marks of `count` shown files.
 pub record IsDecision (count : ℕ) (old new : List Entry) (marks : List Mark) (moved : List Moved) (d : Decision) : Type 0 where
+  -- each mark is one of a shown file
+  pub shown : All (λ (m : Mark). is_shown count m ≡ true) marks
   pub rows : AreMerged count old new marks d.rows.items
   pub fits : AreRows (count + 1) d.rows.items
   -- each path that would come, and each shown one, names a file below the top folder
@@ -72,8 +78,8 @@ pub record IsAtOne (rows : List Row) (refused : List (Option Refusal)) (m : Move
   pub new_is : IsRowFor rows m.new.now new
   pub one : (d : Row) → is_one (is_some (chosen (is_refused refused) (slice_index_or rows old d))) (is_some (chosen (is_refused refused) (slice_index_or rows new d))) ≡ true
 
--- What a decision promises.
-pub record IsPromise (old new : List Entry) (moved : List Moved) (d : Decision) : Type 0 where
+-- What a decision of `count` shown files promises.
+pub record IsPromise (count : ℕ) (old new : List Entry) (moved : List Moved) (d : Decision) : Type 0 where
   -- the result is a tree
   pub is_tree : IsTree (result_of d.rows.items d.refused.items)
   -- nothing marked: it is the old tree, entry for entry
@@ -82,4 +88,6 @@ pub record IsPromise (old new : List Entry) (moved : List Moved) (d : Decision) 
   pub everything_marked : All (λ (r : Row). r.wanted ≡ r.goal) d.rows.items → HaveSame entry_path entry_version new outcome_path outcome_after d.outcomes.items
   -- each path has what its own file's marks ask for, or what was there, if its file is refused
   pub own : All (λ (r : Row). (is_refused d.refused.items r.file ≡ false → chosen (is_refused d.refused.items) r ≡ r.wanted) × (is_refused d.refused.items r.file ≡ true → chosen (is_refused d.refused.items) r ≡ r.current)) d.rows.items
+  -- what is not shown stays
+  pub hidden_stays : All (λ (r : Row). nat_lt r.file count ≡ false → chosen (is_refused d.refused.items) r ≡ r.current) d.rows.items
   pub renames : All (λ (m : Moved). IsAtOne d.rows.items d.refused.items m) moved

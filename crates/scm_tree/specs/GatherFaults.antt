@@ -1,5 +1,5 @@
 -- Why two trees and marks have no rows.
-use Rattle.std.specs.Prelude.{◌≡◌, ℕ, ◌<◌, List, true, None, length, slice_index_or, ⊤, ◌⊎◌}
+use Rattle.std.specs.Prelude.{◌≡◌, ℕ, ◌<◌, List, Bool, true, ◌&&◌, None, is_none, length, slice_index_or, ⊤, ◌⊎◌}
 use Rattle.scm_tree.specs.declared.row.Version.{Version}
 use Rattle.scm_tree.specs.declared.place.Entry.{Entry}
 use Rattle.scm_tree.specs.declared.place.Mark.{Mark}
@@ -44,10 +44,9 @@ pub record IsInNoTree (places : List Place) (i : ℕ) (p : List ℕ) : Type 0 wh
   pub current : (d : Place) → (slice_index_or places i d).current ≡ None
   pub goal : (d : Place) → (slice_index_or places i d).goal ≡ None
 
-abbrev pub IsRowFaultAt : List Place → ℕ → GatherError → Type 0
-IsRowFaultAt places i (Twice p) = ⊥
-IsRowFaultAt places i (Unknown p) = IsInNoTree places i p.now
-IsRowFaultAt places i OutOfMemory = ⊥
+-- whether neither tree has the place's path
+abbrev pub is_unknown : Place → Bool
+is_unknown x = is_none x.current && is_none x.goal
 
 abbrev pub IsRowsFault : List Place → GatherError → Type 0
 IsRowsFault places (Twice p) = ⊥

@@ -1,12 +1,15 @@
 //! What becomes of each path.
-ghost use Rattle.std.specs.Prelude.{◌≡◌, ◌<◌, ℕ, IfOk, MatchResult, None, false, length, slice_index_or, true};
+ghost use Rattle.std.specs.Prelude.{◌≡◌, ◌+◌, ◌<◌, ℕ, List, [], IfErr, IfOk, MatchResult, None, OnOk, false, length, slice_index_or, true};
 ghost use Rattle.std.specs.List.{All};
 ghost use Rattle.scm_tree.specs.declared.row.Row.{Row};
 ghost use Rattle.scm_tree.specs.Rows.{AreInOrder, AreRows};
 ghost use Rattle.scm_tree.specs.declared.decision.DecideError.TheVariants.{OutOfMemory};
 ghost use Rattle.scm_tree.specs.declared.decision.Moved.{Moved};
-ghost use Rattle.scm_tree.specs.Decisions.{AreOutcomes, IsDecision, IsMoved, IsOutcome, IsPromise, may_change, row_fault};
-ghost use Rattle.scm_tree.specs.DecideFaults.{IsDecideFault, IsMovedReason, IsPathReason, IsTreesReason, PathsFit, decide_error};
+ghost use Rattle.scm_tree.specs.declared.place.Entry.{Entry};
+ghost use Rattle.scm_tree.specs.declared.place.Mark.{Mark};
+ghost use Rattle.scm_tree.specs.Merge.{AreMerged};
+ghost use Rattle.scm_tree.specs.Decisions.{AreOutcomes, IsDecision, IsMoved, IsOutcome, IsPromise, is_shown, may_change, row_fault};
+ghost use Rattle.scm_tree.specs.DecideFaults.{IsDecideFault, IsMarkReason, IsMovedReason, IsPathReason, IsTreesReason, MarksFit, PathsFit, decide_error};
 
 use crate::check::{RowFault, check_rows};
 use crate::find::row_number;
@@ -74,6 +77,9 @@ pub enum DecideError<'a> {
     /// A rename is none: its number in the list.
     Rename(usize),
 
+    /// The file of a mark is not one of the shown ones: the mark's number in the list.
+    File(usize),
+
     /// An allocation failed.
     OutOfMemory,
 }
@@ -104,6 +110,29 @@ impl<'a> From<GatherError<'a>> for DecideError<'a> {
             GatherError::OutOfMemory => DecideError::OutOfMemory,
         }
     }
+}
+
+/// Returns whether the file of mark `i` is one of `count`.
+fn is_shown(count: usize, marks: &[Mark<'_>], i: usize) -> bool
+    requires { i < length marks.now }
+    ensures { (d : Mark) → is_shown count (slice_index_or marks.now i d) ≡ result }
+{
+    marks[i].wish.file < count
+}
+
+/// Checks that the file of each mark is one of `count`.
+///
+/// # Errors
+/// `File`: the first mark of which that is not so.
+fn check_marks<'a>(count: usize, marks: &[Mark<'_>]) -> Result<(), DecideError<'a>>
+    ensures { MatchResult result (λ _. MarksFit count marks.now) (IsMarkReason count marks.now) }
+{
+    for i in 0..marks.len() {
+        if !is_shown(count, marks, i) {
+            return Err(DecideError::File(i));
+        }
+    }
+    Ok(())
 }
 
 /// Returns whether the path of `row` may get another version: no file is there now, or it is that of one of `count` shown
@@ -204,6 +233,25 @@ fn outcome_at<'a>(rows: &[Row<'a>], refused: &[Option<Refusal>], i: usize) -> Ou
     }
 }
 
+/// Adds what becomes of each path to nothing.
+///
+/// # Errors
+/// `AllocError`: an allocation failed.
+fn add_outcomes<'a>(
+    outcomes: &mut Vec<Outcome<'a>>,
+    rows: &[Row<'a>],
+    refused: &[Option<Refusal>],
+) -> Result<(), AllocError>
+    requires { outcomes.old.items ≡ [] }
+    ensures { OnOk result
+        (AreOutcomes rows.now refused.now (length rows.now) outcomes.new.items) }
+{
+    for i in 0..rows.len() {
+        outcomes.push(outcome_at(rows, refused, i))?;
+    }
+    Ok(())
+}
+
 /// Returns what becomes of each path.
 ///
 /// # Errors
@@ -217,9 +265,7 @@ fn outcomes_of<'a>(
         AreOutcomes rows.now refused.now (length rows.now) outcomes.items) }
 {
     let mut outcomes = Vec::with_capacity(alloc, rows.len())?;
-    for i in 0..rows.len() {
-        outcomes.push(outcome_at(rows, refused, i))?;
-    }
+    add_outcomes(&mut outcomes, rows, refused)?;
     Ok(outcomes)
 }
 
@@ -236,15 +282,42 @@ fn check_trees<'a>(count: usize, rows: &[Row<'_>]) -> Result<(), DecideError<'a>
     }
 }
 
+/// Checks that `rows` are those of two trees and of a choice among `count` shown files, and what is renamed. `files` is one more
+/// than `count`.
+///
+/// # Errors
+/// - `Path`: a path that would come, or that is shown, names no file below the top folder.
+/// - `Rows`: what is wrong with the rows.
+/// - `Rename`: the first renamed file whose paths are not those of rows that are a rename.
+fn check_choice<'a>(
+    count: usize,
+    files: usize,
+    rows: &[Row<'a>],
+    moved: &[Moved<'a>],
+) -> Result<(), DecideError<'a>>
+    requires { files ≡ count + 1 }
+    ensures paths { OnOk result (PathsFit count rows.now) }
+    ensures rows { OnOk result (AreRows (count + 1) rows.now) }
+    ensures renames { OnOk result (All (λ (m : Moved). IsMoved rows.now m) moved.now) }
+    ensures fault { IfErr result (λ error. (old new : List Entry) (marks : List Mark)
+        → AreMerged count old new marks rows.now
+        → IsDecideFault count old new marks moved.now error) }
+{
+    check_paths(count, rows)?;
+    check_trees(files, rows)?;
+    check_moved(rows, moved)
+}
+
 /// Returns what the marks of `count` shown files leave of two trees: the least set of files that has to be left out,
 /// each with its reason, and what becomes of each path. `old` and `new` have the files of the trees, `marks` has each
 /// path of the shown files, and `moved` the renamed files among them, all in any order.
 ///
 /// # Errors
+/// - `File`: the file of a mark is not one of the shown ones.
 /// - `Twice`: a list has a path twice.
 /// - `Unknown`: a mark has a path that neither tree has.
 /// - `Path`: a path that would come, or that is shown, names no file below the top folder.
-/// - `Rows`: one of the trees is none, or a file's number is too great.
+/// - `Rows`: one of the trees is none.
 /// - `Rename`: the paths of a renamed file are not both there, or do not have one file, which is there at one of them
 ///   and asked for at one of them.
 /// - `OutOfMemory`: an allocation failed.
@@ -262,10 +335,9 @@ pub fn decide<'a>(
     let Some(files) = count.checked_add(1) else {
         return Err(DecideError::OutOfMemory);
     };
+    check_marks(count, marks)?;
     let rows = rows_of(alloc, old, new, marks, count)?;
-    check_paths(count, rows.as_slice())?;
-    check_trees(files, rows.as_slice())?;
-    check_moved(rows.as_slice(), moved)?;
+    check_choice(count, files, rows.as_slice(), moved)?;
     let refused = refusals(alloc, rows.as_slice(), files)?;
     let outcomes = outcomes_of(alloc, rows.as_slice(), refused.as_slice())?;
     Ok(Decision {
@@ -276,7 +348,7 @@ pub fn decide<'a>(
 }
 
 /// Proves what a decision promises: with nothing marked the result is the old tree, with everything marked the new
-/// one, entry for entry; it is a tree; and a renamed file is at exactly one of its paths.
+/// one, entry for entry; it is a tree; what is not shown stays; and a renamed file is at exactly one of its paths.
 pub fn decision_is_as_promised(
     count: usize,
     old: &[Entry<'_>],
@@ -286,5 +358,5 @@ pub fn decision_is_as_promised(
     decision: &Decision<'_>,
 )
     ensures { IsDecision count old.now new.now marks.now moved.now decision.now
-        → IsPromise old.now new.now moved.now decision.now }
+        → IsPromise count old.now new.now moved.now decision.now }
 {}

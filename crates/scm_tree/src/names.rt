@@ -6,7 +6,7 @@ ghost use Rattle.scm_tree.specs.Names.{fault_of, has_nul, is_dot, is_dots, is_gi
 use crate::folding::{after, is_taken_for};
 
 /// What is wrong with a path.
-#[derive(Clone, Copy, Debug, PartialEq, Eq)]
+#[derive(Clone, Copy, Debug)]
 pub enum PathFault {
     /// The path or a name in it is empty: so is one with `/` at its begin or end, or twice in a row.
     EmptyName,

@@ -1,5 +1,6 @@
 //! The files of two trees and what marks ask for, path by path.
-ghost use Rattle.std.specs.Prelude.{◌≡◌, ◌<◌, IfOk, length};
+ghost use Rattle.std.specs.Prelude.{◌≡◌, ◌<◌, List, [], IfOk, OnOk, length};
+ghost use Rattle.scm_tree.specs.declared.place.Entry.{Entry};
 ghost use Rattle.scm_tree.specs.Places.{AreListed, IsOfMark, IsOfNew, IsOfOld};
 
 use crate::row::Version;
@@ -92,11 +93,52 @@ fn marked_place<'a>(marks: &[Mark<'a>], i: usize) -> Place<'a>
     }
 }
 
+/// Adds the places of all old entries to none.
+///
+/// # Errors
+/// `AllocError`: an allocation failed.
+fn add_old<'a>(places: &mut Vec<Place<'a>>, old: &[Entry<'a>]) -> Result<(), AllocError>
+    requires { places.old.items ≡ [] }
+    ensures { OnOk result (AreListed old.now [] [] places.new.items) }
+{
+    for i in 0..old.len() {
+        places.push(old_place(old, i))?;
+    }
+    Ok(())
+}
+
+/// Adds the places of all new entries to those of old ones.
+///
+/// # Errors
+/// `AllocError`: an allocation failed.
+fn add_new<'a>(places: &mut Vec<Place<'a>>, new: &[Entry<'a>]) -> Result<(), AllocError>
+    ensures { OnOk result ((old : List Entry) → AreListed old [] [] places.old.items
+        → AreListed old new.now [] places.new.items) }
+{
+    for i in 0..new.len() {
+        places.push(new_place(new, i))?;
+    }
+    Ok(())
+}
+
+/// Adds the places of all marks to those of entries.
+///
+/// # Errors
+/// `AllocError`: an allocation failed.
+fn add_marks<'a>(places: &mut Vec<Place<'a>>, marks: &[Mark<'a>]) -> Result<(), AllocError>
+    ensures { OnOk result ((old new : List Entry) → AreListed old new [] places.old.items
+        → AreListed old new marks.now places.new.items) }
+{
+    for i in 0..marks.len() {
+        places.push(marked_place(marks, i))?;
+    }
+    Ok(())
+}
+
 /// Returns the places of all entries and marks, one after another.
 ///
 /// # Errors
 /// `AllocError`: an allocation failed.
-#[tactic(auto, using(crate::proofs::PlaceLemmas::listed_none, crate::proofs::PlaceLemmas::listed_old, crate::proofs::PlaceLemmas::listed_new, crate::proofs::PlaceLemmas::listed_mark, crate::proofs::PlaceLemmas::old_listed, crate::proofs::PlaceLemmas::new_listed, crate::proofs::PlaceLemmas::marks_listed))]
 pub(crate) fn places_of<'a>(
     alloc: Global,
     old: &[Entry<'a>],
@@ -106,14 +148,8 @@ pub(crate) fn places_of<'a>(
     ensures { IfOk result (λ places. AreListed old.now new.now marks.now places.items) }
 {
     let mut places = Vec::new(alloc);
-    for i in 0..old.len() {
-        places.push(old_place(old, i))?;
-    }
-    for j in 0..new.len() {
-        places.push(new_place(new, j))?;
-    }
-    for k in 0..marks.len() {
-        places.push(marked_place(marks, k))?;
-    }
+    add_old(&mut places, old)?;
+    add_new(&mut places, new)?;
+    add_marks(&mut places, marks)?;
     Ok(places)
 }

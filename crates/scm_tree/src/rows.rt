@@ -1,7 +1,7 @@
 //! Two trees and marks as rows.
-ghost use Rattle.std.specs.Prelude.{◌≡◌, ◌<◌, IfErr, IfOk, MatchResult, length};
+ghost use Rattle.std.specs.Prelude.{◌≡◌, ◌<◌, [], IfErr, IfOk, MatchResult, false, length, slice_index_or};
 ghost use Rattle.scm_tree.specs.declared.rows.GatherError.TheVariants.{OutOfMemory};
-ghost use Rattle.scm_tree.specs.GatherFaults.{IsGatherFault, IsRowFaultAt, IsRowsFault};
+ghost use Rattle.scm_tree.specs.GatherFaults.{IsGatherFault, IsRowsFault, is_unknown};
 ghost use Rattle.scm_tree.specs.Places.{AreListed, ArePlacesInOrder, AreSorted, HaveSameFiles};
 ghost use Rattle.scm_tree.specs.Merge.{AreMerged, AreRowsBelow, IsRowOf};
 
@@ -61,29 +61,65 @@ fn places_in_order<'a>(
     Ok(done)
 }
 
-/// Returns the row of place `i`: a path that is not shown keeps what is there, and has file `count`.
-///
-/// # Errors
-/// `Unknown`: a mark has the path, and neither tree has it.
-fn row_at<'a>(count: usize, places: &[Place<'a>], i: usize) -> Result<Row<'a>, GatherError<'a>>
+/// Returns whether neither tree has the path of place `i`.
+fn is_unknown(places: &[Place<'_>], i: usize) -> bool
     requires { i < length places.now }
-    ensures { MatchResult result (IsRowOf count places.now i) (IsRowFaultAt places.now i) }
+    ensures { (d : Place) → is_unknown (slice_index_or places.now i d) ≡ result }
+{
+    places[i].current.is_none() & places[i].goal.is_none()
+}
+
+/// Returns the path of place `i`.
+fn path_at<'a>(places: &[Place<'a>], i: usize) -> &'a [u8]
+    requires { i < length places.now }
+    ensures { (d : Place) → (slice_index_or places.now i d).path.now ≡ result.now }
+{
+    places[i].path
+}
+
+/// Returns the row of place `i`, of which a tree has the path: a path that is not shown keeps what is there, and has file
+/// `count`.
+fn row_at<'a>(count: usize, places: &[Place<'a>], i: usize) -> Row<'a>
+    requires within { i < length places.now }
+    requires known { (d : Place) → is_unknown (slice_index_or places.now i d) ≡ false }
+    ensures { IsRowOf count places.now i result }
 {
     let place = &places[i];
-    if place.current.is_none() & place.goal.is_none() {
-        return Err(GatherError::Unknown(place.path));
-    }
     let (file, wanted) = match place.wish {
         None => (count, place.current),
         Some(wish) => (wish.file, wish.wanted),
     };
-    Ok(Row {
+    Row {
         path: place.path,
         current: place.current,
         goal: place.goal,
         wanted,
         file,
-    })
+    }
+}
+
+/// Adds the rows of `places` to none.
+///
+/// # Errors
+/// - `Unknown`: a mark has a path that neither tree has.
+/// - `OutOfMemory`: an allocation failed.
+fn add_rows<'a>(
+    rows: &mut Vec<Row<'a>>,
+    count: usize,
+    places: &[Place<'a>],
+) -> Result<(), GatherError<'a>>
+    requires { rows.old.items ≡ [] }
+    ensures { MatchResult result
+        (λ _. AreRowsBelow count places.now (length places.now) rows.new.items)
+        (IsRowsFault places.now) }
+{
+    for i in 0..places.len() {
+        if is_unknown(places, i) {
+            return Err(GatherError::Unknown(path_at(places, i)));
+        }
+        rows.push(row_at(count, places, i))?;
+    }
+    Ok(())
 }
 
 /// Returns the rows of `places`.
@@ -101,9 +137,7 @@ fn rows_of_places<'a>(
         (IsRowsFault places.now) }
 {
     let mut rows = Vec::with_capacity(alloc, places.len())?;
-    for i in 0..places.len() {
-        rows.push(row_at(count, places, i)?)?;
-    }
+    add_rows(&mut rows, count, places)?;
     Ok(rows)
 }
 

@@ -106,6 +106,7 @@ fn write_error(rt: &HostRuntime, error: DecideError<'_>) -> anyhow::Result<()> {
         DecideError::Path(path, fault) => println!(rt; "path {} {fault:?}", text(path))?,
         DecideError::Rows(fault) => println!(rt; "rows {fault:?}")?,
         DecideError::Rename(number) => println!(rt; "rename {number}")?,
+        DecideError::File(number) => println!(rt; "file {number}")?,
         DecideError::OutOfMemory => println!(rt; "out of memory")?,
     }
     Ok(())

@@ -10,7 +10,7 @@ use Rattle.scm_tree.specs.Rows.{chosen}
 use Rattle.scm_tree.specs.Refusals.{is_refused}
 use Rattle.scm_tree.specs.declared.decision.Moved.{Moved}
 use Rattle.scm_tree.specs.declared.decision.DecideError.{DecideError}
-use Rattle.scm_tree.specs.declared.decision.DecideError.TheVariants.{Twice, Unknown, Path, Rows, Rename, OutOfMemory}
+use Rattle.scm_tree.specs.declared.decision.DecideError.TheVariants.{Twice, Unknown, Path, Rows, Rename, File, OutOfMemory}
 use Rattle.scm_tree_records.specs.declared.asked.Asked.{Asked}
 use Rattle.scm_tree_records.specs.Records.{Held, rows_in}
 use Rattle.scm_tree_records.specs.Answers.{IsAnswer, IsAnswerTo, decided, letter_of, no_rows, of_rows, reason_answer, record_bytes, refusals_answer, rows_answer, undecided}
@@ -53,6 +53,7 @@ reason_fits moved (Unknown p) = refl
 reason_fits moved (Path p fault) = refl
 reason_fits moved (Rows fault) = refl
 reason_fits moved (Rename i) = refl
+reason_fits moved (File i) = refl
 reason_fits moved OutOfMemory = refl
 
 some_begins : (answer : List ℕ) → begins_in (Some answer) ≡ begins_with 35 answer

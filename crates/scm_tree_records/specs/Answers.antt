@@ -8,7 +8,7 @@ use Rattle.scm_tree.specs.Refusals.{is_refused}
 use Rattle.scm_tree.specs.declared.decision.Moved.{Moved}
 use Rattle.scm_tree.specs.declared.decision.Decision.{Decision}
 use Rattle.scm_tree.specs.declared.decision.DecideError.{DecideError}
-use Rattle.scm_tree.specs.declared.decision.DecideError.TheVariants.{Twice, Unknown, Path, Rows, Rename, OutOfMemory}
+use Rattle.scm_tree.specs.declared.decision.DecideError.TheVariants.{Twice, Unknown, Path, Rows, Rename, File, OutOfMemory}
 use Rattle.scm_tree.specs.Decisions.{IsDecision}
 use Rattle.scm_tree.specs.DecideFaults.{IsDecideFault}
 use Rattle.scm_tree_records.specs.declared.asked.Asked.{Asked}
@@ -65,6 +65,7 @@ reason_answer moved (Unknown p) = Some (record_bytes 63 p.now)
 reason_answer moved (Path p fault) = Some (record_bytes 33 p.now)
 reason_answer moved (Rows fault) = Some (record_bytes 47 [])
 reason_answer moved (Rename i) = Some (record_bytes 43 (moved_to (slice_get moved i)))
+reason_answer moved (File i) = Some (record_bytes 47 [])
 reason_answer moved OutOfMemory = None
 
 -- The answer is what is decided of the rows that records hold, or the reason for which nothing is.

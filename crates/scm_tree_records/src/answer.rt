@@ -152,7 +152,7 @@ fn reason_parts<'a>(moved: &[Moved<'a>], error: DecideError<'a>) -> Option<(u8, 
         DecideError::Twice(path) => Some((b'2', path)),
         DecideError::Unknown(path) => Some((b'?', path)),
         DecideError::Path(path, _) => Some((b'!', path)),
-        DecideError::Rows(_) => Some((b'/', b"")),
+        DecideError::Rows(_) | DecideError::File(_) => Some((b'/', b"")),
         DecideError::Rename(i) => Some((b'+', moved_to(moved, i))),
         DecideError::OutOfMemory => None,
     }

@@ -22,7 +22,7 @@ pub(crate) struct Asked<'a> {
 }
 
 /// Why bytes are no records.
-#[derive(Clone, Copy, Debug)]
+#[derive(Clone, Copy)]
 pub(crate) enum ReadError<'a> {
     /// These bytes are no record, or the second one of a file without a first one.
     NoRecord(&'a [u8]),
@@ -76,7 +76,10 @@ fn mark_of<'a>(row: &Record<'a>, file: usize) -> Mark<'a>
 fn last_mark<'a>(marks: &[Mark<'a>]) -> Option<Mark<'a>>
     ensures { result ≡ slice_get marks.now (length marks.now - 1) }
 {
-    marks.last().copied()
+    match marks.last() {
+        None => None,
+        Some(mark) => Some(*mark),
+    }
 }
 
 /// Adds the other path of the renamed file to which the last mark belongs. Returns whether there is one.

@@ -7,7 +7,7 @@ ghost use Rattle.scm_tree_records.specs.Records.{ask_of, is_second, is_sound, is
 use scm_tree::Version;
 
 /// What marks ask for at a path.
-#[derive(Clone, Copy, Debug, PartialEq, Eq)]
+#[derive(Clone, Copy)]
 pub(crate) enum Ask {
     /// The path is not shown: what is there stays.
     Keep,
