@@ -77,7 +77,7 @@ pub enum DecideError<'a> {
     /// A rename is none: its number in the list.
     Rename(usize),
 
-    /// The file of a mark is not one of the shown ones: the mark's number in the list.
+    /// The file of a mark is none of the shown ones: the mark's number in the list, counted from 0.
     File(usize),
 
     /// An allocation failed.
@@ -233,7 +233,7 @@ fn outcome_at<'a>(rows: &[Row<'a>], refused: &[Option<Refusal>], i: usize) -> Ou
     }
 }
 
-/// Adds what becomes of each path to nothing.
+/// Adds what becomes of each path to the empty `outcomes`.
 ///
 /// # Errors
 /// `AllocError`: an allocation failed.
@@ -282,8 +282,8 @@ fn check_trees<'a>(count: usize, rows: &[Row<'_>]) -> Result<(), DecideError<'a>
     }
 }
 
-/// Checks that `rows` are those of two trees and of a choice among `count` shown files, and what is renamed. `files` is one more
-/// than `count`.
+/// Checks the paths of `rows`, that `rows` are those of two trees and of a choice among `count` shown files, and the renamed
+/// files. `files` is one more than `count`.
 ///
 /// # Errors
 /// - `Path`: a path that would come, or that is shown, names no file below the top folder.

@@ -93,7 +93,7 @@ fn marked_place<'a>(marks: &[Mark<'a>], i: usize) -> Place<'a>
     }
 }
 
-/// Adds the places of all old entries to none.
+/// Adds the places of all old entries to the empty `places`.
 ///
 /// # Errors
 /// `AllocError`: an allocation failed.
@@ -107,7 +107,7 @@ fn add_old<'a>(places: &mut Vec<Place<'a>>, old: &[Entry<'a>]) -> Result<(), All
     Ok(())
 }
 
-/// Adds the places of all new entries to those of old ones.
+/// Adds the places of all new entries to `places`, which has those of old ones.
 ///
 /// # Errors
 /// `AllocError`: an allocation failed.
@@ -121,7 +121,7 @@ fn add_new<'a>(places: &mut Vec<Place<'a>>, new: &[Entry<'a>]) -> Result<(), All
     Ok(())
 }
 
-/// Adds the places of all marks to those of entries.
+/// Adds the places of all marks to `places`, which has those of entries.
 ///
 /// # Errors
 /// `AllocError`: an allocation failed.

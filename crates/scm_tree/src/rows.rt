@@ -77,8 +77,7 @@ fn path_at<'a>(places: &[Place<'a>], i: usize) -> &'a [u8]
     places[i].path
 }
 
-/// Returns the row of place `i`, of which a tree has the path: a path that is not shown keeps what is there, and has file
-/// `count`.
+/// Returns the row of place `i`, whose path a tree has. A path that is not shown keeps what is there, and has file `count`.
 fn row_at<'a>(count: usize, places: &[Place<'a>], i: usize) -> Row<'a>
     requires within { i < length places.now }
     requires known { (d : Place) → is_unknown (slice_index_or places.now i d) ≡ false }
@@ -98,7 +97,7 @@ fn row_at<'a>(count: usize, places: &[Place<'a>], i: usize) -> Row<'a>
     }
 }
 
-/// Adds the rows of `places` to none.
+/// Adds the rows of `places` to the empty `rows`.
 ///
 /// # Errors
 /// - `Unknown`: a mark has a path that neither tree has.
