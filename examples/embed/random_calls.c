@@ -92,6 +92,22 @@ static uint64_t all_marks_sum(uint64_t sum, size_t file, uint32_t mark) {
     return mixed(sum, marks, count < sizeof marks ? count : sizeof marks);
 }
 
+/* A pager on a side of a file is the same one after keys that do nothing, and its page begins an update. */
+static uint64_t page_sum(uint64_t sum, size_t file, bool is_selected) {
+    char out[ROOM];
+    size_t length = 77;
+    gabro_pager pager = {77, 77, 77, false, false};
+    memset(out, GUARD, sizeof out);
+    uint32_t code = gabro_pager_open(&session, file, is_selected, &pager);
+    assert(code == GABRO_DONE && pager.is_open && pager.selected == is_selected && pager.file == file && pager.top == 0 && pager.left == 0);
+    code = gabro_pager_type(&session, &pager, "xyz", 3, 30, 4);
+    assert(code == GABRO_DONE && pager.is_open && pager.selected == is_selected && pager.file == file && pager.top == 0 && pager.left == 0);
+    code = gabro_pager_paint(&session, &pager, 30, 4, out, sizeof out, &length);
+    assert(code == GABRO_DONE && length > 8 && memcmp(out, "\x1b[?2026h", 8) == 0);
+    check_buffer(out, ROOM, length, true);
+    return mixed(sum, out, length < sizeof out ? length : sizeof out);
+}
+
 static uint64_t marks_sum(uint64_t sum, size_t file) {
     uint32_t mark = 77;
     gabro_key key = {0, file, GABRO_NO_INDEX, GABRO_NO_INDEX};
@@ -111,22 +127,6 @@ static uint64_t marks_sum(uint64_t sum, size_t file) {
         }
     }
     return sum;
-}
-
-/* A pager on a side of a file is the same one after keys that do nothing, and its page begins an update. */
-static uint64_t page_sum(uint64_t sum, size_t file, bool is_selected) {
-    char out[ROOM];
-    size_t length = 77;
-    gabro_pager pager = {77, 77, 77, false, false};
-    memset(out, GUARD, sizeof out);
-    uint32_t code = gabro_pager_open(&session, file, is_selected, &pager);
-    assert(code == GABRO_DONE && pager.is_open && pager.selected == is_selected && pager.file == file && pager.top == 0 && pager.left == 0);
-    code = gabro_pager_type(&session, &pager, "xyz", 3, 30, 4);
-    assert(code == GABRO_DONE && pager.is_open && pager.selected == is_selected && pager.file == file && pager.top == 0 && pager.left == 0);
-    code = gabro_pager_paint(&session, &pager, 30, 4, out, sizeof out, &length);
-    assert(code == GABRO_DONE && length > 8 && memcmp(out, "\x1b[?2026h", 8) == 0);
-    check_buffer(out, ROOM, length, true);
-    return mixed(sum, out, length < sizeof out ? length : sizeof out);
 }
 
 /* Asks what an item is. It is there if `is_there`, and else nothing is written. Returns its number of parts. */
