@@ -36,6 +36,7 @@ use Rattle.scm_front.specs.Keeping.{KeepsAs, saying, anchored, after_range, step
 use Rattle.scm_front.specs.declared.recording.Author.{Author}
 use Rattle.scm_front.specs.declared.recording.Author.TheVariants.{User, Program}
 use Rattle.scm_front.specs.Handing.{HandsOn}
+use Rattle.scm_front.specs.Passing.{word_after}
 use Rattle.scm_front.specs.Recording.{BeginsAnewAt, RecordsAt, RemembersAt, Returns, back_of}
 use Rattle.scm_front.specs.Restoring.{RestoresTo}
 use Rattle.scm_front.specs.Fronts.{Does, passes, types, misses, jumps, seeks, goes, ranges, marks, lacks, restores, front, front_of, found, heard, is_elsewhere, HasMarks, IsGiven, RemembersIn, beneath_of, destination, files_of, marks_of, search_word, selection_of, range_deeds, restoring}
@@ -54,17 +55,17 @@ pub own-word : (old new : Kept) (anchor : SelectionKey) (word : Notice) → Keep
 own-word old new anchor word k = record { anchor = k.anchor; word = refl; keys = k.keys }
 
 -- what is made of a turn to which events led
-pub handed-on : (turn : Turn) (query q : Query) (kept mid new : Kept) (author : Author) (before : Option (List Run)) (result : FrontTurn) → result ≡ front_of turn q new
-    → q ≡ with_word query false → new ≡ saying mid notices.Nothing → KeepsAs kept kept.anchor kept.word mid → RecordsAt author kept.history before turn mid.history
-    → HandsOn turn query kept author before result
-handed-on turn query q kept mid new author before result e word says keeps records = record {
+pub handed-on : (turn : Turn) (query q : Query) (kept mid new : Kept) (author : Author) (before : Option (List Run)) (word_now : Notice) (result : FrontTurn) → result ≡ front_of turn q new
+    → q ≡ with_word query false → new ≡ saying mid word_now → KeepsAs kept kept.anchor kept.word mid → RecordsAt author kept.history before turn mid.history
+    → HandsOn turn query kept author before word_now result
+handed-on turn query q kept mid new author before word_now result e word says keeps records = record {
   new = new;
   is = e ∙ ap (λ (x : Query). front_of turn x new) word;
-  keeps = subst (KeepsAs kept kept.anchor notices.Nothing) (sym says) (saying-keeps kept mid kept.anchor notices.Nothing kept.word keeps);
+  keeps = subst (KeepsAs kept kept.anchor word_now) (sym says) (saying-keeps kept mid kept.anchor word_now kept.word keeps);
   records = subst (λ (k : Kept). RecordsAt author kept.history before turn k.history) (sym says) records;
 }
 
-pub is-given : (f : Front) (turn : Turn) (before : Option (List Run)) (result : FrontTurn) → (h : HandsOn turn f.query f.kept Program before result)
+pub is-given : (f : Front) (turn : Turn) (before : Option (List Run)) (result : FrontTurn) → (h : HandsOn turn f.query f.kept Program before notices.Nothing result)
     → BeginsAnewAt (marks_of f) f.kept.history turn h.new.history → IsGiven f result
 is-given f turn before result h anew =
     let same : turn ≡ beneath_of result = beneath-is turn (with_word f.query false) h.new ∙ ap beneath_of (sym h.is) in
@@ -88,10 +89,12 @@ module _ (f : Front) where
   abbrev marks_now : List (List (List Bool))
   marks_now = marks_of_files (files_of f.beneath)
 
-  pub passed : (event : Event) (turn : Turn) (before : Option (List Run)) (result : FrontTurn) → (h : HandsOn turn f.query f.kept User before result) → EventLeads f.beneath event turn
+  pub passed : (event : Event) (turn : Turn) (before : Option (List Run)) (word : Notice) (result : FrontTurn) → word ≡ word_after f.beneath event
+      → (h : HandsOn turn f.query f.kept User before word result) → EventLeads f.beneath event turn
       → RemembersAt marks_now f.kept.history turn h.new.history → Does f (Pass event) (Press event ∷ []) result
-  passed event turn before result h leads remembers =
-      subst (λ (t : FrontTurn). Does f (Pass event) (Press event ∷ []) t) (sym h.is) (passes turn h.new leads h.keeps remembers)
+  passed event turn before word result said h leads remembers =
+      let keeps = subst (λ (w : Notice). KeepsAs f.kept f.kept.anchor w h.new) said h.keeps in
+      subst (λ (t : FrontTurn). Does f (Pass event) (Press event ∷ []) t) (sym h.is) (passes turn h.new leads keeps remembers)
 
   pub typed : (typing : Typing) (q : Query) (kept : Kept) → q ≡ after_typing typing f.query → kept ≡ saying f.kept notices.Nothing
       → Does f (Edit typing) [] (Waiting (front f.beneath q kept))

@@ -47,6 +47,7 @@ use Rattle.scm_front.specs.Asking.{after_typing, with_word}
 use Rattle.scm_front.specs.Begun.{JumpLeads}
 use Rattle.scm_front.specs.Scrolling.{QuietRound}
 use Rattle.scm_front.specs.Keeping.{KeepsAs, saying, after_range, is_none, steps_of, done_word, nothing_left}
+use Rattle.scm_front.specs.Passing.{word_after}
 use Rattle.scm_front.specs.Presses.{PressesLead, calls_of}
 use Rattle.scm_front.specs.Recording.{BeginsAnewAt, RemembersAt, Returns, back_of}
 
@@ -87,6 +88,7 @@ is_silent notices.FromTop = false
 is_silent notices.FromEnd = false
 is_silent notices.Range = false
 is_silent notices.NoLine = false
+is_silent notices.NoMessage = false
 is_silent notices.Undone = false
 is_silent notices.Redone = false
 is_silent notices.NothingToUndo = false
@@ -192,9 +194,9 @@ destination place l = moved_to place (has_key l.session.shown.expanded) l.sessio
 
 -- An action leads from a front to a turn, and the session beneath handles these calls.
 pub data Does : Front → Action → List Call → FrontTurn → Type 0 where
-  -- the session handles an event, and the marks before it are kept if it changed some
+  -- the session handles an event, and the marks before it are kept if it changed some; the layer says if there is no message to edit
   passes : {f : Front} {event : Event} (turn : Turn) (kept : Kept) → EventLeads f.beneath event turn
-      → KeepsAs f.kept f.kept.anchor notices.Nothing kept
+      → KeepsAs f.kept f.kept.anchor (word_after f.beneath event) kept
       → RemembersAt (marks_of_files (files_of f.beneath)) f.kept.history turn kept.history
       → Does f (Pass event) (Press event ∷ []) (front_of turn (with_word f.query false) kept)
   -- a key that types the text to search for changes only that text

@@ -22,6 +22,8 @@ pub enum Notice {
     Range,
     /// No range was begun, since no line is selected.
     NoLine,
+    /// No message was edited, since there is none.
+    NoMessage,
     /// The last change of marks is undone.
     Undone,
     /// What was undone last is done again.

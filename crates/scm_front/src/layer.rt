@@ -36,6 +36,7 @@ use crate::marking::{
     Restoring, destination, is_restored, range_deeds, restore, runs_of_range, selection_of,
     what_to_restore,
 };
+use crate::passing::word_after;
 use crate::presses::press_each;
 use crate::recording::{Author, history_after, runs_before, runs_before_all};
 use crate::scrolling::do_quiet_round;
@@ -155,17 +156,18 @@ fn recorded(kept: Kept, author: Author, before: Option<Items<Run>>, turn: &Begun
 }
 
 /// Returns `turn`, to which events of `author` led, with what the layer keeps after them, if the marks
-/// `before` them are these. What the layer said of the last key is over.
+/// `before` them are these. The layer says `word` of them.
 fn handed<'state>(
     turn: BegunTurn<'state>,
     query: Query,
     kept: Kept,
     author: Author,
     before: Option<Items<Run>>,
+    word: Notice,
 ) -> FrontTurn<'state>
-    ensures { HandsOn (turn_of turn.entry) query kept author before result }
+    ensures { HandsOn (turn_of turn.entry) query kept author before word result }
 {
-    let kept = saying(recorded(kept, author, before, &turn), Notice::Nothing);
+    let kept = saying(recorded(kept, author, before, &turn), word);
     front_turn(turn, with_word(query, false), kept)
 }
 
@@ -229,6 +231,7 @@ fn is_silent(word: Notice) -> bool
         | Notice::FromEnd
         | Notice::Range
         | Notice::NoLine
+        | Notice::NoMessage
         | Notice::Undone
         | Notice::Redone
         | Notice::NothingToUndo
@@ -468,8 +471,9 @@ impl<'state> Front<'state> {
             kept,
         } = self;
         let before = runs_before(kept.alloc, &beneath, event);
+        let word = word_after(&beneath, event);
         let turn = beneath.handle(event)?;
-        Ok(handed(turn, query, kept, Author::User, before))
+        Ok(handed(turn, query, kept, Author::User, before, word))
     }
 
     /// Hands `events` to the session beneath as one batch, as [`LiveSession::handle_all`] does.
@@ -491,7 +495,7 @@ impl<'state> Front<'state> {
         } = self;
         let before = runs_before_all(kept.alloc, &beneath, events);
         let turn = beneath.handle_all(events)?;
-        Ok(handed(turn, query, kept, Author::User, before))
+        Ok(handed(turn, query, kept, Author::User, before, Notice::Nothing))
     }
 
     /// Hands in `event` of a program to the session beneath. What a program changes is not the user's to
@@ -513,7 +517,7 @@ impl<'state> Front<'state> {
         } = self;
         let before = runs_before(kept.alloc, &beneath, event);
         let turn = beneath.handle(event)?;
-        Ok(handed(turn, query, kept, Author::Program, before))
+        Ok(handed(turn, query, kept, Author::Program, before, Notice::Nothing))
     }
 
     /// Hands in `events` of a program to the session beneath as one batch. If marks change, the history
@@ -535,7 +539,7 @@ impl<'state> Front<'state> {
         } = self;
         let before = runs_before_all(kept.alloc, &beneath, events);
         let turn = beneath.handle_all(events)?;
-        Ok(handed(turn, query, kept, Author::Program, before))
+        Ok(handed(turn, query, kept, Author::Program, before, Notice::Nothing))
     }
 
     /// Hands `events` to the session beneath in order, up to the first that ends the session or asks

@@ -16,6 +16,7 @@ pub mod laws;
 pub mod layer;
 mod logging;
 mod marking;
+mod passing;
 mod presses;
 mod recording;
 mod scrolling;

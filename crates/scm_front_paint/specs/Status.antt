@@ -16,7 +16,7 @@ use Rattle.scm_terminal.specs.StyledCell.{StyledCell, picture}
 use Rattle.scm_selection.specs.Counts.{changed_count}
 use Rattle.scm_record.specs.Marked.{checked_lines}
 use Rattle.scm_front.specs.declared.kept.Notice.{Notice}
-use Rattle.scm_front.specs.declared.kept.Notice.TheVariants.{Nothing, Asking, NotFound, FromTop, FromEnd, Range, NoLine, Undone, Redone, NothingToUndo, NothingToRedo, NotRestored}
+use Rattle.scm_front.specs.declared.kept.Notice.TheVariants.{Nothing, Asking, NotFound, FromTop, FromEnd, Range, NoLine, NoMessage, Undone, Redone, NothingToUndo, NothingToRedo, NotRestored}
 use Rattle.scm_front.specs.declared.layer.Front.{Front}
 use Rattle.scm_front.specs.Fronts.{notice_of}
 use Rattle.scm_front_paint.specs.declared.status.LeftKind.{LeftKind}
@@ -74,6 +74,7 @@ text_of_notice FromTop = codes "search goes on at the top"
 text_of_notice FromEnd = codes "search goes on at the end"
 text_of_notice Range = []
 text_of_notice NoLine = codes "a range begins at a line"
+text_of_notice NoMessage = codes "no message to edit"
 text_of_notice Undone = codes "undone"
 text_of_notice Redone = codes "done again"
 text_of_notice NothingToUndo = codes "nothing to undo"
@@ -89,6 +90,7 @@ is_range FromTop = false
 is_range FromEnd = false
 is_range Range = true
 is_range NoLine = false
+is_range NoMessage = false
 is_range Undone = false
 is_range Redone = false
 is_range NothingToUndo = false

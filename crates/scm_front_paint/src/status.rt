@@ -124,6 +124,7 @@ fn text_of_notice(notice: Notice) -> &'static str
         Notice::FromTop => "search goes on at the top",
         Notice::FromEnd => "search goes on at the end",
         Notice::NoLine => "a range begins at a line",
+        Notice::NoMessage => "no message to edit",
         Notice::Undone => "undone",
         Notice::Redone => "done again",
         Notice::NothingToUndo => "nothing to undo",
@@ -154,6 +155,7 @@ fn is_range(notice: Notice) -> bool
         | Notice::FromTop
         | Notice::FromEnd
         | Notice::NoLine
+        | Notice::NoMessage
         | Notice::Undone
         | Notice::Redone
         | Notice::NothingToUndo
