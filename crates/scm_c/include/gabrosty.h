@@ -438,7 +438,8 @@ uint32_t gabro_start(gabro_session *session, uint32_t folds, const gabro_key *fi
  * and "previous" (search again), "first", "last", "next-section", "previous-section", "next-file" and "previous-file" (select an
  * item), "range" (begins or ends one), "mark" (marks the range), "undo", "redo" or "nothing". Such a key comes before the keys of
  * the layer and of the session. While a dialog is open, only events count; while a text is asked for, none. The last of two equal
- * keys counts. "" takes all keys away.
+ * keys counts. "click=select" says that a click on the box of an item selects the item first, and acts on the box if the item is
+ * selected; otherwise one click acts. "" takes all keys away.
  *
  * Returns GABRO_DONE, or the first of GABRO_NO_KEY, GABRO_CLOSED, and GABRO_NOT_NOW if the session has no layer or waits for no event; or
  * GABRO_NO_MEMORY. */

@@ -1,9 +1,10 @@
 -- What each call of a front does.
-use Rattle.std.proofs.Common.{◌≡◌, Bool, true, false, List, [], ◌∷◌, ◌++◌, refl, sym, ap, ◌∙◌, subst, Option, Some, None}
-use Rattle.std.specs.Prelude.{IsTrue, option_to_list, if◌then◌else◌}
+use Rattle.std.proofs.Common.{◌≡◌, ℕ, Bool, true, false, List, [], ◌∷◌, ◌++◌, refl, sym, ap, ◌∙◌, subst, Option, Some, None}
+use Rattle.std.specs.Prelude.{IsTrue, ◌&&◌, option_to_list, if◌then◌else◌}
 use Rattle.scm_types.specs.declared.keys.SelectionKey.{SelectionKey}
 use Rattle.scm_types.specs.declared.keys.SelectionKey.TheVariants as keys
 use Rattle.scm_input.specs.declared.events.Event.{Event}
+use Rattle.scm_input.specs.declared.events.Event.TheVariants as events
 use Rattle.scm_input.specs.declared.terminal.TerminalEvent.{TerminalEvent}
 use Rattle.scm_record.specs.Live.{Live}
 use Rattle.scm_record.specs.LiveCalls.{Call, Press, EventLeads}
@@ -22,7 +23,7 @@ use Rattle.scm_front.specs.declared.asking.Query.{Query}
 use Rattle.scm_front.specs.declared.asking.Typing.{Typing}
 use Rattle.scm_front.specs.declared.asking.Typing.TheVariants.{Finish}
 use Rattle.scm_front.specs.declared.actions.Action.{Action}
-use Rattle.scm_front.specs.declared.actions.Action.TheVariants.{Pass, Edit, Seek, Again, Go, Range, Mark}
+use Rattle.scm_front.specs.declared.actions.Action.TheVariants.{Pass, Edit, Seek, Again, Go, Click, Range, Mark}
 use Rattle.scm_front.specs.declared.kept.Kept.{Kept}
 use Rattle.scm_front.specs.declared.kept.Notice.{Notice}
 use Rattle.scm_front.specs.declared.kept.Notice.TheVariants as notices
@@ -31,6 +32,8 @@ use Rattle.scm_front.specs.declared.layer.FrontTurn.{FrontTurn}
 use Rattle.scm_front.specs.declared.layer.FrontTurn.TheVariants.{Waiting}
 use Rattle.scm_front.specs.Asking.{after_typing, with_word}
 use Rattle.scm_front.specs.Begun.{JumpLeads}
+use Rattle.scm_front.specs.Clicking.{box_at, is_half, is_half_at, is_same_box, merely_selects}
+use Rattle.scm_front.specs.declared.clicking.ItemBox.{ItemBox}
 use Rattle.scm_front.specs.Scrolling.{QuietRound}
 use Rattle.scm_front.specs.Keeping.{KeepsAs, saying, anchored, after_range, steps_of, done_word, nothing_left, other_way}
 use Rattle.scm_front.specs.declared.recording.Author.{Author}
@@ -39,7 +42,7 @@ use Rattle.scm_front.specs.Handing.{HandsOn}
 use Rattle.scm_front.specs.Passing.{word_after}
 use Rattle.scm_front.specs.Recording.{BeginsAnewAt, RecordsAt, RemembersAt, Returns, back_of}
 use Rattle.scm_front.specs.Restoring.{RestoresTo}
-use Rattle.scm_front.specs.Fronts.{Does, passes, types, misses, jumps, seeks, goes, ranges, marks, lacks, restores, front, front_of, found, heard, is_elsewhere, HasMarks, IsGiven, RemembersIn, beneath_of, destination, files_of, marks_of, search_word, selection_of, range_deeds, restoring}
+use Rattle.scm_front.specs.Fronts.{Does, passes, types, misses, jumps, seeks, goes, clicks, acts, ranges, marks, lacks, restores, front, front_of, found, heard, is_elsewhere, HasMarks, IsGiven, RemembersIn, beneath_of, destination, files_of, marks_of, search_word, selection_of, range_deeds, restoring}
 use Rattle.scm_front.proofs.FrontLemmas.{beneath-is}
 
 -- what is kept with a word is kept as that
@@ -130,6 +133,15 @@ module _ (f : Front) where
         (goes (subst (λ (to : SelectionKey). JumpLeads f.beneath to leads.0 next) is leads.1))),
   )
 
+  pub clicked-once : (row column : ℕ) (turn : FrontTurn) (calls : List Call) → Does f (Pass (events.Click row column)) calls turn
+      → is_half_at f.beneath (beneath_of turn) row column ≡ false → (all : List Call) × Does f (Click row column) all turn
+  clicked-once row column turn calls does e = (calls, clicks does e)
+
+  pub clicked-twice : (row column : ℕ) (mid : Front) (turn : FrontTurn) (calls more : List Call) → Does f (Pass (events.Click row column)) calls (Waiting mid)
+      → is_half f.beneath mid.beneath row column ≡ true → files_of mid.beneath ≡ files_of f.beneath → Does mid (Pass (events.Click row column)) more turn
+      → (all : List Call) × Does f (Click row column) all turn
+  clicked-twice row column mid turn calls more does half same second = (calls ++ more, acts does half same second)
+
   pub ranged : (q : Query) (kept : Kept) → q ≡ with_word f.query false → kept ≡ after_range f.kept (selection_of f.beneath)
       → Does f Range [] (Waiting (front f.beneath q kept))
   ranged q kept word says =
@@ -179,6 +191,13 @@ pub same-round : (l : Live) (turn : Turn) (deeds other : List Deed) (back key : 
     → ((calls : List Call) × QuietRound l other back calls turn) → (calls : List Call) × QuietRound l deeds key calls turn
 same-round l turn deeds other back key e same r =
     (r.0, subst (λ (k : SelectionKey). QuietRound l deeds k r.0 turn) same (subst (λ (list : List Deed). QuietRound l list back r.0 turn) e r.1))
+
+-- whether a click was half of two, by other names
+pub half-is : (l next : Live) (row column : ℕ) (first : ItemBox) (selection : SelectionKey) (selects b : Bool) → first ≡ box_at l row column → selection ≡ selection_of l
+    → selects ≡ merely_selects selection first → b ≡ (selects && is_same_box first (box_at next row column)) → b ≡ is_half l next row column
+half-is l next row column first selection selects b e f g h =
+    h ∙ (ap (λ (x : Bool). x && is_same_box first (box_at next row column)) (g ∙ ap (λ (k : SelectionKey). merely_selects k first) f)
+    ∙ ap (λ (x : ItemBox). merely_selects (selection_of l) x && is_same_box x (box_at next row column)) e)
 
 -- ---- marks that are restored
 

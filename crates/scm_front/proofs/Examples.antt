@@ -20,6 +20,7 @@ use Rattle.scm_front.specs.declared.actions.Action.{Action}
 use Rattle.scm_front.specs.declared.actions.Action.TheVariants.{Pass, Edit, Again, Range, Mark, Undo, Redo}
 use Rattle.scm_front.specs.declared.actions.Mode.TheVariants as modes
 use Rattle.scm_front.specs.declared.actions.OwnKey.{OwnKey}
+use Rattle.scm_front.specs.declared.actions.OwnKey.TheVariants as owns
 use Rattle.scm_front.specs.Actions.{action_of}
 use Rattle.scm_front.specs.Fronts.{search_word}
 use Rattle.scm_front.specs.declared.kept.Notice.TheVariants as notices
@@ -139,7 +140,7 @@ redo_r = refl
 
 -- a key of the user's own comes before the layer's, and of two that are equal the last one counts
 abbrev own : KeyCode → Action → OwnKey
-own code action = record { code = code; modifiers = none; action = action }
+own code action = owns.Key code none action
 
 own_n : action_of modes.Free (own (char "n") Undo ∷ []) (pressed none (char "n")) ≡ Undo
 own_n = refl

@@ -1,6 +1,6 @@
 -- What the steps of a run do with the files of a session, until it waits again.
 use Rattle.std.proofs.Common.{◌≡◌, ℕ, Bool, true, false, cond, List, [], ◌∷◌, ◌++◌, length, refl, sym, ap, ◌∙◌, subst, Option, Some, None, inl, inr}
-use Rattle.std.specs.Prelude.{nat_lt}
+use Rattle.std.specs.Prelude.{nat_lt, not}
 use Rattle.scm_types.specs.declared.file.File.{File}
 use Rattle.scm_types.specs.declared.keys.SelectionKey.{SelectionKey}
 use Rattle.scm_types.specs.declared.state.RecordState.{RecordState}
@@ -38,6 +38,7 @@ use Rattle.scm_front.specs.declared.recording.Effect.{Effect}
 use Rattle.scm_front.specs.declared.recording.Effect.TheVariants as effects
 use Rattle.scm_front.specs.declared.recording.Reach.{Reach}
 use Rattle.scm_front.specs.declared.recording.Reach.TheVariants.{Nothing, Item}
+use Rattle.scm_front.specs.Clicking.{box_at, box_of, merely_selects}
 use Rattle.scm_front.specs.Recording.{effect_of, may_mark, reach_by, reach_from, reach_if, reach_of, reach_of_owner}
 use Rattle.scm_front.proofs.EffectLemmas.{After, ArePlain, IsNoClick, IsPlain, after-event, as_was, by_all, by_item, click-is, files_in, leaves-plain, low-no-click, plain-append}
 
@@ -279,6 +280,49 @@ module _ (l : Live) (calm : l.session.pending ≡ []) (scene : Scene) (w : World
   clicked : (o : Option ComponentId) → Later (after_click l.session.shown.open_menu l.session o) → After (files_in l.session) (reach_of_owner l o) (files_at q)
   clicked None way = settles Nothing (stays l.session) (as_was refl) calm_plain way
   clicked (Some id) way = clicked-on id way
+
+  -- a click on the box of an item that is not selected merely selects it
+  selecting-by : (key : SelectionKey) (done : Session) (b : Bool) → not b ≡ true → Later (stays (cond b done (at_key l.session key))) → files_at q ≡ files_in l.session
+  selecting-by key done true e way = absurd (cc e)
+  selecting-by key done false e way = same-of refl (settles Nothing (stays (at_key l.session key)) (as_was refl) calm_plain way)
+
+  selecting-on : (o : Option ComponentId) → merely_selects l.session.shown.selection (box_of o) ≡ true → Later (after_click l.session.shown.open_menu l.session o)
+      → files_at q ≡ files_in l.session
+  selecting-on (Some (ids.ToggleBox key)) e way = selecting-by key (after_toggle l.session) (is_key key l.session.shown.selection) e way
+  selecting-on (Some (ids.ExpandBox key)) e way = selecting-by key (after_expand l.session) (is_key key l.session.shown.selection) e way
+  selecting-on None e way = absurd (cc e)
+  selecting-on (Some (ids.FileViewHeader key)) e way = absurd (cc e)
+  selecting-on (Some (ids.SelectableItem key)) e way = absurd (cc e)
+  selecting-on (Some (ids.CommitEditMessageButton commit)) e way = absurd (cc e)
+  selecting-on (Some ids.MenuBar) e way = absurd (cc e)
+  selecting-on (Some (ids.Menu menu)) e way = absurd (cc e)
+  selecting-on (Some (ids.MenuItem item)) e way = absurd (cc e)
+  selecting-on (Some (ids.QuitDialogButton b)) e way = absurd (cc e)
+  selecting-on (Some ids.HelpDialogQuitButton) e way = absurd (cc e)
+  selecting-on (Some ids.QuitDialog) e way = absurd (cc e)
+  selecting-on (Some ids.HelpDialog) e way = absurd (cc e)
+  selecting-on (Some ids.App) e way = absurd (cc e)
+  selecting-on (Some ids.AppFiles) e way = absurd (cc e)
+  selecting-on (Some ids.MenuHeader) e way = absurd (cc e)
+  selecting-on (Some ids.CommitMessageView) e way = absurd (cc e)
+
+-- so it leaves the files
+module _ (l : Live) (row column : ℕ) (q : Point) (calm : l.session.pending ≡ []) (selects : merely_selects l.session.shown.selection (box_at l row column) ≡ true) where
+  selecting-within : Reaches (Within l.session (world_in (live_setting l.kind [] []) l.session 0) (events.Click row column ∷ [])) q → files_at q ≡ files_in l.session
+  selecting-within way = elim (ahead way) [
+    | inl is ↦ ap files_at (sym is)
+    | inr later ↦
+        selecting-on l calm (scene_of l.kind l.session) (world_in (live_setting l.kind [] []) l.session 0) refl q
+        (hit (scene_of l.kind l.session) l.session.scroll row column) selects later
+  ]
+
+  pub selecting-reach : Reaches (waiting_point l (Batch (events.Click row column ∷ []) ∷ []) [] 0) q → files_at q ≡ files_in l.session
+  selecting-reach way = elim (ahead way) [
+    | inl is ↦ ap files_at (sym is)
+    | inr later ↦
+        selecting-within
+        (subst (λ (list : List Event). Reaches (batch (world_in (live_setting l.kind (Batch (events.Click row column ∷ []) ∷ []) []) l.session 0) list) q) calm later)
+  ]
 
 -- ---- any event
 

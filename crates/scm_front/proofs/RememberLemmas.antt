@@ -7,6 +7,7 @@ use Rattle.std.proofs.lemmas.List.{nil_from_length}
 use Rattle.scm_types.specs.declared.file.File.{File}
 use Rattle.scm_input.specs.Script.{Batch}
 use Rattle.scm_input.specs.declared.events.Event.{Event}
+use Rattle.scm_input.specs.declared.events.Event.TheVariants.{Click}
 use Rattle.scm_record.specs.Live.{Live, LiveEdit}
 use Rattle.scm_record.specs.Session.{Session}
 use Rattle.scm_record.specs.LiveCalls.{BatchLeads, Call, EventLeads, IsDrawnFor, MessageLeads, Path, press, press_all, resize, say, still, waiting_point}
@@ -25,6 +26,7 @@ use Rattle.scm_front_items.proofs.PlaceLemmas.{Marks, inner, inner-files, shape,
 use Rattle.scm_front_items.proofs.RunPlaceLemmas.{runs-of-files-own, runs-of-key-own}
 use Rattle.scm_front_items.proofs.ToggleRunLemmas.{toggle-restores}
 use Rattle.scm_front.specs.Begun.{HasBegun}
+use Rattle.scm_front.specs.Clicking.{box_at, is_half, is_same_box, merely_selects}
 use Rattle.scm_front.specs.Fronts.{files_of}
 use Rattle.scm_front.specs.Presses.{PressesLead, calls_of}
 use Rattle.scm_front.specs.declared.recording.Author.TheVariants.{User, Program}
@@ -32,7 +34,7 @@ use Rattle.scm_front.specs.declared.recording.Reach.{Reach}
 use Rattle.scm_front.specs.declared.recording.Reach.TheVariants.{Nothing, Item, All}
 use Rattle.scm_front.specs.Recording.{BeginsAnew, BeginsAnewAt, Records, RecordsAt, RecordsUnread, Remembers, RemembersAt, Restarts, begun_anew, effect_of, forgets, forgets_all, forgotten, keeps, marks_stay, may_mark, reach_of, reach_of_all, remembered, runs_changed, runs_stay, runs_unknown, runs_within, stays, stays_so, unchanged}
 use Rattle.scm_front.proofs.EffectLemmas.{After, ArePlain, IsPlain, as_was, by_all, by_item}
-use Rattle.scm_front.proofs.ReachLemmas.{batch-quiet-reach, event-reach, files_at, reaches-shape}
+use Rattle.scm_front.proofs.ReachLemmas.{batch-quiet-reach, event-reach, files_at, reaches-shape, selecting-reach}
 
 -- ---- a step leads back
 
@@ -165,6 +167,13 @@ pub event-begins-anew : (l : Live) (event : Event) (turn : Turn) (old new : Hist
     → BeginsAnewAt (marks_of_files (files_of l)) old turn new
 event-begins-anew l event turn old new before calm taken g r =
     reach-begins-anew (files_of l) (reach_of l event) old new before taken turn (event-after l event turn calm g) r
+
+-- a click that merely selects the item of a box
+pub selecting-keeps : (l next : Live) (row column : ℕ) → l.session.pending ≡ [] → is_half l next row column ≡ true → EventLeads l (Click row column) (turns.Waiting next)
+    → files_of next ≡ files_of l
+selecting-keeps l next row column calm half g =
+    let selects = (and_parts (merely_selects l.session.shown.selection (box_at l row column)) (is_same_box (box_at l row column) (box_at next row column)) half).0 in
+    selecting-reach l row column _ calm selects (g [] [] 0).3
 
 -- ---- many events
 

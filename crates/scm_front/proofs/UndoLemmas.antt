@@ -10,24 +10,25 @@ use Rattle.scm_record.specs.LiveCalls.{Call}
 use Rattle.scm_record.specs.declared.live.Turn.{Turn}
 use Rattle.scm_record.specs.declared.live.Turn.TheVariants as turns
 use Rattle.scm_input.specs.declared.events.Event.{Event}
+use Rattle.scm_input.specs.declared.events.Event.TheVariants as events
 use Rattle.scm_front_items.specs.declared.history.History.{History}
 use Rattle.scm_front_items.specs.declared.items.Way.{Way}
 use Rattle.scm_front_items.specs.declared.items.Way.TheVariants.{Down, Up}
 use Rattle.scm_front_items.specs.declared.places.Place.{Place}
 use Rattle.scm_front_items.specs.declared.runs.Step.{Step}
 use Rattle.scm_front_items.specs.Histories.{KeepsStep, drops, keeps}
-use Rattle.scm_front_items.specs.Runs.{marks_with}
+use Rattle.scm_front_items.specs.Runs.{marks_of_files, marks_with}
 use Rattle.scm_front_items.proofs.BackLemmas.{back-restores}
 use Rattle.scm_front_items.proofs.HistoryLemmas.{bounded-newest}
 use Rattle.scm_front.specs.declared.actions.Action.{Action}
-use Rattle.scm_front.specs.declared.actions.Action.TheVariants.{Go, Mark, Pass, Redo, Undo}
+use Rattle.scm_front.specs.declared.actions.Action.TheVariants.{Click, Go, Mark, Pass, Redo, Undo}
 use Rattle.scm_front.specs.declared.asking.Query.{Query}
 use Rattle.scm_front.specs.declared.kept.Kept.{Kept}
 use Rattle.scm_front.specs.declared.kept.Notice.TheVariants as notices
 use Rattle.scm_front.specs.declared.layer.Front.{Front}
 use Rattle.scm_front.specs.declared.layer.FrontTurn.{FrontTurn}
 use Rattle.scm_front.specs.declared.layer.FrontTurn.TheVariants.{Waiting}
-use Rattle.scm_front.specs.Fronts.{Does, HasMarks, files_of, is_elsewhere, is_restoring, search_word, selection_of, front, front_of, goes, ignores, jumps, lacks, marks, marks_of, misses, passes, ranges, restores, restoring, seeks, types}
+use Rattle.scm_front.specs.Fronts.{Does, acts, clicks, HasMarks, files_of, is_elsewhere, is_restoring, search_word, selection_of, front, front_of, goes, ignores, jumps, lacks, marks, marks_of, misses, passes, ranges, restores, restoring, seeks, types}
 use Rattle.scm_front.specs.Asking.{after_typing, with_word}
 use Rattle.scm_front.specs.Begun.{JumpLeads}
 use Rattle.scm_front.specs.Begun as begun
@@ -79,6 +80,8 @@ by-pass (misses x) event is g e = absurd (cc is)
 by-pass (jumps x y) event is g e = absurd (cc is)
 by-pass (seeks x) event is g e = absurd (cc is)
 by-pass (goes x) event is g e = absurd (cc is)
+by-pass (clicks x y) event is g e = absurd (cc is)
+by-pass (acts x y z w) event is g e = absurd (cc is)
 by-pass ranges event is g e = absurd (cc is)
 by-pass (marks turn kept x y z) event is g e = absurd (cc is)
 by-pass (lacks Up kept x y) event is g e = absurd (cc is)
@@ -96,12 +99,39 @@ by-mark (misses x) is g e = absurd (cc is)
 by-mark (jumps x y) is g e = absurd (cc is)
 by-mark (seeks x) is g e = absurd (cc is)
 by-mark (goes x) is g e = absurd (cc is)
+by-mark (clicks x y) is g e = absurd (cc is)
+by-mark (acts x y z w) is g e = absurd (cc is)
 by-mark ranges is g e = absurd (cc is)
 by-mark (lacks Up kept x y) is g e = absurd (cc is)
 by-mark (lacks Down kept x y) is g e = absurd (cc is)
 by-mark (restores Up rest step turn kept a b c d h) is g e = absurd (cc is)
 by-mark (restores Down rest step turn kept a b c d h) is g e = absurd (cc is)
 by-mark ignores is g e = absurd (cc is)
+
+-- what a click leaves: what an event leaves that began with the same marks
+pub record ByClick (f g : Front) : Type 0 where
+  pub mid : Front
+  pub same : marks_of mid ≡ marks_of f
+  pub remembers : Remembers (marks_of mid) (marks_of g) mid.kept.history g.kept.history
+
+by-click : {f : Front} {action : Action} {calls : List Call} {turn : FrontTurn} → Does f action calls turn → (row column : ℕ) → action ≡ Click row column → (g : Front)
+    → turn ≡ Waiting g → ByClick f g
+by-click (clicks {f = f} {row = r} {column = c} does x) row column is g e = record { mid = f; same = refl; remembers = by-pass does (events.Click r c) refl g e }
+by-click (acts {mid = mid} {row = r} {column = c} first x same second) row column is g e =
+    record { mid = mid; same = ap marks_of_files same; remembers = by-pass second (events.Click r c) refl g e }
+by-click (passes turn kept x y z) row column is g e = absurd (cc is)
+by-click types row column is g e = absurd (cc is)
+by-click (misses x) row column is g e = absurd (cc is)
+by-click (jumps x y) row column is g e = absurd (cc is)
+by-click (seeks x) row column is g e = absurd (cc is)
+by-click (goes x) row column is g e = absurd (cc is)
+by-click ranges row column is g e = absurd (cc is)
+by-click (marks turn kept x y z) row column is g e = absurd (cc is)
+by-click (lacks Up kept x y) row column is g e = absurd (cc is)
+by-click (lacks Down kept x y) row column is g e = absurd (cc is)
+by-click (restores Up rest step turn kept a b c d h) row column is g e = absurd (cc is)
+by-click (restores Down rest step turn kept a b c d h) row column is g e = absurd (cc is)
+by-click ignores row column is g e = absurd (cc is)
 
 -- what a restoring that is done leaves
 pub record Done (f h : Front) (way : Way) : Type 0 where
@@ -159,6 +189,10 @@ done-by (seeks x) Up is h e said = absurd (cc is)
 done-by (seeks x) Down is h e said = absurd (cc is)
 done-by (goes x) Up is h e said = absurd (cc is)
 done-by (goes x) Down is h e said = absurd (cc is)
+done-by (clicks x y) Up is h e said = absurd (cc is)
+done-by (clicks x y) Down is h e said = absurd (cc is)
+done-by (acts x y z w) Up is h e said = absurd (cc is)
+done-by (acts x y z w) Down is h e said = absurd (cc is)
 done-by ranges Up is h e said = absurd (cc is)
 done-by ranges Down is h e said = absurd (cc is)
 done-by (marks turn kept x y z) Up is h e said = absurd (cc is)
@@ -185,6 +219,12 @@ pub undo-range : (f g h : Front) (calls more : List Call) → Does f Mark calls 
     → Does g Undo more (Waiting h) → h.kept.word ≡ notices.Undone → marks_of h ≡ marks_of f
 undo-range f g h calls more does changed undo said =
     undone (marks_of f) f.kept.history g h (by-mark does refl g refl) changed (done-by undo Up refl h refl said)
+
+pub undo-click : (f g h : Front) (row column : ℕ) (calls more : List Call) → Does f (Click row column) calls (Waiting g) → (marks_of g ≡ marks_of f → ⊥)
+    → Does g Undo more (Waiting h) → h.kept.word ≡ notices.Undone → marks_of h ≡ marks_of f
+undo-click f g h row column calls more does changed undo said =
+    let b = by-click does row column refl g refl in
+    undone (marks_of b.mid) b.mid.kept.history g h b.remembers (λ e. changed (e ∙ b.same)) (done-by undo Up refl h refl said) ∙ b.same
 
 -- one restoring after another, in the other direction
 back-again : (f g h : Front) (way : Way) → Done f g way → Done g h (other_way way) → marks_of h ≡ marks_of f
@@ -217,6 +257,13 @@ recalls-event f g event calls does changed = recalled (marks_of f) f.kept.histor
 
 pub recalls-range : (f g : Front) (calls : List Call) → Does f Mark calls (Waiting g) → (marks_of g ≡ marks_of f → ⊥) → Recalls (marks_of f) (marks_of g) g.kept.history
 recalls-range f g calls does changed = recalled (marks_of f) f.kept.history g (by-mark does refl g refl) changed
+
+pub recalls-click : (f g : Front) (row column : ℕ) (calls : List Call) → Does f (Click row column) calls (Waiting g) → (marks_of g ≡ marks_of f → ⊥)
+    → Recalls (marks_of f) (marks_of g) g.kept.history
+recalls-click f g row column calls does changed =
+    let b = by-click does row column refl g refl in
+    subst (λ (before : List (List (List Bool))). Recalls before (marks_of g) g.kept.history) b.same
+    (recalled (marks_of b.mid) b.mid.kept.history g b.remembers (λ e. changed (e ∙ b.same)))
 
 -- it stays so as long as no mark changes
 same-history : (before now new_marks : List (List (List Bool))) (old new : History) → new ≡ old → new_marks ≡ now → Recalls before now old → Recalls before new_marks new
@@ -255,6 +302,10 @@ later-recalls before (jumps {f = f} {way = way} {key = key} {next = next} x y) f
 later-recalls before (seeks does) free g e m h = later-recalls before does refl g e m h
 later-recalls before (goes {f = f} {next = next} x) free g e m h =
     still-recalls before f g next (with_word f.query false) (saying f.kept notices.Nothing) e refl m h
+later-recalls before (clicks does x) free g e m h = later-recalls before does refl g e m h
+later-recalls before (acts {mid = mid} first x same second) free g e m h =
+    let kept_marks = ap marks_of_files same in
+    later-recalls before second refl g e (m ∙ sym kept_marks) (later-recalls before first refl mid refl kept_marks h)
 later-recalls before (ranges {f = f}) free g e m h =
     still-recalls before f g f.beneath (with_word f.query false) (after_range f.kept (selection_of f.beneath)) e (range-history f.kept (selection_of f.beneath)) m h
 later-recalls before (lacks Up kept x y) free g e m h = absurd (cc free)
@@ -290,6 +341,8 @@ go-keeps types place is g e = absurd (cc is)
 go-keeps (misses x) place is g e = absurd (cc is)
 go-keeps (jumps x y) place is g e = absurd (cc is)
 go-keeps (seeks x) place is g e = absurd (cc is)
+go-keeps (clicks x y) place is g e = absurd (cc is)
+go-keeps (acts x y z w) place is g e = absurd (cc is)
 go-keeps ranges place is g e = absurd (cc is)
 go-keeps (marks turn kept x y z) place is g e = absurd (cc is)
 go-keeps (lacks Up kept x y) place is g e = absurd (cc is)

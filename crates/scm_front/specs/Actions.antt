@@ -1,5 +1,5 @@
 -- The key table of the layer: what it does with each event of a terminal.
-use Rattle.std.specs.Prelude.{Bool, true, false, List, [], ◌∷◌, ◌&&◌, if◌then◌else◌}
+use Rattle.std.specs.Prelude.{ℕ, Bool, true, false, not, List, [], ◌∷◌, ◌&&◌, if◌then◌else◌}
 use Rattle.std.specs.Char.{to_ascii_uppercase}
 use Rattle.std.specs.List.{list_any}
 use Rattle.scm_input.specs.KeyTable.{none, shift, control, char, same_modifiers, same_key, event_of}
@@ -9,6 +9,9 @@ use Rattle.scm_input.specs.declared.terminal.KeyCode.TheVariants as key
 use Rattle.scm_input.specs.declared.terminal.KeyEvent.{KeyEvent}
 use Rattle.scm_input.specs.declared.terminal.KeyEventKind.{KeyEventKind}
 use Rattle.scm_input.specs.declared.terminal.KeyEventKind.TheVariants.{Press, Repeat, Release}
+use Rattle.scm_input.specs.declared.terminal.MouseButton.TheVariants as button
+use Rattle.scm_input.specs.declared.terminal.MouseEventKind.{MouseEventKind}
+use Rattle.scm_input.specs.declared.terminal.MouseEventKind.TheVariants as mouse
 use Rattle.scm_input.specs.declared.terminal.TerminalEvent.{TerminalEvent}
 use Rattle.scm_input.specs.declared.terminal.TerminalEvent.TheVariants as terminal
 use Rattle.scm_input.specs.declared.events.Event.TheVariants.{FocusNext, FocusPrev}
@@ -16,8 +19,9 @@ use Rattle.scm_front_items.specs.declared.items.Way.TheVariants.{Up, Down}
 use Rattle.scm_front_items.specs.declared.places.Place.TheVariants.{First, Last, Section, File}
 use Rattle.scm_front.specs.declared.asking.Typing.TheVariants.{Ask, Add, Erase, Leave}
 use Rattle.scm_front.specs.declared.actions.Action.{Action}
-use Rattle.scm_front.specs.declared.actions.Action.TheVariants.{Pass, Edit, Seek, Again, Go, Range, Mark, Undo, Redo, Ignore}
+use Rattle.scm_front.specs.declared.actions.Action.TheVariants.{Pass, Edit, Seek, Again, Go, Click, Range, Mark, Undo, Redo, Ignore}
 use Rattle.scm_front.specs.declared.actions.OwnKey.{OwnKey}
+use Rattle.scm_front.specs.declared.actions.OwnKey.TheVariants as own
 use Rattle.scm_front.specs.declared.actions.Mode.{Mode}
 use Rattle.scm_front.specs.declared.actions.Mode.TheVariants as modes
 
@@ -110,7 +114,8 @@ ranging_action modifiers code pass = first_action ranging_keys modifiers code (o
 
 -- whether one of the user's own keys is `code` with exactly `modifiers`
 abbrev pub is_pressed : KeyModifiers → KeyCode → OwnKey → Bool
-is_pressed modifiers code k = same_modifiers k.modifiers modifiers && same_key k.code code
+is_pressed modifiers code (own.Key k held action) = same_modifiers held modifiers && same_key k code
+is_pressed modifiers code own.ClickSelects = false
 
 -- whether an event is one of the user's own keys
 abbrev pub has_key : List OwnKey → TerminalEvent → Bool
@@ -120,8 +125,8 @@ has_key keys terminal.Other = false
 
 -- the action of one of the user's own keys, or else `otherwise`
 abbrev pub action_by : OwnKey → KeyModifiers → KeyCode → Action → Action
-action_by k modifiers code otherwise =
-    if same_modifiers k.modifiers modifiers && same_key k.code code then k.action else otherwise
+action_by (own.Key k held action) modifiers code otherwise = if same_modifiers held modifiers && same_key k code then action else otherwise
+action_by own.ClickSelects modifiers code otherwise = otherwise
 
 -- the action of the last of the user's own keys that matches, or else `otherwise`
 abbrev pub last_action : List OwnKey → KeyModifiers → KeyCode → Action → Action
@@ -152,6 +157,7 @@ session_action (Edit typing) pass = pass
 session_action Seek pass = pass
 session_action (Again way) pass = pass
 session_action (Go place) pass = pass
+session_action (Click row column) pass = pass
 session_action Range pass = pass
 session_action Mark pass = pass
 session_action Undo pass = pass
@@ -174,8 +180,32 @@ key_action modes.Dialog ks e = dialog_key ks e (Pass (event_of (terminal.Key e))
 key_action modes.Ranging ks e = free_key true ks e (Pass (event_of (terminal.Key e)))
 key_action modes.Free ks e = free_key false ks e (Pass (event_of (terminal.Key e)))
 
--- the action of an event of the terminal: the session hears the mouse always
+-- whether one of the user's own keys says that a click selects first
+abbrev pub is_selecting : OwnKey → Bool
+is_selecting (own.Key k held action) = false
+is_selecting own.ClickSelects = true
+
+-- whether one click acts on a box: no dialog is open, and no key says otherwise
+abbrev pub acts_at_once : Mode → List OwnKey → Bool
+acts_at_once modes.Dialog ks = false
+acts_at_once modes.Asking ks = not (list_any is_selecting ks)
+acts_at_once modes.Ranging ks = not (list_any is_selecting ks)
+acts_at_once modes.Free ks = not (list_any is_selecting ks)
+
+-- the action of the mouse: a click, if it acts on boxes at once, or else `pass`
+abbrev pub mouse_action : Bool → MouseEventKind → ℕ → ℕ → Action → Action
+mouse_action is_acting (mouse.Down button.Left) row column pass = if is_acting then Click row column else pass
+mouse_action is_acting (mouse.Down button.Right) row column pass = pass
+mouse_action is_acting (mouse.Down button.Middle) row column pass = pass
+mouse_action is_acting (mouse.Up b) row column pass = pass
+mouse_action is_acting (mouse.Drag b) row column pass = pass
+mouse_action is_acting mouse.Moved row column pass = pass
+mouse_action is_acting mouse.ScrollUp row column pass = pass
+mouse_action is_acting mouse.ScrollDown row column pass = pass
+mouse_action is_acting mouse.Other row column pass = pass
+
+-- the action of an event of the terminal: the session hears the mouse always, and one click may act on a box
 abbrev pub action_of : Mode → List OwnKey → TerminalEvent → Action
 action_of mode ks (terminal.Key e) = key_action mode ks e
-action_of mode ks (terminal.Mouse e) = Pass (event_of (terminal.Mouse e))
+action_of mode ks (terminal.Mouse e) = mouse_action (acts_at_once mode ks) e.kind e.row e.column (Pass (event_of (terminal.Mouse e)))
 action_of mode ks terminal.Other = Pass (event_of terminal.Other)

@@ -7,6 +7,7 @@ use Rattle.scm_types.specs.declared.keys.SelectionKey.{SelectionKey}
 use Rattle.scm_types.specs.declared.keys.SelectionKey.TheVariants as keys
 use Rattle.scm_types.specs.Keys.{is_key}
 use Rattle.scm_input.specs.declared.events.Event.{Event}
+use Rattle.scm_input.specs.declared.events.Event.TheVariants as events
 use Rattle.scm_input.specs.declared.inputs.TerminalKind.{TerminalKind}
 use Rattle.scm_input.specs.declared.terminal.TerminalEvent.{TerminalEvent}
 use Rattle.scm_terminal.specs.declared.decoder.Decoder.{Decoder}
@@ -32,7 +33,7 @@ use Rattle.scm_front.specs.declared.asking.Query.{Query}
 use Rattle.scm_front.specs.declared.asking.Typing.{Typing}
 use Rattle.scm_front.specs.declared.asking.Typing.TheVariants.{Finish}
 use Rattle.scm_front.specs.declared.actions.Action.{Action}
-use Rattle.scm_front.specs.declared.actions.Action.TheVariants.{Pass, Edit, Seek, Again, Go, Range, Mark, Undo, Redo, Ignore}
+use Rattle.scm_front.specs.declared.actions.Action.TheVariants.{Pass, Edit, Seek, Again, Go, Click, Range, Mark, Undo, Redo, Ignore}
 use Rattle.scm_front.specs.declared.actions.Mode.{Mode}
 use Rattle.scm_front.specs.declared.actions.Mode.TheVariants as modes
 use Rattle.scm_front.specs.declared.kept.Kept.{Kept}
@@ -45,6 +46,7 @@ use Rattle.scm_front.specs.declared.layer.FrontTurn.TheVariants.{Waiting, Editin
 use Rattle.scm_front.specs.Actions.{action_of}
 use Rattle.scm_front.specs.Asking.{after_typing, with_word}
 use Rattle.scm_front.specs.Begun.{JumpLeads}
+use Rattle.scm_front.specs.Clicking.{is_half, is_half_at}
 use Rattle.scm_front.specs.Scrolling.{QuietRound}
 use Rattle.scm_front.specs.Keeping.{KeepsAs, saying, after_range, is_none, steps_of, done_word, nothing_left}
 use Rattle.scm_front.specs.Passing.{word_after}
@@ -175,6 +177,7 @@ is_restoring (Edit typing) = false
 is_restoring Seek = false
 is_restoring (Again way) = false
 is_restoring (Go place) = false
+is_restoring (Click row column) = false
 is_restoring Range = false
 is_restoring Mark = false
 is_restoring Undo = true
@@ -216,6 +219,13 @@ pub data Does : Front → Action → List Call → FrontTurn → Type 0 where
   -- a move to a place selects the item there by a jump; the selection stays if there is none
   goes : {f : Front} {place : Place} {calls : List Call} {next : Live} → JumpLeads f.beneath (destination place f.beneath) calls next
       → Does f (Go place) calls (Waiting (front next (with_word f.query false) (saying f.kept notices.Nothing)))
+  -- a click is handed in as it is, unless it merely selects the item of a box that is at its place then
+  clicks : {f : Front} {row column : ℕ} {calls : List Call} {turn : FrontTurn} → Does f (Pass (events.Click row column)) calls turn
+      → is_half_at f.beneath (beneath_of turn) row column ≡ false → Does f (Click row column) calls turn
+  -- such a click changes no file and is handed in once more: the second one acts on the box
+  acts : {f mid : Front} {row column : ℕ} {calls more : List Call} {turn : FrontTurn} → Does f (Pass (events.Click row column)) calls (Waiting mid)
+      → is_half f.beneath mid.beneath row column ≡ true → files_of mid.beneath ≡ files_of f.beneath
+      → Does mid (Pass (events.Click row column)) more turn → Does f (Click row column) (calls ++ more) turn
   -- a range begins or ends, and the session is as it was
   ranges : {f : Front}
       → Does f Range [] (Waiting (front f.beneath (with_word f.query false) (after_range f.kept (selection_of f.beneath))))
@@ -269,10 +279,17 @@ pub record SilenceHeard (f : Front) (old new : Decoder) (turn : FrontTurn) : Typ
 
 -- ---- errors
 
--- an allocation failed, or the event of the session that the key means ends the session with `error`
+-- a click ends the session with `error`: as the session handles it, or handles it once more
+pub data ClickFails (f : Front) (row column : ℕ) (error : RecordError) : Type 0 where
+  click_failed : EventFails f.beneath (events.Click row column) error → ClickFails f row column error
+  second_failed : (calls : List Call) (mid : Front) → Does f (Pass (events.Click row column)) calls (Waiting mid)
+      → is_half f.beneath mid.beneath row column ≡ true → EventFails mid.beneath (events.Click row column) error → ClickFails f row column error
+
+-- an allocation failed, or the event of the session that the key means, or the click, ends the session with `error`
 pub data KeyFails (f : Front) (key : TerminalEvent) (error : RecordError) : Type 0 where
   key_refused : error ≡ OutOfMemory → KeyFails f key error
   key_failed : (event : Event) → heard f key ≡ Pass event → EventFails f.beneath event error → KeyFails f key error
+  key_click_failed : (row column : ℕ) → heard f key ≡ Click row column → ClickFails f row column error → KeyFails f key error
 
 -- one of the keys fails, after the earlier ones led to a front that waits
 pub record KeysFail (f : Front) (keys : List TerminalEvent) (error : RecordError) : Type 0 where

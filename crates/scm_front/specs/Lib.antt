@@ -25,6 +25,8 @@ pub mod Restoring
 pub mod Scrolling
 -- what the layer says of an event that it hands in
 pub mod Passing
+-- clicks on boxes
+pub mod Clicking
 -- fronts: what they do with what they hear, and the calls of the session beneath
 pub mod Fronts
 -- what the layer makes of a turn to which events led

@@ -2,11 +2,14 @@
 ghost use Rattle.std.specs.Prelude.{◌≡◌};
 ghost use Rattle.std.specs.List.{list_any};
 ghost use Rattle.scm_input.specs.KeyTable.{same_key, same_modifiers};
-ghost use Rattle.scm_front.specs.Actions.{action_by, action_of, adding, asking_action, asking_key, dialog_key, first_action, free_key, has_key, is_pressed, last_action, moving_keys, own_action, ranging_action, session_action};
+ghost use Rattle.scm_front.specs.Actions.{action_by, action_of, acts_at_once, adding, asking_action, asking_key, dialog_key, first_action, free_key, has_key, is_pressed, is_selecting, last_action, mouse_action, moving_keys, own_action, ranging_action, session_action};
 
 use crate::asking::Typing;
 use scm_front_items::{Place, Way};
-use scm_record::{Event, KeyCode, KeyEvent, KeyEventKind, KeyModifiers, TerminalEvent};
+use scm_record::{
+    Event, KeyCode, KeyEvent, KeyEventKind, KeyModifiers, MouseButton, MouseEvent, MouseEventKind,
+    TerminalEvent,
+};
 
 /// No modifier is held.
 const NONE: KeyModifiers = KeyModifiers::NONE;
@@ -30,6 +33,14 @@ pub enum Action {
     Again(Way),
     /// Selects the item at a place.
     Go(Place),
+    /// Clicks at a place of the screen, counted from 0; on the box of an item a second time, if the first
+    /// click merely selects the item.
+    Click {
+        /// The row of the screen.
+        row: usize,
+        /// The column of the screen.
+        column: usize,
+    },
     /// Begins a range at the selected line, or ends the range.
     Range,
     /// Sets the marks of the lines of the range, and ends it.
@@ -44,13 +55,18 @@ pub enum Action {
 
 /// A key of the user's own.
 #[derive(Clone, Copy)]
-pub struct OwnKey {
-    /// The key.
-    pub code: KeyCode,
-    /// The modifiers that are held with it.
-    pub modifiers: KeyModifiers,
-    /// What it does.
-    pub action: Action,
+pub enum OwnKey {
+    /// A key of the keyboard.
+    Key {
+        /// The key.
+        code: KeyCode,
+        /// The modifiers that are held with it.
+        modifiers: KeyModifiers,
+        /// What it does.
+        action: Action,
+    },
+    /// A click on the box of an item selects the item first, and acts on the box if the item is selected.
+    ClickSelects,
 }
 
 /// Who hears a key.
@@ -119,9 +135,18 @@ fn is_same_key(key: KeyCode, code: KeyCode) -> bool
 fn is_pressed(key: OwnKey, modifiers: KeyModifiers, code: KeyCode) -> bool
     ensures { result ≡ is_pressed modifiers code key }
 {
-    let is_held = is_same(key.modifiers, modifiers);
-    let is_code = is_same_key(key.code, code);
-    is_held & is_code
+    match key {
+        OwnKey::Key {
+            code: own,
+            modifiers: held,
+            action: _,
+        } => {
+            let is_held = is_same(held, modifiers);
+            let is_code = is_same_key(own, code);
+            is_held & is_code
+        }
+        OwnKey::ClickSelects => false,
+    }
 }
 
 /// Returns whether one of `keys` is `code` with exactly `modifiers`.
@@ -145,12 +170,17 @@ pub(crate) fn has_key(keys: &[OwnKey], event: TerminalEvent) -> bool
 fn action_by(key: OwnKey, modifiers: KeyModifiers, code: KeyCode, otherwise: Action) -> Action
     ensures { result ≡ action_by key modifiers code otherwise }
 {
-    let is_held = is_same(key.modifiers, modifiers);
-    let is_code = is_same_key(key.code, code);
-    if is_held & is_code {
-        key.action
-    } else {
-        otherwise
+    match key {
+        OwnKey::Key {
+            code: own,
+            modifiers: held,
+            action,
+        } => {
+            let is_held = is_same(held, modifiers);
+            let is_code = is_same_key(own, code);
+            if is_held & is_code { action } else { otherwise }
+        }
+        OwnKey::ClickSelects => otherwise,
     }
 }
 
@@ -239,6 +269,7 @@ fn session_action(action: Action, pass: Action) -> Action
         | Action::Seek
         | Action::Again(_)
         | Action::Go(_)
+        | Action::Click { .. }
         | Action::Range
         | Action::Mark
         | Action::Undo
@@ -260,11 +291,65 @@ fn dialog_key(keys: &[OwnKey], key: KeyEvent, pass: Action) -> Action
     }
 }
 
+/// Returns whether `key` says that a click selects first.
+fn is_selecting(key: OwnKey) -> bool
+    ensures { result ≡ is_selecting key }
+{
+    match key {
+        OwnKey::Key { .. } => false,
+        OwnKey::ClickSelects => true,
+    }
+}
+
+/// Returns whether one of `keys` says that a click selects first.
+fn is_any_selecting(keys: &[OwnKey]) -> bool
+    ensures { result ≡ list_any is_selecting keys.now }
+{
+    keys.iter().any(|key| is_selecting(*key))
+}
+
+/// Returns whether one click acts on a box: no dialog is open, and none of `keys` says that a click selects
+/// first.
+fn acts_at_once(mode: Mode, keys: &[OwnKey]) -> bool
+    ensures { result ≡ acts_at_once mode keys.now }
+{
+    match mode {
+        Mode::Dialog => false,
+        Mode::Asking | Mode::Ranging | Mode::Free => !is_any_selecting(keys),
+    }
+}
+
+/// Returns the action of a mouse event: a click, if `is_acting`, and else `pass`.
+fn mouse_action(is_acting: bool, mouse: MouseEvent, pass: Action) -> Action
+    ensures { result ≡ mouse_action is_acting mouse.kind mouse.row mouse.column pass }
+{
+    match mouse.kind {
+        MouseEventKind::Down(MouseButton::Left) => {
+            if is_acting {
+                Action::Click {
+                    row: mouse.row as usize,
+                    column: mouse.column as usize,
+                }
+            } else {
+                pass
+            }
+        }
+        MouseEventKind::Down(MouseButton::Right | MouseButton::Middle)
+        | MouseEventKind::Up(_)
+        | MouseEventKind::Drag(_)
+        | MouseEventKind::Moved
+        | MouseEventKind::ScrollUp
+        | MouseEventKind::ScrollDown
+        | MouseEventKind::Other => pass,
+    }
+}
+
 /// Returns what the layer does with `event`.
 ///
 /// While a text is asked for, the session hears no key. While a dialog is open, the layer has no keys of
-/// its own, and of the user's `keys` those alone that are events of the session. The session hears the
-/// mouse always. Of two keys of `keys` that are equal the last one counts.
+/// its own, and of the user's `keys` those alone that are events of the session. Of two keys of `keys` that
+/// are equal the last one counts. One click acts on a box, unless a dialog is open or one of `keys` says that
+/// a click selects first. The session hears all else of the mouse.
 pub fn action_of(mode: Mode, keys: &[OwnKey], event: TerminalEvent) -> Action
     ensures { result ≡ action_of mode keys.now event }
 {
@@ -276,6 +361,7 @@ pub fn action_of(mode: Mode, keys: &[OwnKey], event: TerminalEvent) -> Action
             Mode::Ranging => free_key(true, keys, key, pass),
             Mode::Free => free_key(false, keys, key, pass),
         },
-        TerminalEvent::Mouse(_) | TerminalEvent::Other => pass,
+        TerminalEvent::Mouse(mouse) => mouse_action(acts_at_once(mode, keys), mouse, pass),
+        TerminalEvent::Other => pass,
     }
 }

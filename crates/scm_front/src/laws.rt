@@ -1,5 +1,5 @@
 //! What is true of a front, whatever is typed.
-ghost use Rattle.std.specs.Prelude.{◌≡◌, Bool, List, [], ◌∷◌, IsTrue, None, false};
+ghost use Rattle.std.specs.Prelude.{◌≡◌, ℕ, Bool, List, [], ◌∷◌, IsTrue, None, false};
 ghost use Rattle.scm_input.specs.declared.events.Event.{Event};
 ghost use Rattle.scm_input.specs.declared.events.Event.TheVariants.{EnsureSelectionInViewport, FocusNext, ToggleItem};
 ghost use Rattle.scm_record.specs.Session.{Session, after_frame, after_select, after_toggle, visible};
@@ -29,7 +29,7 @@ ghost use Rattle.scm_front.specs.Recording.{Recalls};
 ghost use Rattle.scm_front.specs.Logging.{HasLog};
 ghost use Rattle.scm_front.specs.declared.logging.CallLog.{CallLog};
 ghost use Rattle.scm_front.specs.declared.actions.Action.{Action};
-ghost use Rattle.scm_front.specs.declared.actions.Action.TheVariants.{Go, Mark, Pass, Redo, Undo};
+ghost use Rattle.scm_front.specs.declared.actions.Action.TheVariants.{Click, Go, Mark, Pass, Redo, Undo};
 ghost use Rattle.scm_front.specs.declared.kept.Notice.TheVariants.{Redone, Undone};
 ghost use Rattle.scm_front.specs.declared.layer.Front.{Front};
 ghost use Rattle.scm_front.specs.declared.layer.FrontTurn.{FrontTurn};
@@ -97,8 +97,8 @@ pub fn ranges_are_toggles()
 
 /// Proves what an undo restores.
 ///
-/// If an event or a range changed marks, and the layer says that it is undone, all marks are those before
-/// the event or the range. Actions that change no mark may come between. A redo after an undo leads to the
+/// If an event, a click or a range changed marks, and the layer says that it is undone, all marks are those
+/// before it. Actions that change no mark may come between. A redo after an undo leads to the
 /// marks before the undo, and an undo after a redo to those before the redo.
 ///
 /// This is a law: the function does nothing, and is there for its contract.
@@ -111,12 +111,20 @@ pub fn undos_restore_marks()
         → Does f Mark calls (FrontTurn.Waiting g) → (marks_of g ≡ marks_of f → ⊥)
         → Does g Undo more (FrontTurn.Waiting h) → h.kept.word ≡ Undone
         → marks_of h ≡ marks_of f }
+    // a click that changes marks is undone as a whole, also if it was handed in twice
+    ensures click { (f g h : Front) (row column : ℕ) (calls more : List Call)
+        → Does f (Click row column) calls (FrontTurn.Waiting g) → (marks_of g ≡ marks_of f → ⊥)
+        → Does g Undo more (FrontTurn.Waiting h) → h.kept.word ≡ Undone
+        → marks_of h ≡ marks_of f }
     // the history recalls the marks before a change, until other marks change
     ensures recalls_event { (f g : Front) (event : Event) (calls : List Call)
         → Does f (Pass event) calls (FrontTurn.Waiting g) → (marks_of g ≡ marks_of f → ⊥)
         → Recalls (marks_of f) (marks_of g) g.kept.history }
     ensures recalls_range { (f g : Front) (calls : List Call)
         → Does f Mark calls (FrontTurn.Waiting g) → (marks_of g ≡ marks_of f → ⊥)
+        → Recalls (marks_of f) (marks_of g) g.kept.history }
+    ensures recalls_click { (f g : Front) (row column : ℕ) (calls : List Call)
+        → Does f (Click row column) calls (FrontTurn.Waiting g) → (marks_of g ≡ marks_of f → ⊥)
         → Recalls (marks_of f) (marks_of g) g.kept.history }
     ensures later { (before : List (List (List Bool))) (f g : Front) (action : Action)
         (calls : List Call) → Recalls before (marks_of f) f.kept.history

@@ -11,7 +11,7 @@ ghost use Rattle.scm_record.specs.declared.live.Turn.TheVariants.{Editing as Edi
 ghost use Rattle.scm_front_items.specs.declared.items.Way.{Way as Direction};
 ghost use Rattle.scm_front_items.specs.declared.runs.Step.{Step as Past};
 ghost use Rattle.scm_front.specs.declared.kept.Notice.TheVariants.{NotRestored};
-ghost use Rattle.scm_front.specs.declared.actions.Action.TheVariants.{Again, Edit, Go, Mark, Pass, Range, Seek};
+ghost use Rattle.scm_front.specs.declared.actions.Action.TheVariants.{Again, Click, Edit, Go, Mark, Pass, Range, Seek};
 ghost use Rattle.scm_front.specs.Actions.{has_key};
 ghost use Rattle.scm_front.specs.Asking.{new_query};
 ghost use Rattle.scm_front.specs.Driving.{turn_of};
@@ -24,12 +24,13 @@ ghost use Rattle.scm_front.specs.Recording.{RecordsAt, Returns, back_of};
 ghost use Rattle.scm_front_items.specs.Runs.{marks_of_files, marks_with};
 ghost use Rattle.scm_front_items.specs.Histories.{no_history};
 ghost use Rattle.scm_front.specs.Starting.{Starts};
-ghost use Rattle.scm_front.specs.Fronts.{Does, IsGiven, KeyFails, RemembersIn, beneath_of, end_word, files_of, front, front_of, found, heard, is_elsewhere, is_silent, mode_of, notice_of, restoring, said_word, search_word};
+ghost use Rattle.scm_front.specs.Fronts.{ClickFails, Does, IsGiven, KeyFails, RemembersIn, beneath_of, end_word, files_of, front, front_of, found, heard, is_elsewhere, is_silent, mode_of, notice_of, restoring, said_word, search_word};
 
 use crate::accepted::AcceptedState;
 use crate::actions::{Action, Mode, OwnKey, action_of, has_key};
 use crate::asking::{Query, Typing, after_typing, new_query, with_word};
 use crate::begun::{Begun, BegunEdit, BegunTurn};
+use crate::clicking::{box_at, is_half, merely_selects};
 use crate::kept::{Kept, Notice};
 use crate::logging::Logging;
 use crate::marking::{
@@ -463,6 +464,8 @@ impl<'state> Front<'state> {
     /// An error ends the session: the errors are those of [`LiveSession::handle`].
     pub fn handle(self, event: Event) -> Result<FrontTurn<'state>, RecordError>
         ensures ok { IfOk result (λ turn. Does self.entry (Pass event) (Press event ∷ []) turn) }
+        ensures leads { IfOk result (λ turn.
+            EventLeads self.entry.beneath event (beneath_of turn)) }
         ensures err { IfErr result (λ e. EventFails self.entry.beneath event e) }
     {
         let Front {
@@ -474,6 +477,33 @@ impl<'state> Front<'state> {
         let word = word_after(&beneath, event);
         let turn = beneath.handle(event)?;
         Ok(handed(turn, query, kept, Author::User, before, word))
+    }
+
+    /// Hands a click at `row` and `column` of the screen, both counted from 0, to the session beneath. If it
+    /// merely selects the item of a box, and the box is at that place then, hands it in once more: one click
+    /// acts on the box.
+    ///
+    /// # Errors
+    ///
+    /// An error ends the session: the errors are those of [`LiveSession::handle`].
+    pub fn click(self, row: usize, column: usize) -> Result<FrontTurn<'state>, RecordError>
+        ensures ok { IfOk result (λ turn.
+            (calls : List Call) × Does self.entry (Click row column) calls turn) }
+        ensures err { IfErr result (λ e. ClickFails self.entry row column e) }
+    {
+        let first = box_at(&self.beneath, row, column);
+        let is_selecting = merely_selects(selection_of(&self.beneath), first);
+        match self.handle(Event::Click { row, column })? {
+            FrontTurn::Waiting(next) => {
+                if is_half(is_selecting, first, &next.beneath, row, column) {
+                    next.handle(Event::Click { row, column })
+                } else {
+                    Ok(FrontTurn::Waiting(next))
+                }
+            }
+            FrontTurn::Editing(editing) => Ok(FrontTurn::Editing(editing)),
+            FrontTurn::Accepted(state) => Ok(FrontTurn::Accepted(state)),
+        }
     }
 
     /// Hands `events` to the session beneath as one batch, as [`LiveSession::handle_all`] does.
@@ -832,6 +862,7 @@ impl<'state> Front<'state> {
             Action::Seek => self.seek(),
             Action::Again(way) => self.search(way),
             Action::Go(place) => self.go(place),
+            Action::Click { row, column } => self.click(row, column),
             Action::Range => Ok(FrontTurn::Waiting(self.range())),
             Action::Mark => self.mark(),
             Action::Undo => self.restore(Way::Up),

@@ -9,6 +9,7 @@ mod accepted;
 mod actions;
 mod asking;
 mod begun;
+mod clicking;
 mod deeds;
 mod driving;
 mod kept;

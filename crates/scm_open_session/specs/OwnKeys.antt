@@ -11,6 +11,7 @@ use Rattle.scm_front_items.specs.declared.places.Place.TheVariants.{First, Last,
 use Rattle.scm_front.specs.declared.actions.Action.{Action}
 use Rattle.scm_front.specs.declared.actions.Action.TheVariants.{Pass, Edit, Again, Go, Range, Mark, Undo, Redo, Ignore}
 use Rattle.scm_front.specs.declared.actions.OwnKey.{OwnKey}
+use Rattle.scm_front.specs.declared.actions.OwnKey.TheVariants as own
 use Rattle.scm_front.specs.declared.asking.Typing.TheVariants.{Ask}
 use Rattle.scm_front_paint.specs.Seen.{Seen}
 use Rattle.scm_open_session.specs.declared.open_session.OpenSession.{OpenSession}
@@ -51,7 +52,7 @@ action_of_word word = option_or (find_row layer_actions word) (option_map Pass (
 
 -- A key of the terminal with what it does.
 abbrev pub with_action : TerminalEvent → Action → Option OwnKey
-with_action (terminal.Key e) action = Some (record { code = e.code; modifiers = e.modifiers; action = action })
+with_action (terminal.Key e) action = Some (own.Key e.code e.modifiers action)
 with_action (terminal.Mouse e) action = None
 with_action terminal.Other action = None
 
@@ -71,10 +72,18 @@ key_with (Some key) None = None
 key_with (Some key) (Some action) = with_action key action
 
 -- The key of `KEY=WORD`. KEY is the word of a key in scripts, as `ctrl-n` or `space`.
-abbrev pub own_key_of : List ℕ → Option OwnKey
-own_key_of piece =
+abbrev pub pressed_key_of : List ℕ → Option OwnKey
+pressed_key_of piece =
     if has_equals piece then key_with (key_event_of (before_first is_equals piece)) (action_of_word (after_first is_equals piece))
     else None
+
+-- What a click on a box does, as a piece says it.
+abbrev pub click_pieces : List (Row OwnKey)
+click_pieces = row "click=select" own.ClickSelects ∷ []
+
+-- What a piece says: of a click, or of a key.
+abbrev pub own_key_of : List ℕ → Option OwnKey
+own_key_of piece = option_or (find_row click_pieces piece) (pressed_key_of piece)
 
 -- The keys of a piece: none if it is empty. None if it names no key.
 abbrev pub keys_of_piece : List ℕ → Option (List OwnKey)

@@ -3,7 +3,7 @@ ghost use Rattle.std.specs.Prelude.{◌≡◌, ◌<◌, IfErr, IfNone, IfOk, IfS
 ghost use Rattle.std.specs.List.{after_first, before_first};
 ghost use Rattle.scm_open_session.specs.declared.open_session.OpenSession.{OpenSession};
 ghost use Rattle.scm_c_values.specs.Pieces.{Adds, all_of, pieces_of};
-ghost use Rattle.scm_open_session.specs.OwnKeys.{action_of_word, code_of_keys, has_equals, is_equals, key_with, keys_of_bytes, keys_of_piece, layer_actions, own_key_of, with_action};
+ghost use Rattle.scm_open_session.specs.OwnKeys.{action_of_word, click_pieces, code_of_keys, has_equals, is_equals, key_with, keys_of_bytes, keys_of_piece, layer_actions, own_key_of, pressed_key_of, with_action};
 ghost use Rattle.scm_c_values.specs.Codes.{IsCode};
 ghost use Rattle.scm_script.specs.Words.{find_row};
 
@@ -55,7 +55,7 @@ fn with_action(key: TerminalEvent, action: Action) -> Option<OwnKey>
     ensures { result ≡ with_action key action }
 {
     match key {
-        TerminalEvent::Key(key) => Some(OwnKey {
+        TerminalEvent::Key(key) => Some(OwnKey::Key {
             code: key.code,
             modifiers: key.modifiers,
             action,
@@ -89,12 +89,32 @@ fn split_at_equals(piece: &str) -> Option<(&str, &str)>
 }
 
 /// Returns the key of `piece`, written `KEY=WORD`.
-fn own_key(piece: &str) -> Option<OwnKey>
-    ensures { result ≡ own_key_of piece.now }
+fn pressed_key(piece: &str) -> Option<OwnKey>
+    ensures { result ≡ pressed_key_of piece.now }
 {
     match split_at_equals(piece) {
         Some((key, word)) => key_with(read_key(key), action_of(word)),
         None => None,
+    }
+}
+
+/// Returns what `piece` says of a click on a box, if it says something.
+fn own_click(piece: &str) -> Option<OwnKey>
+    ensures { result ≡ find_row click_pieces piece.now }
+{
+    match piece {
+        "click=select" => Some(OwnKey::ClickSelects),
+        _ => None,
+    }
+}
+
+/// Returns what `piece` says: of a click, or of a key.
+fn own_key(piece: &str) -> Option<OwnKey>
+    ensures { result ≡ own_key_of piece.now }
+{
+    match own_click(piece) {
+        Some(key) => Some(key),
+        None => pressed_key(piece),
     }
 }
 
@@ -130,7 +150,8 @@ fn push_keys(keys: &mut Vec<OwnKey>, text: &str) -> Result<bool, AllocError>
     push_piece(keys, rest)
 }
 
-/// Returns the keys of `text`, which are written `KEY=WORD` and separated by spaces.
+/// Returns the keys of `text`, which are written `KEY=WORD` and separated by spaces. `click=select` says
+/// that a click on the box of an item selects the item first.
 ///
 /// # Errors
 /// The code of the failure: `NO_KEY` or `NO_MEMORY`.

@@ -1,5 +1,5 @@
 use Rattle.scm_open_session.proofs.KeyPieceLemmas.{key_at, no_key_at}
-use Rattle.scm_open_session.proofs.own_keys.own_key.Goals as goal
+use Rattle.scm_open_session.proofs.own_keys.pressed_key.Goals as goal
 
 pub returns-in-Some : goal.returns-in-Some
 returns-in-Some c =
