@@ -17,10 +17,10 @@ mod device;
 pub(crate) mod device;
 
 /// Takes the second screen, hides the cursor, asks for clicks and for marks around what is pasted, and clears.
-const TAKE: &str = "\x1b[?1049h\x1b[?25l\x1b[?1000;1006h\x1b[?2004h\x1b[0m\x1b[2J";
+const TAKE: &str = "\x1b[?1049h\x1b[?25l\x1b[?1000;1002;1006h\x1b[?2004h\x1b[0m\x1b[2J";
 
 /// Gives all of that back, also where a paint was cut off: an update ends, and symbols wrap.
-const GIVE_BACK: &str = "\x1b[?2026l\x1b[?7h\x1b[0m\x1b[?2004l\x1b[?1000;1006l\x1b[?25h\x1b[?1049l";
+const GIVE_BACK: &str = "\x1b[?2026l\x1b[?7h\x1b[0m\x1b[?2004l\x1b[?1000;1002;1006l\x1b[?25h\x1b[?1049l";
 
 const CLEAR: &str = "\x1b[0m\x1b[2J";
 /// What is written where nothing has changed: so who types into the program sees that it was heard.

@@ -17,7 +17,7 @@ import time
 
 EXAMPLES = pathlib.Path(sys.argv[1])
 TAKEN, GIVEN_BACK, TITLE_BACK = b"\x1b[?1049h", b"\x1b[?1049l", b"\x1b[23;2t"
-MOUSE_GIVEN_BACK = b"\x1b[?1000;1006l"
+MOUSE_GIVEN_BACK = b"\x1b[?1000;1002;1006l"
 OLD, NEW = "same\nold\nend\n", "same\nnew one\nnew two\nend\n"
 
 

@@ -28,8 +28,8 @@ void gabro_free(gabro_session *session) {
  * where a paint was cut off: an update ends, and symbols wrap. */
 static const char KEEP_TITLE[] = "\x1b[22;2t";
 static const char TITLE[] = "\x1b]2;";
-static const char TAKE[] = " (? for help)\x1b\\\x1b[?1049h\x1b[?25l\x1b[?1000;1006h\x1b[?2004h";
-static const char GIVE_BACK[] = "\x1b[?2026l\x1b[?7h\x1b[0m\x1b[?2004l\x1b[?1000;1006l\x1b[?25h\x1b[?1049l\x1b[23;2t";
+static const char TAKE[] = " (? for help)\x1b\\\x1b[?1049h\x1b[?25l\x1b[?1000;1002;1006h\x1b[?2004h";
+static const char GIVE_BACK[] = "\x1b[?2026l\x1b[?7h\x1b[0m\x1b[?2004l\x1b[?1000;1002;1006l\x1b[?25h\x1b[?1049l\x1b[23;2t";
 static const char CLEAR[] = "\x1b[0m\x1b[2J";
 /* Is written where nothing has changed: so who types into the program sees that it was heard. */
 static const char NO_CHANGE[] = "\x1b[?2026h\x1b[?2026l";

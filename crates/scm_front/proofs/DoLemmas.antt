@@ -23,7 +23,7 @@ use Rattle.scm_front.specs.declared.asking.Query.{Query}
 use Rattle.scm_front.specs.declared.asking.Typing.{Typing}
 use Rattle.scm_front.specs.declared.asking.Typing.TheVariants.{Finish}
 use Rattle.scm_front.specs.declared.actions.Action.{Action}
-use Rattle.scm_front.specs.declared.actions.Action.TheVariants.{Pass, Edit, Seek, Again, Go, Click, Range, Mark}
+use Rattle.scm_front.specs.declared.actions.Action.TheVariants.{Pass, Edit, Seek, Again, Go, Click, Drag, Range, Mark}
 use Rattle.scm_front.specs.declared.kept.Kept.{Kept}
 use Rattle.scm_front.specs.declared.kept.Notice.{Notice}
 use Rattle.scm_front.specs.declared.kept.Notice.TheVariants as notices
@@ -42,7 +42,7 @@ use Rattle.scm_front.specs.Handing.{HandsOn}
 use Rattle.scm_front.specs.Passing.{word_after}
 use Rattle.scm_front.specs.Recording.{BeginsAnewAt, RecordsAt, RemembersAt, Returns, back_of}
 use Rattle.scm_front.specs.Restoring.{RestoresTo}
-use Rattle.scm_front.specs.Fronts.{Does, passes, types, misses, jumps, seeks, goes, clicks, acts, ranges, marks, lacks, restores, front, front_of, found, heard, is_elsewhere, HasMarks, IsGiven, RemembersIn, beneath_of, destination, files_of, marks_of, search_word, selection_of, range_deeds, restoring}
+use Rattle.scm_front.specs.Fronts.{Does, passes, types, misses, jumps, seeks, goes, clicks, acts, drags, rests, ranges, marks, lacks, restores, front, front_of, found, heard, is_elsewhere, HasMarks, IsGiven, RemembersIn, beneath_of, destination, drag_anchor, files_of, is_dragged, marks_of, search_word, selection_of, range_deeds, restoring}
 use Rattle.scm_front.proofs.FrontLemmas.{beneath-is}
 
 -- what is kept with a word is kept as that
@@ -141,6 +141,21 @@ module _ (f : Front) where
       → is_half f.beneath mid.beneath row column ≡ true → files_of mid.beneath ≡ files_of f.beneath → Does mid (Pass (events.Click row column)) more turn
       → (all : List Call) × Does f (Click row column) all turn
   clicked-twice row column mid turn calls more does half same second = (calls ++ more, acts does half same second)
+
+  pub dragged-on : (row column : ℕ) (anchor selection : SelectionKey) (g : Front) (b : Bool) (turn : FrontTurn) (calls : List Call) → anchor ≡ drag_anchor f.kept selection
+      → selection ≡ selection_of f.beneath → b ≡ is_dragged f.beneath anchor row column → b ≡ true → g ≡ front f.beneath f.query (anchored f.kept anchor)
+      → Does g (Pass (events.Click row column)) calls turn → (all : List Call) × Does f (Drag row column) all turn
+  dragged-on row column anchor selection g b turn calls a s e is same does =
+      let from : anchor ≡ drag_anchor f.kept (selection_of f.beneath) = a ∙ ap (λ (k : SelectionKey). drag_anchor f.kept k) s in
+      let comes = ap (λ (k : SelectionKey). is_dragged f.beneath k row column) (sym from) ∙ sym e ∙ is in
+      let begun = same ∙ ap (λ (k : SelectionKey). front f.beneath f.query (anchored f.kept k)) from in
+      (calls, drags comes (subst (λ (x : Front). Does x (Pass (events.Click row column)) calls turn) begun does))
+
+  pub dragged-nowhere : (row column : ℕ) (anchor selection : SelectionKey) (b : Bool) → anchor ≡ drag_anchor f.kept selection → selection ≡ selection_of f.beneath
+      → b ≡ is_dragged f.beneath anchor row column → b ≡ false → (all : List Call) × Does f (Drag row column) all (Waiting f)
+  dragged-nowhere row column anchor selection b a s e is =
+      let from : anchor ≡ drag_anchor f.kept (selection_of f.beneath) = a ∙ ap (λ (k : SelectionKey). drag_anchor f.kept k) s in
+      ([], rests (ap (λ (k : SelectionKey). is_dragged f.beneath k row column) (sym from) ∙ sym e ∙ is))
 
   pub ranged : (q : Query) (kept : Kept) → q ≡ with_word f.query false → kept ≡ after_range f.kept (selection_of f.beneath)
       → Does f Range [] (Waiting (front f.beneath q kept))

@@ -11,7 +11,7 @@ use Rattle.scm_front.specs.declared.actions.Action.{Action}
 use Rattle.scm_front.specs.declared.kept.Kept.{Kept}
 use Rattle.scm_front.specs.declared.layer.Front.{Front}
 use Rattle.scm_front.specs.declared.layer.FrontTurn.{FrontTurn}
-use Rattle.scm_front.specs.Fronts.{Does, passes, types, misses, jumps, seeks, goes, clicks, acts, ranges, marks, lacks, restores, ignores, Hears, no_more, ends, goes_on, Input, FrontPath, at_end, by_beginning, by_hearing, by_action, by_presses, by_batch, by_answer, by_screen, beneath_of, front_of}
+use Rattle.scm_front.specs.Fronts.{Does, passes, types, misses, jumps, seeks, goes, clicks, acts, drags, rests, ranges, marks, lacks, restores, ignores, Hears, no_more, ends, goes_on, Input, FrontPath, at_end, by_beginning, by_hearing, by_action, by_presses, by_batch, by_answer, by_screen, beneath_of, front_of}
 use Rattle.scm_front.proofs.BegunLemmas.{jump-path}
 use Rattle.scm_front.proofs.ScrollLemmas.{quiet-path}
 
@@ -34,6 +34,8 @@ does-path (seeks does) = does-path does
 does-path (goes leads) = jump-path leads
 does-path (clicks does e) = does-path does
 does-path (acts first e same second) = path-after (does-path first) (does-path second)
+does-path (drags e does) = does-path does
+does-path (rests e) = still
 does-path ranges = still
 does-path (marks turn kept leads keeps remembers) = led-to turn _ kept (quiet-path leads)
 does-path (lacks way kept e keeps) = still

@@ -28,7 +28,7 @@ use Rattle.scm_front.specs.declared.kept.Notice.TheVariants as notices
 use Rattle.scm_front.specs.declared.layer.Front.{Front}
 use Rattle.scm_front.specs.declared.layer.FrontTurn.{FrontTurn}
 use Rattle.scm_front.specs.declared.layer.FrontTurn.TheVariants.{Waiting}
-use Rattle.scm_front.specs.Fronts.{Does, acts, clicks, HasMarks, files_of, is_elsewhere, is_restoring, search_word, selection_of, front, front_of, goes, ignores, jumps, lacks, marks, marks_of, misses, passes, ranges, restores, restoring, seeks, types}
+use Rattle.scm_front.specs.Fronts.{Does, acts, clicks, drags, HasMarks, files_of, is_elsewhere, is_restoring, search_word, selection_of, front, front_of, goes, ignores, jumps, lacks, marks, marks_of, misses, passes, ranges, restores, restoring, rests, seeks, types}
 use Rattle.scm_front.specs.Asking.{after_typing, with_word}
 use Rattle.scm_front.specs.Begun.{JumpLeads}
 use Rattle.scm_front.specs.Begun as begun
@@ -82,6 +82,8 @@ by-pass (seeks x) event is g e = absurd (cc is)
 by-pass (goes x) event is g e = absurd (cc is)
 by-pass (clicks x y) event is g e = absurd (cc is)
 by-pass (acts x y z w) event is g e = absurd (cc is)
+by-pass (drags x y) event is g e = absurd (cc is)
+by-pass (rests x) event is g e = absurd (cc is)
 by-pass ranges event is g e = absurd (cc is)
 by-pass (marks turn kept x y z) event is g e = absurd (cc is)
 by-pass (lacks Up kept x y) event is g e = absurd (cc is)
@@ -101,6 +103,8 @@ by-mark (seeks x) is g e = absurd (cc is)
 by-mark (goes x) is g e = absurd (cc is)
 by-mark (clicks x y) is g e = absurd (cc is)
 by-mark (acts x y z w) is g e = absurd (cc is)
+by-mark (drags x y) is g e = absurd (cc is)
+by-mark (rests x) is g e = absurd (cc is)
 by-mark ranges is g e = absurd (cc is)
 by-mark (lacks Up kept x y) is g e = absurd (cc is)
 by-mark (lacks Down kept x y) is g e = absurd (cc is)
@@ -125,6 +129,8 @@ by-click (misses x) row column is g e = absurd (cc is)
 by-click (jumps x y) row column is g e = absurd (cc is)
 by-click (seeks x) row column is g e = absurd (cc is)
 by-click (goes x) row column is g e = absurd (cc is)
+by-click (drags x y) row column is g e = absurd (cc is)
+by-click (rests x) row column is g e = absurd (cc is)
 by-click ranges row column is g e = absurd (cc is)
 by-click (marks turn kept x y z) row column is g e = absurd (cc is)
 by-click (lacks Up kept x y) row column is g e = absurd (cc is)
@@ -193,6 +199,10 @@ done-by (clicks x y) Up is h e said = absurd (cc is)
 done-by (clicks x y) Down is h e said = absurd (cc is)
 done-by (acts x y z w) Up is h e said = absurd (cc is)
 done-by (acts x y z w) Down is h e said = absurd (cc is)
+done-by (drags x y) Up is h e said = absurd (cc is)
+done-by (drags x y) Down is h e said = absurd (cc is)
+done-by (rests x) Up is h e said = absurd (cc is)
+done-by (rests x) Down is h e said = absurd (cc is)
 done-by ranges Up is h e said = absurd (cc is)
 done-by ranges Down is h e said = absurd (cc is)
 done-by (marks turn kept x y z) Up is h e said = absurd (cc is)
@@ -306,6 +316,10 @@ later-recalls before (clicks does x) free g e m h = later-recalls before does re
 later-recalls before (acts {mid = mid} first x same second) free g e m h =
     let kept_marks = ap marks_of_files same in
     later-recalls before second refl g e (m ∙ sym kept_marks) (later-recalls before first refl mid refl kept_marks h)
+later-recalls before (drags x does) free g e m h = later-recalls before does refl g e m h
+later-recalls before (rests {f = f} x) free g e m h =
+    let is : f ≡ g = cc e in
+    subst (λ (x : Front). Recalls before (marks_of x) x.kept.history) is h
 later-recalls before (ranges {f = f}) free g e m h =
     still-recalls before f g f.beneath (with_word f.query false) (after_range f.kept (selection_of f.beneath)) e (range-history f.kept (selection_of f.beneath)) m h
 later-recalls before (lacks Up kept x y) free g e m h = absurd (cc free)
@@ -343,6 +357,8 @@ go-keeps (jumps x y) place is g e = absurd (cc is)
 go-keeps (seeks x) place is g e = absurd (cc is)
 go-keeps (clicks x y) place is g e = absurd (cc is)
 go-keeps (acts x y z w) place is g e = absurd (cc is)
+go-keeps (drags x y) place is g e = absurd (cc is)
+go-keeps (rests x) place is g e = absurd (cc is)
 go-keeps ranges place is g e = absurd (cc is)
 go-keeps (marks turn kept x y z) place is g e = absurd (cc is)
 go-keeps (lacks Up kept x y) place is g e = absurd (cc is)

@@ -19,7 +19,7 @@ use Rattle.scm_front_items.specs.declared.items.Way.TheVariants.{Up, Down}
 use Rattle.scm_front_items.specs.declared.places.Place.TheVariants.{First, Last, Section, File}
 use Rattle.scm_front.specs.declared.asking.Typing.TheVariants.{Ask, Add, Erase, Leave}
 use Rattle.scm_front.specs.declared.actions.Action.{Action}
-use Rattle.scm_front.specs.declared.actions.Action.TheVariants.{Pass, Edit, Seek, Again, Go, Click, Range, Mark, Undo, Redo, Ignore}
+use Rattle.scm_front.specs.declared.actions.Action.TheVariants.{Pass, Edit, Seek, Again, Go, Click, Drag, Range, Mark, Undo, Redo, Ignore}
 use Rattle.scm_front.specs.declared.actions.OwnKey.{OwnKey}
 use Rattle.scm_front.specs.declared.actions.OwnKey.TheVariants as own
 use Rattle.scm_front.specs.declared.actions.Mode.{Mode}
@@ -158,6 +158,7 @@ session_action Seek pass = pass
 session_action (Again way) pass = pass
 session_action (Go place) pass = pass
 session_action (Click row column) pass = pass
+session_action (Drag row column) pass = pass
 session_action Range pass = pass
 session_action Mark pass = pass
 session_action Undo pass = pass
@@ -192,20 +193,29 @@ acts_at_once modes.Asking ks = not (list_any is_selecting ks)
 acts_at_once modes.Ranging ks = not (list_any is_selecting ks)
 acts_at_once modes.Free ks = not (list_any is_selecting ks)
 
--- the action of the mouse: a click, if it acts on boxes at once, or else `pass`
-abbrev pub mouse_action : Bool → MouseEventKind → ℕ → ℕ → Action → Action
-mouse_action is_acting (mouse.Down button.Left) row column pass = if is_acting then Click row column else pass
-mouse_action is_acting (mouse.Down button.Right) row column pass = pass
-mouse_action is_acting (mouse.Down button.Middle) row column pass = pass
-mouse_action is_acting (mouse.Up b) row column pass = pass
-mouse_action is_acting (mouse.Drag b) row column pass = pass
-mouse_action is_acting mouse.Moved row column pass = pass
-mouse_action is_acting mouse.ScrollUp row column pass = pass
-mouse_action is_acting mouse.ScrollDown row column pass = pass
-mouse_action is_acting mouse.Other row column pass = pass
+-- whether a drag is the layer's: no dialog is open, and no text is asked for
+abbrev pub hears_drags : Mode → Bool
+hears_drags modes.Asking = false
+hears_drags modes.Dialog = false
+hears_drags modes.Ranging = true
+hears_drags modes.Free = true
 
--- the action of an event of the terminal: the session hears the mouse always, and one click may act on a box
+-- the action of the mouse: a click, if it acts on boxes at once, a drag, if the layer hears it, or else `pass`
+abbrev pub mouse_action : Bool → Bool → MouseEventKind → ℕ → ℕ → Action → Action
+mouse_action is_acting is_dragging (mouse.Down button.Left) row column pass = if is_acting then Click row column else pass
+mouse_action is_acting is_dragging (mouse.Down button.Right) row column pass = pass
+mouse_action is_acting is_dragging (mouse.Down button.Middle) row column pass = pass
+mouse_action is_acting is_dragging (mouse.Up b) row column pass = pass
+mouse_action is_acting is_dragging (mouse.Drag button.Left) row column pass = if is_dragging then Drag row column else pass
+mouse_action is_acting is_dragging (mouse.Drag button.Right) row column pass = pass
+mouse_action is_acting is_dragging (mouse.Drag button.Middle) row column pass = pass
+mouse_action is_acting is_dragging mouse.Moved row column pass = pass
+mouse_action is_acting is_dragging mouse.ScrollUp row column pass = pass
+mouse_action is_acting is_dragging mouse.ScrollDown row column pass = pass
+mouse_action is_acting is_dragging mouse.Other row column pass = pass
+
+-- the action of an event of the terminal: the session hears the mouse, but one click may act on a box, and a drag may make a range
 abbrev pub action_of : Mode → List OwnKey → TerminalEvent → Action
 action_of mode ks (terminal.Key e) = key_action mode ks e
-action_of mode ks (terminal.Mouse e) = mouse_action (acts_at_once mode ks) e.kind e.row e.column (Pass (event_of (terminal.Mouse e)))
+action_of mode ks (terminal.Mouse e) = mouse_action (acts_at_once mode ks) (hears_drags mode) e.kind e.row e.column (Pass (event_of (terminal.Mouse e)))
 action_of mode ks terminal.Other = Pass (event_of terminal.Other)

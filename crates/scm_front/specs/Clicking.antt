@@ -1,6 +1,7 @@
 -- A click on the box of an item: the first one selects the item, and the second one acts on the box.
 use Rattle.std.specs.Prelude.{ℕ, Bool, false, not, ◌&&◌, Option, Some, None}
 use Rattle.scm_types.specs.declared.keys.SelectionKey.{SelectionKey}
+use Rattle.scm_types.specs.declared.keys.SelectionKey.TheVariants as keys
 use Rattle.scm_types.specs.Keys.{is_key}
 use Rattle.scm_widgets.specs.declared.ids.ComponentId.{ComponentId}
 use Rattle.scm_widgets.specs.declared.ids.ComponentId.TheVariants as ids
@@ -35,6 +36,30 @@ box_of (Some ids.HelpDialogQuitButton) = Absent
 -- the box that a click at `row` and `column` of the screen hits, if it hits one
 abbrev pub box_at : Live → ℕ → ℕ → ItemBox
 box_at l row column = box_of (hit (scene_of l.kind l.session) l.session.scroll row column)
+
+-- the item of a component that a click can select, or none
+abbrev pub item_of : Option ComponentId → SelectionKey
+item_of None = keys.None
+item_of (Some (ids.ToggleBox key)) = key
+item_of (Some (ids.ExpandBox key)) = key
+item_of (Some (ids.SelectableItem key)) = key
+item_of (Some (ids.FileViewHeader key)) = keys.File key
+item_of (Some ids.App) = keys.None
+item_of (Some ids.AppFiles) = keys.None
+item_of (Some ids.CommitMessageView) = keys.None
+item_of (Some (ids.CommitEditMessageButton commit)) = keys.None
+item_of (Some ids.MenuBar) = keys.None
+item_of (Some ids.MenuHeader) = keys.None
+item_of (Some (ids.Menu menu)) = keys.None
+item_of (Some (ids.MenuItem item)) = keys.None
+item_of (Some ids.QuitDialog) = keys.None
+item_of (Some (ids.QuitDialogButton button)) = keys.None
+item_of (Some ids.HelpDialog) = keys.None
+item_of (Some ids.HelpDialogQuitButton) = keys.None
+
+-- the item that a click at `row` and `column` of the screen hits, or none
+abbrev pub item_at : Live → ℕ → ℕ → SelectionKey
+item_at l row column = item_of (hit (scene_of l.kind l.session) l.session.scroll row column)
 
 -- whether a click on a box merely selects its item: another item is selected
 abbrev pub merely_selects : SelectionKey → ItemBox → Bool

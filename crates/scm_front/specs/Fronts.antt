@@ -23,6 +23,7 @@ use Rattle.scm_front_items.specs.declared.history.History.{History}
 use Rattle.scm_front_items.specs.declared.runs.Step.{Step}
 use Rattle.scm_front_items.specs.declared.targets.Deed.{Deed}
 use Rattle.scm_front_items.specs.Search.{is_towards, item_around}
+use Rattle.scm_selection.specs.KeyLists.{is_line}
 use Rattle.scm_selection.specs.KeySet.{has_key}
 use Rattle.scm_front_items.specs.declared.places.Place.{Place}
 use Rattle.scm_front_items.specs.Places.{moved_to}
@@ -33,7 +34,7 @@ use Rattle.scm_front.specs.declared.asking.Query.{Query}
 use Rattle.scm_front.specs.declared.asking.Typing.{Typing}
 use Rattle.scm_front.specs.declared.asking.Typing.TheVariants.{Finish}
 use Rattle.scm_front.specs.declared.actions.Action.{Action}
-use Rattle.scm_front.specs.declared.actions.Action.TheVariants.{Pass, Edit, Seek, Again, Go, Click, Range, Mark, Undo, Redo, Ignore}
+use Rattle.scm_front.specs.declared.actions.Action.TheVariants.{Pass, Edit, Seek, Again, Go, Click, Drag, Range, Mark, Undo, Redo, Ignore}
 use Rattle.scm_front.specs.declared.actions.Mode.{Mode}
 use Rattle.scm_front.specs.declared.actions.Mode.TheVariants as modes
 use Rattle.scm_front.specs.declared.kept.Kept.{Kept}
@@ -46,9 +47,9 @@ use Rattle.scm_front.specs.declared.layer.FrontTurn.TheVariants.{Waiting, Editin
 use Rattle.scm_front.specs.Actions.{action_of}
 use Rattle.scm_front.specs.Asking.{after_typing, with_word}
 use Rattle.scm_front.specs.Begun.{JumpLeads}
-use Rattle.scm_front.specs.Clicking.{is_half, is_half_at}
+use Rattle.scm_front.specs.Clicking.{is_half, is_half_at, item_at}
 use Rattle.scm_front.specs.Scrolling.{QuietRound}
-use Rattle.scm_front.specs.Keeping.{KeepsAs, saying, after_range, is_none, steps_of, done_word, nothing_left}
+use Rattle.scm_front.specs.Keeping.{KeepsAs, saying, anchored, after_range, is_none, steps_of, done_word, nothing_left}
 use Rattle.scm_front.specs.Passing.{word_after}
 use Rattle.scm_front.specs.Presses.{PressesLead, calls_of}
 use Rattle.scm_front.specs.Recording.{BeginsAnewAt, RemembersAt, Returns, back_of}
@@ -84,6 +85,7 @@ mode_of f = if f.query.is_asking then modes.Asking else mode_beneath f.beneath f
 -- whether a word says nothing
 abbrev pub is_silent : Notice → Bool
 is_silent notices.Nothing = true
+is_silent notices.Pressed = true
 is_silent notices.Asking = false
 is_silent notices.NotFound = false
 is_silent notices.FromTop = false
@@ -178,6 +180,7 @@ is_restoring Seek = false
 is_restoring (Again way) = false
 is_restoring (Go place) = false
 is_restoring (Click row column) = false
+is_restoring (Drag row column) = false
 is_restoring Range = false
 is_restoring Mark = false
 is_restoring Undo = true
@@ -192,6 +195,36 @@ restoring Down = Redo
 -- the item to which a move to a place leads
 abbrev pub destination : Place → Live → SelectionKey
 destination place l = moved_to place (has_key l.session.shown.expanded) l.session.shown.state.files l.session.shown.selection
+
+-- the line at which a drag begins a range: the selected one, if the last key was a click on it
+abbrev pub pressed_line : Notice → SelectionKey → SelectionKey
+pressed_line notices.Pressed selection = if is_line selection then selection else keys.None
+pressed_line notices.Nothing selection = keys.None
+pressed_line notices.Asking selection = keys.None
+pressed_line notices.NotFound selection = keys.None
+pressed_line notices.FromTop selection = keys.None
+pressed_line notices.FromEnd selection = keys.None
+pressed_line notices.Range selection = keys.None
+pressed_line notices.NoLine selection = keys.None
+pressed_line notices.NoMessage selection = keys.None
+pressed_line notices.Undone selection = keys.None
+pressed_line notices.Redone selection = keys.None
+pressed_line notices.NothingToUndo selection = keys.None
+pressed_line notices.NothingToRedo selection = keys.None
+pressed_line notices.NotRestored selection = keys.None
+
+-- the line at which the range of a drag begins, or none: where a range is begun, or where the button went down
+abbrev pub drag_anchor : Kept → SelectionKey → SelectionKey
+drag_anchor kept selection = if is_none kept.anchor then pressed_line kept.word selection else kept.anchor
+
+-- whether a drag from `anchor` comes to another item: there is a range, and at the place an item that is not selected
+abbrev pub is_dragged : Live → SelectionKey → ℕ → ℕ → Bool
+is_dragged l anchor row column =
+    (not (is_none anchor) && not (is_none (item_at l row column))) && not (is_key (item_at l row column) (selection_of l))
+
+-- what the layer keeps where a drag has begun a range
+abbrev pub dragging : Front → Front
+dragging f = front f.beneath f.query (anchored f.kept (drag_anchor f.kept (selection_of f.beneath)))
 
 -- ---- what is heard
 
@@ -226,6 +259,13 @@ pub data Does : Front → Action → List Call → FrontTurn → Type 0 where
   acts : {f mid : Front} {row column : ℕ} {calls more : List Call} {turn : FrontTurn} → Does f (Pass (events.Click row column)) calls (Waiting mid)
       → is_half f.beneath mid.beneath row column ≡ true → files_of mid.beneath ≡ files_of f.beneath
       → Does mid (Pass (events.Click row column)) more turn → Does f (Click row column) (calls ++ more) turn
+  -- a drag that comes to another item is a click on it, with a range begun
+  drags : {f : Front} {row column : ℕ} {calls : List Call} {turn : FrontTurn}
+      → is_dragged f.beneath (drag_anchor f.kept (selection_of f.beneath)) row column ≡ true
+      → Does (dragging f) (Pass (events.Click row column)) calls turn → Does f (Drag row column) calls turn
+  -- any other drag does nothing
+  rests : {f : Front} {row column : ℕ} → is_dragged f.beneath (drag_anchor f.kept (selection_of f.beneath)) row column ≡ false
+      → Does f (Drag row column) [] (Waiting f)
   -- a range begins or ends, and the session is as it was
   ranges : {f : Front}
       → Does f Range [] (Waiting (front f.beneath (with_word f.query false) (after_range f.kept (selection_of f.beneath))))
@@ -285,10 +325,11 @@ pub data ClickFails (f : Front) (row column : ℕ) (error : RecordError) : Type 
   second_failed : (calls : List Call) (mid : Front) → Does f (Pass (events.Click row column)) calls (Waiting mid)
       → is_half f.beneath mid.beneath row column ≡ true → EventFails mid.beneath (events.Click row column) error → ClickFails f row column error
 
--- an allocation failed, or the event of the session that the key means, or the click, ends the session with `error`
+-- an allocation failed, or the event of the session that the key means, or the click or drag, ends the session with `error`
 pub data KeyFails (f : Front) (key : TerminalEvent) (error : RecordError) : Type 0 where
   key_refused : error ≡ OutOfMemory → KeyFails f key error
   key_failed : (event : Event) → heard f key ≡ Pass event → EventFails f.beneath event error → KeyFails f key error
+  key_drag_failed : (row column : ℕ) → heard f key ≡ Drag row column → EventFails f.beneath (events.Click row column) error → KeyFails f key error
   key_click_failed : (row column : ℕ) → heard f key ≡ Click row column → ClickFails f row column error → KeyFails f key error
 
 -- one of the keys fails, after the earlier ones led to a front that waits

@@ -4,15 +4,18 @@ use Rattle.scm_input.specs.declared.events.Event.{Event}
 use Rattle.scm_input.specs.declared.events.Event.TheVariants as events
 use Rattle.scm_record.specs.Live.{Live}
 use Rattle.scm_record.specs.Session.{message_of}
+use Rattle.scm_front.specs.Clicking.{item_at}
+use Rattle.scm_front.specs.Keeping.{is_none}
 use Rattle.scm_front.specs.declared.kept.Notice.{Notice}
-use Rattle.scm_front.specs.declared.kept.Notice.TheVariants.{Nothing, NoMessage}
+use Rattle.scm_front.specs.declared.kept.Notice.TheVariants.{Nothing, NoMessage, Pressed}
 
 -- whether a request to edit a message does nothing for want of one: the quit dialog, which ignores the request, is closed, and the first
 -- commit has no message
 abbrev pub lacks_message : Live → Bool
 lacks_message l = not (is_some l.session.shown.quit_dialog) && not (is_some (message_of l.session 0))
 
--- what the layer says after an event: of a request to edit a message where there is none, that there is none; nothing otherwise
+-- What the layer says after an event: of a request to edit a message where there is none, that there is none; nothing otherwise. It keeps
+-- whether a click hit an item, since a drag may begin there.
 abbrev pub word_after : Live → Event → Notice
 word_after l events.EditCommitMessage = if lacks_message l then NoMessage else Nothing
 word_after l events.None = Nothing
@@ -41,6 +44,6 @@ word_after l events.ToggleAll = Nothing
 word_after l events.ToggleAllUniform = Nothing
 word_after l events.ExpandItem = Nothing
 word_after l events.ExpandAll = Nothing
-word_after l (events.Click row column) = Nothing
+word_after l (events.Click row column) = if is_none (item_at l row column) then Nothing else Pressed
 word_after l events.ToggleCommitViewMode = Nothing
 word_after l events.Help = Nothing

@@ -2,7 +2,7 @@
 ghost use Rattle.std.specs.Prelude.{◌≡◌};
 ghost use Rattle.std.specs.List.{list_any};
 ghost use Rattle.scm_input.specs.KeyTable.{same_key, same_modifiers};
-ghost use Rattle.scm_front.specs.Actions.{action_by, action_of, acts_at_once, adding, asking_action, asking_key, dialog_key, first_action, free_key, has_key, is_pressed, is_selecting, last_action, mouse_action, moving_keys, own_action, ranging_action, session_action};
+ghost use Rattle.scm_front.specs.Actions.{action_by, action_of, acts_at_once, adding, asking_action, asking_key, dialog_key, first_action, free_key, has_key, hears_drags, is_pressed, is_selecting, last_action, mouse_action, moving_keys, own_action, ranging_action, session_action};
 
 use crate::asking::Typing;
 use scm_front_items::{Place, Way};
@@ -36,6 +36,14 @@ pub enum Action {
     /// Clicks at a place of the screen, counted from 0; on the box of an item a second time, if the first
     /// click merely selects the item.
     Click {
+        /// The row of the screen.
+        row: usize,
+        /// The column of the screen.
+        column: usize,
+    },
+    /// Moves the end of a range to the item at a place of the screen, counted from 0. If no range is begun and
+    /// the last key was a click on a line, begins one there.
+    Drag {
         /// The row of the screen.
         row: usize,
         /// The column of the screen.
@@ -270,6 +278,7 @@ fn session_action(action: Action, pass: Action) -> Action
         | Action::Again(_)
         | Action::Go(_)
         | Action::Click { .. }
+        | Action::Drag { .. }
         | Action::Range
         | Action::Mark
         | Action::Undo
@@ -319,9 +328,19 @@ fn acts_at_once(mode: Mode, keys: &[OwnKey]) -> bool
     }
 }
 
-/// Returns the action of a mouse event: a click, if `is_acting`, and else `pass`.
-fn mouse_action(is_acting: bool, mouse: MouseEvent, pass: Action) -> Action
-    ensures { result ≡ mouse_action is_acting mouse.kind mouse.row mouse.column pass }
+/// Returns whether a drag is the layer's: no dialog is open, and no text is asked for.
+fn hears_drags(mode: Mode) -> bool
+    ensures { result ≡ hears_drags mode }
+{
+    match mode {
+        Mode::Asking | Mode::Dialog => false,
+        Mode::Ranging | Mode::Free => true,
+    }
+}
+
+/// Returns the action of a mouse event: a click, if `is_acting`, a drag, if `is_dragging`, and else `pass`.
+fn mouse_action(is_acting: bool, is_dragging: bool, mouse: MouseEvent, pass: Action) -> Action
+    ensures { result ≡ mouse_action is_acting is_dragging mouse.kind mouse.row mouse.column pass }
 {
     match mouse.kind {
         MouseEventKind::Down(MouseButton::Left) => {
@@ -334,9 +353,19 @@ fn mouse_action(is_acting: bool, mouse: MouseEvent, pass: Action) -> Action
                 pass
             }
         }
+        MouseEventKind::Drag(MouseButton::Left) => {
+            if is_dragging {
+                Action::Drag {
+                    row: mouse.row as usize,
+                    column: mouse.column as usize,
+                }
+            } else {
+                pass
+            }
+        }
         MouseEventKind::Down(MouseButton::Right | MouseButton::Middle)
+        | MouseEventKind::Drag(MouseButton::Right | MouseButton::Middle)
         | MouseEventKind::Up(_)
-        | MouseEventKind::Drag(_)
         | MouseEventKind::Moved
         | MouseEventKind::ScrollUp
         | MouseEventKind::ScrollDown
@@ -349,7 +378,8 @@ fn mouse_action(is_acting: bool, mouse: MouseEvent, pass: Action) -> Action
 /// While a text is asked for, the session hears no key. While a dialog is open, the layer has no keys of
 /// its own, and of the user's `keys` those alone that are events of the session. Of two keys of `keys` that
 /// are equal the last one counts. One click acts on a box, unless a dialog is open or one of `keys` says that
-/// a click selects first. The session hears all else of the mouse.
+/// a click selects first. A drag makes a range, unless a dialog is open or a text is asked for. The session
+/// hears all else of the mouse.
 pub fn action_of(mode: Mode, keys: &[OwnKey], event: TerminalEvent) -> Action
     ensures { result ≡ action_of mode keys.now event }
 {
@@ -361,7 +391,12 @@ pub fn action_of(mode: Mode, keys: &[OwnKey], event: TerminalEvent) -> Action
             Mode::Ranging => free_key(true, keys, key, pass),
             Mode::Free => free_key(false, keys, key, pass),
         },
-        TerminalEvent::Mouse(mouse) => mouse_action(acts_at_once(mode, keys), mouse, pass),
+        TerminalEvent::Mouse(mouse) => mouse_action(
+            acts_at_once(mode, keys),
+            hears_drags(mode),
+            mouse,
+            pass,
+        ),
         TerminalEvent::Other => pass,
     }
 }

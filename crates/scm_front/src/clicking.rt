@@ -1,6 +1,6 @@
 //! A click on the box of an item: the first one selects the item, and the second one acts on the box.
 ghost use Rattle.std.specs.Prelude.{◌≡◌, ◌&&◌, []};
-ghost use Rattle.scm_front.specs.Clicking.{box_at, box_of, is_same_box, merely_selects};
+ghost use Rattle.scm_front.specs.Clicking.{box_at, box_of, is_same_box, item_at, item_of, merely_selects};
 
 use crate::begun::Begun;
 use scm_record::keys::is_key;
@@ -50,6 +50,42 @@ pub(crate) fn box_at(session: &Begun<'_>, row: usize, column: usize) -> ItemBox
     ensures calm { session.now.session.pending ≡ [] }
 {
     box_of(session.live().owner(row, column))
+}
+
+/// Returns the item of `owner` that a click can select, or `None`.
+fn item_of(owner: Option<ComponentId>) -> SelectionKey
+    ensures { result ≡ item_of owner }
+{
+    match owner {
+        Some(
+            ComponentId::ToggleBox(key)
+            | ComponentId::ExpandBox(key)
+            | ComponentId::SelectableItem(key),
+        ) => key,
+        Some(ComponentId::FileViewHeader(key)) => SelectionKey::File(key),
+        None
+        | Some(
+            ComponentId::App
+            | ComponentId::AppFiles
+            | ComponentId::CommitMessageView
+            | ComponentId::CommitEditMessageButton(_)
+            | ComponentId::MenuBar
+            | ComponentId::MenuHeader
+            | ComponentId::Menu(_)
+            | ComponentId::MenuItem(_)
+            | ComponentId::QuitDialog
+            | ComponentId::QuitDialogButton(_)
+            | ComponentId::HelpDialog
+            | ComponentId::HelpDialogQuitButton,
+        ) => SelectionKey::None,
+    }
+}
+
+/// Returns the item that a click at `row` and `column` of the screen hits, or `None`.
+pub(crate) fn item_at(session: &Begun<'_>, row: usize, column: usize) -> SelectionKey
+    ensures { result ≡ item_at session.now row column }
+{
+    item_of(session.live().owner(row, column))
 }
 
 /// Returns whether a click on `given` merely selects its item: another item is selected.

@@ -1,4 +1,7 @@
 //! What the layer keeps beside the session and the text that is searched for.
+ghost use Rattle.std.specs.Prelude.{◌≡◌};
+ghost use Rattle.scm_selection.specs.KeyLists.{is_line};
+ghost use Rattle.scm_front.specs.Keeping.{is_none};
 
 use crate::actions::OwnKey;
 use scm_front_items::History;
@@ -10,6 +13,8 @@ use std::alloc::Global;
 pub enum Notice {
     /// Nothing.
     Nothing,
+    /// Nothing; the last key was a click on an item.
+    Pressed,
     /// A text is being typed.
     Asking,
     /// The last search did not get to an item.
@@ -49,4 +54,24 @@ pub struct Kept {
     pub history: History,
     /// The allocator of the layer.
     pub alloc: Global,
+}
+
+/// Returns whether `key` is that of a line.
+pub(crate) fn is_line(key: SelectionKey) -> bool
+    ensures { result ≡ is_line key }
+{
+    match key {
+        SelectionKey::Line(_) => true,
+        SelectionKey::None | SelectionKey::File(_) | SelectionKey::Section(_) => false,
+    }
+}
+
+/// Returns whether `key` names nothing.
+pub(crate) fn is_none(key: SelectionKey) -> bool
+    ensures { result ≡ is_none key }
+{
+    match key {
+        SelectionKey::None => true,
+        SelectionKey::File(_) | SelectionKey::Section(_) | SelectionKey::Line(_) => false,
+    }
 }

@@ -3,7 +3,7 @@ ghost use Rattle.std.specs.Prelude.{◌≡◌, ◌+◌, ◌≤◌, [], ◌∷◌
 ghost use Rattle.scm_errors.specs.declared.error.RecordError.TheVariants.{OutOfMemory};
 ghost use Rattle.scm_types.specs.Limits.{is_accepted_state};
 ghost use Rattle.scm_types.specs.Keys.{is_key};
-ghost use Rattle.scm_selection.specs.KeyLists.{is_line};
+ghost use Rattle.scm_input.specs.declared.events.Event.TheVariants.{Click as ClickEvent};
 ghost use Rattle.scm_record.specs.Session.{message_text, start};
 ghost use Rattle.scm_record.specs.Live.{on_screen};
 ghost use Rattle.scm_record.specs.LiveCalls.{BatchFails, BatchLeads, Call, EventFails, EventLeads, MessageFails, MessageLeads, Path, Press};
@@ -11,7 +11,7 @@ ghost use Rattle.scm_record.specs.declared.live.Turn.TheVariants.{Editing as Edi
 ghost use Rattle.scm_front_items.specs.declared.items.Way.{Way as Direction};
 ghost use Rattle.scm_front_items.specs.declared.runs.Step.{Step as Past};
 ghost use Rattle.scm_front.specs.declared.kept.Notice.TheVariants.{NotRestored};
-ghost use Rattle.scm_front.specs.declared.actions.Action.TheVariants.{Again, Click, Edit, Go, Mark, Pass, Range, Seek};
+ghost use Rattle.scm_front.specs.declared.actions.Action.TheVariants.{Again, Click, Drag, Edit, Go, Mark, Pass, Range, Seek};
 ghost use Rattle.scm_front.specs.Actions.{has_key};
 ghost use Rattle.scm_front.specs.Asking.{new_query};
 ghost use Rattle.scm_front.specs.Driving.{turn_of};
@@ -24,14 +24,14 @@ ghost use Rattle.scm_front.specs.Recording.{RecordsAt, Returns, back_of};
 ghost use Rattle.scm_front_items.specs.Runs.{marks_of_files, marks_with};
 ghost use Rattle.scm_front_items.specs.Histories.{no_history};
 ghost use Rattle.scm_front.specs.Starting.{Starts};
-ghost use Rattle.scm_front.specs.Fronts.{ClickFails, Does, IsGiven, KeyFails, RemembersIn, beneath_of, end_word, files_of, front, front_of, found, heard, is_elsewhere, is_silent, mode_of, notice_of, restoring, said_word, search_word};
+ghost use Rattle.scm_front.specs.Fronts.{ClickFails, Does, IsGiven, KeyFails, RemembersIn, beneath_of, drag_anchor, end_word, files_of, front, front_of, found, heard, is_dragged, is_elsewhere, is_silent, mode_of, notice_of, pressed_line, restoring, said_word, search_word};
 
 use crate::accepted::AcceptedState;
 use crate::actions::{Action, Mode, OwnKey, action_of, has_key};
 use crate::asking::{Query, Typing, after_typing, new_query, with_word};
 use crate::begun::{Begun, BegunEdit, BegunTurn};
-use crate::clicking::{box_at, is_half, merely_selects};
-use crate::kept::{Kept, Notice};
+use crate::clicking::{box_at, is_half, item_at, merely_selects};
+use crate::kept::{Kept, Notice, is_line, is_none};
 use crate::logging::Logging;
 use crate::marking::{
     Restoring, destination, is_restored, range_deeds, restore, runs_of_range, selection_of,
@@ -200,32 +200,12 @@ fn search_word(way: Way, selection: SelectionKey, key: SelectionKey) -> Notice
     }
 }
 
-/// Returns whether `key` is that of a line.
-fn is_line(key: SelectionKey) -> bool
-    ensures { result ≡ is_line key }
-{
-    match key {
-        SelectionKey::Line(_) => true,
-        SelectionKey::None | SelectionKey::File(_) | SelectionKey::Section(_) => false,
-    }
-}
-
-/// Returns whether `key` names nothing.
-fn is_none(key: SelectionKey) -> bool
-    ensures { result ≡ is_none key }
-{
-    match key {
-        SelectionKey::None => true,
-        SelectionKey::File(_) | SelectionKey::Section(_) | SelectionKey::Line(_) => false,
-    }
-}
-
 /// Returns whether `word` says nothing.
 fn is_silent(word: Notice) -> bool
     ensures { result ≡ is_silent word }
 {
     match word {
-        Notice::Nothing => true,
+        Notice::Nothing | Notice::Pressed => true,
         Notice::Asking
         | Notice::NotFound
         | Notice::FromTop
@@ -268,6 +248,59 @@ fn after_range(kept: Kept, selection: SelectionKey) -> Kept
     } else {
         saying(anchored(kept, SelectionKey::None), Notice::Nothing)
     }
+}
+
+/// Returns the line at which a drag begins a range: `selection`, if it is a line and `word` says that the last key
+/// was a click on it.
+fn pressed_line(word: Notice, selection: SelectionKey) -> SelectionKey
+    ensures { result ≡ pressed_line word selection }
+{
+    match word {
+        Notice::Pressed => {
+            if is_line(selection) {
+                selection
+            } else {
+                SelectionKey::None
+            }
+        }
+        Notice::Nothing
+        | Notice::Asking
+        | Notice::NotFound
+        | Notice::FromTop
+        | Notice::FromEnd
+        | Notice::Range
+        | Notice::NoLine
+        | Notice::NoMessage
+        | Notice::Undone
+        | Notice::Redone
+        | Notice::NothingToUndo
+        | Notice::NothingToRedo
+        | Notice::NotRestored => SelectionKey::None,
+    }
+}
+
+/// Returns the line at which the range of a drag begins, or `None`: where a range is begun, or where the button
+/// went down.
+fn drag_anchor(kept: &Kept, selection: SelectionKey) -> SelectionKey
+    ensures { result ≡ drag_anchor kept.now selection }
+{
+    if is_none(kept.anchor) {
+        pressed_line(kept.word, selection)
+    } else {
+        kept.anchor
+    }
+}
+
+/// Returns whether a drag from `anchor` comes to another item: there is a range, and at the place an item that
+/// is not selected.
+fn is_dragged(session: &Begun<'_>, anchor: SelectionKey, row: usize, column: usize) -> bool
+    ensures { result ≡ is_dragged session.now anchor row column }
+{
+    let item = item_at(session, row, column);
+    let is_range = !is_none(anchor);
+    let is_item = !is_none(item);
+    let is_other = !is_key(item, selection_of(session));
+    is_range & is_item & is_other
 }
 
 /// Takes the step to restore from the history of `kept`: upwards the last change, downwards what was undone
@@ -503,6 +536,46 @@ impl<'state> Front<'state> {
             }
             FrontTurn::Editing(editing) => Ok(FrontTurn::Editing(editing)),
             FrontTurn::Accepted(state) => Ok(FrontTurn::Accepted(state)),
+        }
+    }
+
+    /// Moves the end of the range to the item at `row` and `column` of the screen, both counted from 0. If no
+    /// range is begun and the last key was a click on a line, begins one there. If there is no item, or it is
+    /// selected, or there is no range, the front is unchanged.
+    ///
+    /// # Errors
+    ///
+    /// An error ends the session: the errors are those of [`LiveSession::handle`].
+    pub fn drag(self, row: usize, column: usize) -> Result<FrontTurn<'state>, RecordError>
+        ensures ok { IfOk result (λ turn.
+            (calls : List Call) × Does self.entry (Drag row column) calls turn) }
+        ensures err { IfErr result (λ e.
+            EventFails self.entry.beneath (ClickEvent row column) e) }
+    {
+        let anchor = drag_anchor(&self.kept, selection_of(&self.beneath));
+        if is_dragged(&self.beneath, anchor, row, column) {
+            self.with_anchor(anchor)
+                .handle(Event::Click { row, column })
+        } else {
+            Ok(FrontTurn::Waiting(self))
+        }
+    }
+
+    /// Returns the front with a range begun at `anchor`, or without one.
+    fn with_anchor(self, anchor: SelectionKey) -> Front<'state>
+        ensures { result ≡ front self.entry.beneath self.entry.query
+            (anchored self.entry.kept anchor) }
+    {
+        let Front {
+            beneath,
+            query,
+            kept,
+        } = self;
+        let kept = anchored(kept, anchor);
+        Front {
+            beneath,
+            query,
+            kept,
         }
     }
 
@@ -863,6 +936,7 @@ impl<'state> Front<'state> {
             Action::Again(way) => self.search(way),
             Action::Go(place) => self.go(place),
             Action::Click { row, column } => self.click(row, column),
+            Action::Drag { row, column } => self.drag(row, column),
             Action::Range => Ok(FrontTurn::Waiting(self.range())),
             Action::Mark => self.mark(),
             Action::Undo => self.restore(Way::Up),

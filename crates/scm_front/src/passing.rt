@@ -4,7 +4,8 @@ ghost use Rattle.scm_record.specs.Session.{message_of};
 ghost use Rattle.scm_front.specs.Passing.{lacks_message, word_after};
 
 use crate::begun::Begun;
-use crate::kept::Notice;
+use crate::clicking::item_at;
+use crate::kept::{Notice, is_none};
 use scm_record::Event;
 
 /// Returns whether the first commit has a message.
@@ -41,6 +42,13 @@ pub(crate) fn word_after(session: &Begun<'_>, event: Event) -> Notice
                 Notice::Nothing
             }
         }
+        Event::Click { row, column } => {
+            if is_none(item_at(session, row, column)) {
+                Notice::Nothing
+            } else {
+                Notice::Pressed
+            }
+        }
         Event::None
         | Event::QuitAccept
         | Event::QuitCancel
@@ -67,7 +75,6 @@ pub(crate) fn word_after(session: &Begun<'_>, event: Event) -> Notice
         | Event::ToggleAllUniform
         | Event::ExpandItem
         | Event::ExpandAll
-        | Event::Click { .. }
         | Event::ToggleCommitViewMode
         | Event::Help => Notice::Nothing,
     }

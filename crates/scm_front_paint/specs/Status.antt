@@ -16,7 +16,7 @@ use Rattle.scm_terminal.specs.StyledCell.{StyledCell, picture}
 use Rattle.scm_selection.specs.Counts.{changed_count}
 use Rattle.scm_record.specs.Marked.{checked_lines}
 use Rattle.scm_front.specs.declared.kept.Notice.{Notice}
-use Rattle.scm_front.specs.declared.kept.Notice.TheVariants.{Nothing, Asking, NotFound, FromTop, FromEnd, Range, NoLine, NoMessage, Undone, Redone, NothingToUndo, NothingToRedo, NotRestored}
+use Rattle.scm_front.specs.declared.kept.Notice.TheVariants.{Nothing, Pressed, Asking, NotFound, FromTop, FromEnd, Range, NoLine, NoMessage, Undone, Redone, NothingToUndo, NothingToRedo, NotRestored}
 use Rattle.scm_front.specs.declared.layer.Front.{Front}
 use Rattle.scm_front.specs.Fronts.{notice_of}
 use Rattle.scm_front_paint.specs.declared.status.LeftKind.{LeftKind}
@@ -68,6 +68,7 @@ text_of_key files (keys.Line key) = line_text files key.file_idx key.section_idx
 -- what the layer says of the last key; nothing, if a text is asked for or was not found, or a range is begun, which have texts of their own
 abbrev pub text_of_notice : Notice → List ℕ
 text_of_notice Nothing = []
+text_of_notice Pressed = []
 text_of_notice Asking = []
 text_of_notice NotFound = []
 text_of_notice FromTop = codes "search goes on at the top"
@@ -84,6 +85,7 @@ text_of_notice NotRestored = codes "not restored; nothing is left to undo"
 -- whether it says that a range is begun
 abbrev pub is_range : Notice → Bool
 is_range Nothing = false
+is_range Pressed = false
 is_range Asking = false
 is_range NotFound = false
 is_range FromTop = false

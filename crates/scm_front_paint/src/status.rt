@@ -120,7 +120,7 @@ fn text_of_notice(notice: Notice) -> &'static str
     ensures { result.now ≡ text_of_notice notice }
 {
     match notice {
-        Notice::Nothing | Notice::Asking | Notice::NotFound | Notice::Range => "",
+        Notice::Nothing | Notice::Pressed | Notice::Asking | Notice::NotFound | Notice::Range => "",
         Notice::FromTop => "search goes on at the top",
         Notice::FromEnd => "search goes on at the end",
         Notice::NoLine => "a range begins at a line",
@@ -150,6 +150,7 @@ fn is_range(notice: Notice) -> bool
     match notice {
         Notice::Range => true,
         Notice::Nothing
+        | Notice::Pressed
         | Notice::Asking
         | Notice::NotFound
         | Notice::FromTop

@@ -1,10 +1,13 @@
 //! Calls without a session.
 use crate::layer::states::state_of_files;
-use scm_front::{AcceptedState, Action, Logging, Mode, Place, Typing, Way, action_of, item_around};
+use scm_front::{
+    AcceptedState, Action, Logging, Mode, OwnKey, Place, Typing, Way, action_of, item_around,
+};
 use scm_record::key_lists::{file_key, line_key};
 use scm_record::keys::is_key;
 use scm_record::{
-    KeyCode, KeyEvent, KeyEventKind, KeyModifiers, RecordError, SelectionKey, TerminalEvent,
+    Event, KeyCode, KeyEvent, KeyEventKind, KeyModifiers, MouseButton, MouseEvent, MouseEventKind,
+    RecordError, SelectionKey, TerminalEvent,
 };
 use std::alloc::Global;
 use std::test::Fail;
@@ -26,6 +29,29 @@ fn keys_are_known_without_a_session(rt: HostRuntime) -> Result<(), Fail> {
     assert!(rt; matches!(first, Action::Go(Place::First)));
     let typed = action_of(Mode::Asking, &[], pressed('n'));
     assert!(rt; matches!(typed, Action::Edit(Typing::Add('n'))));
+    Ok(())
+}
+
+/// Returns the event of the mouse at row 3 and column 2 of the screen.
+fn moused(kind: MouseEventKind) -> TerminalEvent {
+    TerminalEvent::Mouse(MouseEvent {
+        kind,
+        column: 2,
+        row: 3,
+        modifiers: KeyModifiers::NONE,
+    })
+}
+
+#[test]
+fn the_mouse_is_known_without_a_session(rt: HostRuntime) -> Result<(), Fail> {
+    let down = moused(MouseEventKind::Down(MouseButton::Left));
+    let acts = action_of(Mode::Free, &[], down);
+    assert!(rt; matches!(acts, Action::Click { row: 3, column: 2 }));
+    let selects = action_of(Mode::Free, &[OwnKey::ClickSelects], down);
+    assert!(rt; matches!(selects, Action::Pass(Event::Click { row: 3, column: 2 })));
+    let drag = moused(MouseEventKind::Drag(MouseButton::Left));
+    let moves = action_of(Mode::Ranging, &[], drag);
+    assert!(rt; matches!(moves, Action::Drag { row: 3, column: 2 }));
     Ok(())
 }
 

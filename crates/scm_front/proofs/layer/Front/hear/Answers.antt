@@ -5,7 +5,7 @@ use Rattle.scm_front.specs.declared.actions.Mode.{Mode}
 use Rattle.scm_front.specs.declared.actions.OwnKey.{OwnKey}
 use Rattle.scm_front.specs.declared.layer.FrontTurn.TheVariants.{Waiting}
 use Rattle.scm_front.specs.Actions.{action_of}
-use Rattle.scm_front.specs.Fronts.{ignores, key_click_failed, key_failed, key_refused, mode_of}
+use Rattle.scm_front.specs.Fronts.{ignores, key_click_failed, key_drag_failed, key_failed, key_refused, mode_of}
 use Rattle.scm_front.proofs.DoLemmas.{as-heard}
 use Rattle.scm_front.proofs.layer.Front.hear.Goals as goal
 
@@ -34,6 +34,13 @@ returns-in-Click-clause-err c =
     let by_keys = ap (λ (keys : List OwnKey). action_of (mode_of c.args.self) keys c.args.event) c.as_slice.ensures in
     let is = sym (c.in-Click.ensures ∙ by_mode ∙ by_keys) in
     IfErr-weaker c.click.result _ _ (λ error fails. key_click_failed c.in-Click.row c.in-Click.column is fails) c.click.ensures.err
+
+pub returns-in-Drag-clause-err : goal.returns-in-Drag-clause-err
+returns-in-Drag-clause-err c =
+    let by_mode = ap (λ (m : Mode). action_of m c.as_slice.result.now c.args.event) c.mode.ensures in
+    let by_keys = ap (λ (keys : List OwnKey). action_of (mode_of c.args.self) keys c.args.event) c.as_slice.ensures in
+    let is = sym (c.in-Drag.ensures ∙ by_mode ∙ by_keys) in
+    IfErr-weaker c.drag.result _ _ (λ error fails. key_drag_failed c.in-Drag.row c.in-Drag.column is fails) c.drag.ensures.err
 
 pub returns-in-Mark-clause-err : goal.returns-in-Mark-clause-err
 returns-in-Mark-clause-err c = IfErr-weaker c.mark.result _ _ (λ error e. key_refused e) c.mark.ensures.err
