@@ -16,21 +16,25 @@ pub struct Pager {
 
 impl Pager {
     /// The file that it shows, counted from 0.
+    #[must_use]
     pub fn file(&self) -> usize {
         self.at.file
     }
 
     /// The line on the first row of the screen, counted from 0.
+    #[must_use]
     pub fn top(&self) -> usize {
         self.at.top
     }
 
     /// How many columns of each line stand to the left of the screen.
+    #[must_use]
     pub fn left(&self) -> u16 {
         self.at.left
     }
 
     /// The side that it shows.
+    #[must_use]
     pub fn side(&self) -> Side {
         if self.at.selected {
             Side::Selected
@@ -40,6 +44,7 @@ impl Pager {
     }
 
     /// Whether it has not been closed.
+    #[must_use]
     pub fn is_open(&self) -> bool {
         self.at.is_open
     }
@@ -84,6 +89,7 @@ impl Session {
     ///
     /// Those of [`pager`](Session::pager), or `NoMemory`.
     pub fn paint_pager(&self, pager: &Pager, width: u16, height: u16) -> Result<Vec<u8>, Error> {
+        // SAFETY: `out` has room for as many bytes as `room` says.
         bytes_of(PAGE_ROOM, |out, room, length| unsafe {
             ffi::gabro_pager_paint(self.at(), &pager.at, width, height, out, room, length)
         })
