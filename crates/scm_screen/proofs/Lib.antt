@@ -9,6 +9,8 @@ pub mod MessageLemmas
 -- Rows of the screen, each painted by its number.
 mod EachLemmas
 mod PaintedLemmas
+-- What lies over documents.
+mod OverlaidLemmas
 -- Screens of two commits, computed from the definitions.
 mod Computing
 mod TwoCommits

@@ -8,5 +8,7 @@ pub mod Beside
 pub mod Sections
 -- Headers of files by their counts.
 pub mod Headers
+-- What lies over documents.
+pub mod Overlaid
 -- Laws of windows.
 pub mod Laws

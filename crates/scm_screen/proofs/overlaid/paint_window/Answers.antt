@@ -1,0 +1,33 @@
+use Rattle.std.proofs.Common.{◌≡◌, ◌∙◌, ap, sym, length, replicate}
+use Rattle.std.proofs.lemmas.List.{length-replicate}
+use Rattle.scm_cells.specs.Screen.{Screen}
+use Rattle.scm_overlay.specs.Overlays.{overlays}
+use Rattle.scm_strips.specs.Shows.{whole}
+use Rattle.scm_strips.proofs.RowLemmas.{on-ok}
+use Rattle.scm_view.specs.Window.{inline_document}
+use Rattle.scm_widgets.specs.Blanks.{blank_row}
+use Rattle.scm_widgets.specs.Layers.{shown_by}
+use Rattle.scm_screen.specs.DocumentRows.{each_row, painted_rows}
+use Rattle.scm_screen.proofs.InlineLemmas.{inline-rows}
+use Rattle.scm_screen.proofs.PaintedLemmas.{windows-painted}
+use Rattle.scm_screen.proofs.overlaid.paint_window.Goals as goal
+
+pub returns-clause-ok : goal.returns-clause-ok
+returns-clause-ok c =
+    let s = c.args.shown.now in
+    let z = c.args.scroll in
+    let w = c.args.grid.now.width in
+    let h = length c.args.grid.now.rows in
+    let blank : c.clear.new.self.rows ≡ replicate h (blank_row w) = ap (λ (g : Screen). g.rows) c.clear.ensures in
+    let wide : c.width.result ≡ w = c.width.ensures.value ∙ ap (λ (g : Screen). g.width) c.clear.ensures in
+    let size = c.in_ok-paint_document.ensures.size in
+    let columns : c.paint_document.new.grid.width ≡ w = size.width ∙ ap (λ (g : Screen). g.width) c.clear.ensures in
+    let tall : length c.paint_document.new.grid.rows ≡ h = size.height ∙ ap (λ (g : Screen). length g.rows) c.clear.ensures ∙ length-replicate h (blank_row w) in
+    let under : c.paint_document.new.grid.rows ≡ painted_rows (whole w) z (inline_document s) (replicate h (blank_row w)) =
+    c.in_ok-paint_document.ensures.ok ∙ (λ i. painted_rows (whole (wide i)) z (inline_document s) (blank i)) in
+    on-ok c.paint_overlays.result
+    (λ p. p
+    ∙ (λ i. each_row (shown_by (overlays (columns i) (tall i) z s.open_menu s.quit_dialog s.is_help_open)) z (under i))
+    ∙ sym (windows-painted w h z s c.requires.inline)
+    ∙ inline-rows w h z s c.requires.inline c.requires.wide)
+    c.paint_overlays.ensures.ok
