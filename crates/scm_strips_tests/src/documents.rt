@@ -9,8 +9,8 @@ use scm_layout::Layout;
 use scm_samples::{
     ADDED, DEFAULT, REMOVED, binary, changed, commits_of, context, deletion, file_of,
 };
-use scm_screen::{document_row, paint_document, pinned_header};
-use scm_selection::key_set::key_set_of;
+use scm_screen::{document_row, paint_document, paint_window, pinned_header};
+use scm_selection::key_set::{KeySet, key_set_of};
 use scm_strips::{Area, Shown, paint_row};
 use scm_types::{
     File, FileKey, Items, LineKey, RecordError, RecordState, SectionKey, SelectionKey,
@@ -101,6 +101,10 @@ const BARE: &[Row] = &[
     ),
 ];
 
+/// What such a screen shows with the menu bar, if its first row is row 8.
+const WINDOW: &str =
+    "\"[File] [Edit] [Select] [\"\n\"[◐] f                [-]\"\n\"    (●) + new⏎          \"\n\"    [ ] - old⏎          \"\n\"  [●] File deleted      \"\n";
+
 /// Returns a file with a section of each kind.
 fn file(alloc: Global) -> Result<File<'static>, RecordError> {
     let mut sections = Vec::new(alloc);
@@ -111,21 +115,33 @@ fn file(alloc: Global) -> Result<File<'static>, RecordError> {
     Ok(file_of(DEFAULT, sections))
 }
 
-/// Returns a view state of one commit with a message and `files`, in which the changed lines are unfolded.
+/// Returns a state of one commit with a message and `files`.
+fn state(alloc: Global, files: Items<File<'static>>) -> Result<RecordState<'static>, RecordError> {
+    Ok(RecordState {
+        is_read_only: false,
+        commits: commits_of(alloc, "message")?,
+        files,
+    })
+}
+
+/// Returns the keys of the file and of its changed lines.
+fn unfolded(alloc: Global) -> Result<KeySet, RecordError> {
+    Ok(key_set_of(
+        alloc,
+        &[SelectionKey::File(FILE), SelectionKey::Section(CHANGED)],
+    )?)
+}
+
+/// Returns a view state of such a state, in which the changed lines are unfolded.
 fn view_state(
     alloc: Global,
     files: Items<File<'static>>,
 ) -> Result<ViewState<'static>, RecordError> {
-    let state = RecordState {
-        is_read_only: false,
-        commits: commits_of(alloc, "message")?,
-        files,
-    };
-    let expanded = key_set_of(
-        alloc,
-        &[SelectionKey::File(FILE), SelectionKey::Section(CHANGED)],
-    )?;
-    Ok(ViewState::new(state, SelectionKey::Line(SELECTED), expanded))
+    Ok(ViewState::new(
+        state(alloc, files)?,
+        SelectionKey::Line(SELECTED),
+        unfolded(alloc)?,
+    ))
 }
 
 /// Returns what 24 columns show of `what`, painted over dots, or an empty text if there is nothing.
@@ -240,4 +256,22 @@ fn documents_are_painted(rt: HostRuntime) -> Result<(), RecordError> {
     check_screens(&rt, rt.alloc(), &view_state(rt.alloc(), files)?, SCREENS)?;
     let bare = view_state(rt.alloc(), Items::new(rt.alloc()))?;
     check_screens(&rt, rt.alloc(), &bare, BARE)
+}
+
+#[test]
+#[tactic(auto, unfolding(scm_types::specs::Limits::max_items, scm_types::specs::Limits::max_scroll))]
+fn windows_are_painted(rt: HostRuntime) -> Result<(), RecordError> {
+    let mut files = Items::new(rt.alloc());
+    files.push(file(rt.alloc())?)?;
+    let state = state(rt.alloc(), files)?;
+    let shown = ViewState::new(state, SelectionKey::Line(SELECTED), unfolded(rt.alloc())?);
+    assert!(rt; shown.state.is_accepted());
+    let layout = shown.layout(rt.alloc())?;
+    let mut view = shown.app_view(rt.alloc())?;
+    view.commit_views = Items::new(rt.alloc());
+    let mut grid = Grid::new(rt.alloc(), 24, 5)?;
+    paint_window(rt.alloc(), &mut grid, &shown, &layout, &view, 8)?;
+    let text = grid.view()?;
+    check_equal(&rt, text.as_str(), WINDOW);
+    Ok(())
 }
