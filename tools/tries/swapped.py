@@ -289,9 +289,9 @@ kept = compared.target_of
 def lead(path):
     os.unlink("link")
     os.symlink(path, "link")
-def target_of(options):
+def target_of(*given):
     lead("mine/x")
-    target = kept(options)
+    target = kept(*given)
     lead("others/x")
     return target
 compared.target_of = target_of
@@ -311,11 +311,11 @@ def a_link_that_leads_elsewhere(place):
 # LEFT and RIGHT are files when RIGHT is looked for, and folders when they are compared
 BECOME_FOLDERS = """import compared
 kept = compared.target_of
-def target_of(options, *more):
+def target_of(*given):
     for name in "left", "right":
         os.rename(name, "folder of " + name)
         os.rename("file of " + name, name)
-    target = kept(options, *more)
+    target = kept(*given)
     for name in "left", "right":
         os.rename(name, "file of " + name)
         os.rename("folder of " + name, name)
