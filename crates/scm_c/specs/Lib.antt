@@ -6,3 +6,5 @@ pub mod Merges
 pub mod Sides
 -- what calls tell of a pager
 pub mod Pages
+-- what calls tell of what becomes of paths
+pub mod Trees

@@ -3,16 +3,17 @@
 ghost use Rattle.std.specs.Prelude.{◌≡◌, ◌<◌, true};
 ghost use Rattle.scm_c_values.specs.Codes.{IsCode};
 ghost use Rattle.scm_tree.specs.Names.{fault_of};
-ghost use Rattle.scm_tree_records.specs.Calls.{TellsAnswer};
-ghost use Rattle.scm_tree_records.specs.Faults.{fault_number};
+ghost use Rattle.scm_c.specs.Trees.{TellsAnswer};
+ghost use Rattle.scm_tree.specs.Faults.{fault_number};
 ghost use Rattle.scm_tree_sides.specs.Bits.{changed_of, in_tree_bits, shown_bits};
 ghost use Rattle.scm_tree_sides.specs.InTree.{in_tree};
 ghost use Rattle.scm_tree_sides.specs.Shown.{shown_as};
 ghost use Rattle.scm_c.specs.Sides.{side_told};
 
-use scm_c_values::codes::SIDE_BINARY;
+use scm_c_values::buffers::write_text;
+use scm_c_values::codes::{DONE, NO_MEMORY, SIDE_BINARY};
 use scm_c_values::sides::Side;
-use scm_tree_records::{decide_rows, path_fault_number};
+use scm_tree::{decide_records, path_fault_number};
 use scm_tree_sides::bits::{
     ChangedBits, InTreeBits, ShownBits, in_tree_bits, mode_with_bits, shown_bits,
 };
@@ -31,7 +32,11 @@ pub extern "C" fn gabro_decide_rows(
     ensures answer { result ≡ 0 → TellsAnswer rows.now out.old out.new written.new }
     ensures unwritten { 0 < result → (out.new ≡ out.old) × (written.new ≡ written.old) }
 {
-    decide_rows(alloc, rows, out, written)
+    let Ok(answer) = decide_records(alloc, rows) else {
+        return NO_MEMORY;
+    };
+    *written = write_text(answer.as_slice(), out);
+    DONE
 }
 
 /// Returns the number of what is wrong with the first name of `path` with which something is, or 0 if the path names a file

@@ -32,3 +32,9 @@ pub mod FindLemmas
 pub mod DecisionLemmas
 -- why nothing is decided
 pub mod ReasonLemmas
+-- what bytes hold, part by part
+pub mod ReadLemmas
+-- the records of what is decided
+pub mod AnswerLemmas
+-- answers that are told apart
+pub mod ToldApartLemmas

@@ -30,3 +30,13 @@ pub mod Renames
 pub mod Decisions
 -- why nothing is decided
 pub mod DecideFaults
+-- what is wrong with a path, as a number
+pub mod Faults
+-- records of paths, and what they hold
+pub mod Records
+-- what the reading of bytes gives
+pub mod Reading
+-- the records of what is decided
+pub mod Answers
+-- answers that are told apart
+pub mod ToldApart

@@ -1,5 +1,5 @@
 //! From tree to tree: which paths name a file, which files a choice adds, changes, removes and must leave out, and what
-//! becomes of each path.
+//! becomes of each path. Both the paths and the answer are records of bytes, too, as C has them.
 #![tactic(auto)]
 
 // paths
@@ -24,8 +24,16 @@ mod place;
 mod rename;
 mod rows;
 
+// records
+mod answer;
+mod asked;
+pub mod faults;
+mod record;
+
+pub use answer::decide_records;
 pub use check::{RowFault, check_rows};
 pub use decision::{DecideError, Decision, Moved, Outcome, decide, decision_is_as_promised};
+pub use faults::path_fault_number;
 pub use find::row_number;
 pub use names::{PathFault, path_fault};
 pub use path::{is_before, is_inside};

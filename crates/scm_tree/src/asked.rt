@@ -1,0 +1,211 @@
+//! The files of two trees, the marks and the renamed files that records have.
+ghost use Rattle.std.specs.Prelude.{◌≡◌, ◌+◌, ◌-◌, ◌<◌, IfOk, IfSome, MatchResult, Ok, OnOk, Some, drop, length, slice_get, take};
+ghost use Rattle.std.specs.List.{position};
+ghost use Rattle.scm_tree.specs.declared.asked.ReadError.TheVariants.{OutOfMemory};
+ghost use Rattle.scm_tree.specs.Records.{held_by, is_nul, record_of, rows_in, seen_record, with_asked, with_files, with_first, with_record, with_second, last_shown, nothing_held, seen_mark, shown_path, with_shown};
+ghost use Rattle.scm_tree.specs.Reading.{IsReadFault, held_if};
+
+use crate::record::{Ask, Record, asked_version, new_version, old_version, record_of};
+use crate::{Entry, Mark, Moved, Wish};
+use std::alloc::{AllocError, Global};
+
+/// What records have. Each shown file has a number, in the order of the records.
+#[derive(Drop)]
+pub(crate) struct Asked<'a> {
+    pub(crate) old: Vec<Entry<'a>>,
+    pub(crate) new: Vec<Entry<'a>>,
+    pub(crate) marks: Vec<Mark<'a>>,
+    pub(crate) moved: Vec<Moved<'a>>,
+
+    /// How many files are shown.
+    pub(crate) count: usize,
+}
+
+/// Why bytes are no records.
+#[derive(Clone, Copy)]
+pub(crate) enum ReadError<'a> {
+    /// These bytes are no record, or the second one of a file without a first one.
+    NoRecord(&'a [u8]),
+
+    /// An allocation failed.
+    OutOfMemory,
+}
+
+impl From<AllocError> for ReadError<'_> {
+    ghost from_gives = { λ _ e. e ≡ OutOfMemory };
+
+    fn from(_error: AllocError) -> Self {
+        ReadError::OutOfMemory
+    }
+}
+
+/// Adds the files that the two trees have at the record's path.
+fn add_entries<'a>(asked: &mut Asked<'a>, row: &Record<'a>) -> Result<(), AllocError>
+    ensures { OnOk result
+        (held_by asked.exit.now ≡ with_files (seen_record row.now) (held_by asked.entry.now)) }
+{
+    if row.is_old {
+        asked.old.push(Entry {
+            path: row.path,
+            version: old_version(),
+        })?;
+    }
+    if row.is_new {
+        asked.new.push(Entry {
+            path: row.path,
+            version: new_version(),
+        })?;
+    }
+    Ok(())
+}
+
+/// Returns what the marks of file `file` ask for at the record's path.
+fn mark_of<'a>(row: &Record<'a>, file: usize) -> Mark<'a>
+    ensures { seen_mark result ≡ shown_path (seen_record row.now) file }
+{
+    Mark {
+        path: row.path,
+        wish: Wish {
+            file,
+            wanted: asked_version(row.ask),
+        },
+    }
+}
+
+/// Returns the last mark.
+fn last_mark<'a>(marks: &[Mark<'a>]) -> Option<Mark<'a>>
+    ensures { result ≡ slice_get marks.now (length marks.now - 1) }
+{
+    match marks.last() {
+        None => None,
+        Some(mark) => Some(*mark),
+    }
+}
+
+/// Adds the other path of the renamed file to which the last mark belongs. Returns whether there is one.
+fn add_second<'a>(asked: &mut Asked<'a>, row: &Record<'a>) -> Result<bool, AllocError>
+    ensures { IfOk result (λ done.
+        with_second (seen_record row.now) (last_shown (held_by asked.entry.now)) (held_by asked.entry.now)
+        ≡ held_if done asked.exit.now) }
+{
+    let Some(first) = last_mark(asked.marks.as_slice()) else {
+        return Ok(false);
+    };
+    asked.moved.push(Moved {
+        old: first.path,
+        new: row.path,
+    })?;
+    asked.marks.push(mark_of(row, first.wish.file))?;
+    Ok(true)
+}
+
+/// Adds the first path of a file.
+fn add_first<'a>(asked: &mut Asked<'a>, row: &Record<'a>) -> Result<(), AllocError>
+    ensures { OnOk result
+        (held_by asked.exit.now ≡ with_first (seen_record row.now) (held_by asked.entry.now)) }
+{
+    let Some(count) = asked.count.checked_add(1) else {
+        return Err(AllocError);
+    };
+    asked.marks.push(mark_of(row, asked.count))?;
+    asked.count = count;
+    Ok(())
+}
+
+/// Adds what the record's marks ask for, if its path is shown. Returns whether that goes.
+fn add_shown<'a>(asked: &mut Asked<'a>, row: &Record<'a>) -> Result<bool, AllocError>
+    ensures { IfOk result (λ done.
+        with_shown (seen_record row.now) (held_by asked.entry.now) ≡ held_if done asked.exit.now) }
+{
+    if row.is_second {
+        return add_second(asked, row);
+    }
+    add_first(asked, row)?;
+    Ok(true)
+}
+
+/// Adds what the record asks for: a path that keeps what is there is not shown. Returns whether that goes.
+fn add_asked<'a>(asked: &mut Asked<'a>, row: &Record<'a>) -> Result<bool, AllocError>
+    ensures { IfOk result (λ done.
+        with_asked row.now.ask (seen_record row.now) (held_by asked.entry.now)
+        ≡ held_if done asked.exit.now) }
+{
+    match row.ask {
+        Ask::Keep => Ok(true),
+        Ask::Nothing | Ask::Old | Ask::New | Ask::Chosen => add_shown(asked, row),
+    }
+}
+
+/// Adds what the record has that `bytes` are. Returns whether they are one, and what it asks for goes.
+fn add_record<'a>(asked: &mut Asked<'a>, bytes: &'a [u8]) -> Result<bool, AllocError>
+    ensures { IfOk result (λ done.
+        with_record (record_of bytes.now) (held_by asked.entry.now) ≡ held_if done asked.exit.now) }
+{
+    let Some(record) = record_of(bytes) else {
+        return Ok(false);
+    };
+    add_entries(asked, &record)?;
+    add_asked(asked, &record)
+}
+
+/// Returns the place of the first NUL.
+fn first_nul(bytes: &[u8]) -> Option<usize>
+    ensures is { result ≡ position is_nul bytes.now }
+    ensures within { IfSome result (λ i. i < length bytes.now) }
+{
+    bytes.iter().position(|byte| *byte == 0)
+}
+
+/// Returns the bytes before `end`.
+fn before(bytes: &[u8], end: usize) -> &[u8]
+    requires { end < length bytes.now }
+    ensures { result.now ≡ take end bytes.now }
+{
+    &bytes[..end]
+}
+
+/// Returns the bytes after the one at `end`.
+fn after(bytes: &[u8], end: usize) -> &[u8]
+    requires { end < length bytes.now }
+    ensures { result.now ≡ drop (end + 1) bytes.now }
+{
+    &bytes[end + 1..]
+}
+
+/// Returns nothing, to which records are added.
+fn nothing_asked<'a>(alloc: Global) -> Asked<'a>
+    ensures { held_by result ≡ nothing_held }
+{
+    Asked {
+        old: Vec::new(alloc),
+        new: Vec::new(alloc),
+        marks: Vec::new(alloc),
+        moved: Vec::new(alloc),
+        count: 0,
+    }
+}
+
+/// Returns what `bytes` have, records that each end with a NUL.
+///
+/// # Errors
+/// - `NoRecord`: a part of the bytes is no record.
+/// - `OutOfMemory`: an allocation failed.
+pub(crate) fn read_records<'a>(alloc: Global, bytes: &'a [u8]) -> Result<Asked<'a>, ReadError<'a>>
+    ensures { MatchResult result (λ asked. rows_in bytes.now ≡ Ok (held_by asked))
+        (IsReadFault bytes.now) }
+{
+    let mut asked = nothing_asked(alloc);
+    let mut rest = bytes;
+    'records: while let Some(end) = first_nul(rest) {
+        let part = before(rest, end);
+        if !add_record(&mut asked, part)? {
+            return Err(ReadError::NoRecord(part));
+        }
+        rest = after(rest, end);
+    }
+    if rest.is_empty() {
+        Ok(asked)
+    } else {
+        Err(ReadError::NoRecord(rest))
+    }
+}

@@ -1,0 +1,170 @@
+//! A record of a path: four bytes that say which trees have it and what the marks ask for, and the path.
+
+ghost use Rattle.std.specs.Prelude.{◌≡◌};
+ghost use Rattle.std.specs.Option.{option_map};
+ghost use Rattle.scm_tree.specs.Records.{ask_of, is_second, is_sound, is_there, record_of, seen_record, version_of, wanted_by};
+
+use crate::Version;
+
+/// What marks ask for at a path.
+#[derive(Clone, Copy)]
+pub(crate) enum Ask {
+    /// The path is not shown: what is there stays.
+    Keep,
+
+    /// No file.
+    Nothing,
+
+    /// The version of the old tree.
+    Old,
+
+    /// The version of the new tree.
+    New,
+
+    /// A version that is chosen.
+    Chosen,
+}
+
+/// A record of a path.
+#[derive(Clone, Copy)]
+pub(crate) struct Record<'a> {
+    /// The path.
+    pub(crate) path: &'a [u8],
+
+    /// Whether the old tree has it.
+    pub(crate) is_old: bool,
+
+    /// Whether the new tree has it.
+    pub(crate) is_new: bool,
+
+    /// What the marks ask for there.
+    pub(crate) ask: Ask,
+
+    /// Whether it is the other path of the renamed file to which the record before belongs.
+    pub(crate) is_second: bool,
+}
+
+/// Returns whether `byte` is `letter`, or `None` if it is neither that nor a `-`.
+fn is_there(byte: u8, letter: u8) -> Option<bool>
+    ensures { result ≡ is_there byte letter }
+{
+    if byte == letter {
+        Some(true)
+    } else if byte == b'-' {
+        Some(false)
+    } else {
+        None
+    }
+}
+
+/// Returns whether the fourth byte of a record says that the path is the other one of a renamed file.
+fn is_second(byte: u8) -> Option<bool>
+    ensures { result ≡ is_second byte }
+{
+    if byte == b' ' {
+        Some(false)
+    } else if byte == b'+' {
+        Some(true)
+    } else {
+        None
+    }
+}
+
+/// Returns what a byte asks for.
+fn ask_of(byte: u8) -> Option<Ask>
+    ensures { result ≡ ask_of byte }
+{
+    if byte == b'=' {
+        Some(Ask::Keep)
+    } else if byte == b'-' {
+        Some(Ask::Nothing)
+    } else if byte == b'o' {
+        Some(Ask::Old)
+    } else if byte == b'n' {
+        Some(Ask::New)
+    } else if byte == b'c' {
+        Some(Ask::Chosen)
+    } else {
+        None
+    }
+}
+
+/// Returns whether a record's bytes go together: a tree has the path, and the version that is asked for is there.
+fn is_sound(row: &Record<'_>) -> bool
+    ensures { result ≡ is_sound row.now.ask row.now.is_old row.now.is_new
+        row.now.is_second }
+{
+    match row.ask {
+        Ask::Keep => !row.is_second & (row.is_old | row.is_new),
+        Ask::Old => row.is_old,
+        Ask::New => row.is_new,
+        Ask::Nothing | Ask::Chosen => row.is_old | row.is_new,
+    }
+}
+
+/// Returns the record that `bytes` are, if they are one.
+pub(crate) fn record_of<'a>(bytes: &'a [u8]) -> Option<Record<'a>>
+    ensures { option_map seen_record result ≡ record_of bytes.now }
+{
+    if bytes.len() < 4 {
+        return None;
+    }
+    let is_old = is_there(bytes[0], b'o')?;
+    let is_new = is_there(bytes[1], b'n')?;
+    let ask = ask_of(bytes[2])?;
+    let is_second = is_second(bytes[3])?;
+    let record = Record {
+        path: &bytes[4..],
+        is_old,
+        is_new,
+        ask,
+        is_second,
+    };
+    if is_sound(&record) {
+        Some(record)
+    } else {
+        None
+    }
+}
+
+/// The version of the old tree, as a number of contents.
+const OLD: usize = 0;
+
+/// The version of the new tree.
+const NEW: usize = 1;
+
+/// A version that is chosen.
+const CHOSEN: usize = 2;
+
+/// Returns the version with this number.
+fn version_of(contents: usize) -> Version
+    ensures { result ≡ version_of contents }
+{
+    Version { mode: 0, contents }
+}
+
+/// Returns the version of a path that the old tree has.
+pub(crate) fn old_version() -> Version
+    ensures { result ≡ version_of 0 }
+{
+    version_of(OLD)
+}
+
+/// Returns the version of a path that the new tree has.
+pub(crate) fn new_version() -> Version
+    ensures { result ≡ version_of 1 }
+{
+    version_of(NEW)
+}
+
+/// Returns the version that marks ask for.
+pub(crate) fn asked_version(ask: Ask) -> Option<Version>
+    ensures { result ≡ wanted_by ask }
+{
+    match ask {
+        Ask::Keep | Ask::Nothing => None,
+        Ask::Old => Some(version_of(OLD)),
+        Ask::New => Some(version_of(NEW)),
+        Ask::Chosen => Some(version_of(CHOSEN)),
+    }
+}

@@ -1,6 +1,0 @@
-use Rattle.std.proofs.Common.{◌≡◌, ◌++◌, take}
-use Rattle.scm_tree_records.specs.Answers.{refusals_answer}
-use Rattle.scm_tree_records.proofs.answer.add_refusals.Given as goal
-
-abbrev pub invariant-loop-i : goal.invariant-loop-i
-invariant-loop-i l = l.answer.items ≡ l.initial.answer.items ++ refusals_answer l.rows (take l.i l.refused)
