@@ -4,3 +4,5 @@ pub mod Beside
 pub mod RawBoxes
 -- a session's pointer
 pub mod SessionPtrs
+-- the codes of calls of a pager
+pub mod PagerLemmas

@@ -1,5 +1,5 @@
 -- What calls tell of a pager.
-use Rattle.std.specs.Prelude.{◌≡◌, ℕ, min, List, [], length, Option, Some, None, ⊥, slice_get}
+use Rattle.std.specs.Prelude.{◌≡◌, ℕ, min, List, [], length, Option, Some, None, slice_get}
 use Rattle.scm_types.specs.declared.file.File.{File}
 use Rattle.scm_types.specs.declared.state.RecordState.{RecordState}
 use Rattle.scm_terminal.specs.Promise.{Paints}

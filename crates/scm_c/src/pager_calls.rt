@@ -83,6 +83,23 @@ pub extern "C" fn gabro_pager_open(
     code
 }
 
+/// Returns `pager` over `file` after `bytes`, which a terminal of `width` columns and `height` rows sent before a
+/// silence. Returns `None` if an allocation failed.
+fn typed_pager(
+    alloc: Global,
+    pager: Pager,
+    file: &File<'_>,
+    bytes: &[u8],
+    width: u16,
+    height: u16,
+) -> Option<Pager>
+    ensures { IfSome result
+        (λ next. IsTyped pager file.now bytes.now (most width) (most height) next) }
+{
+    let next = hear(alloc, pager, file, bytes, most(width), most(height)).ok()?;
+    Some(next)
+}
+
 /// Hands `bytes`, which a terminal of `width` columns and `height` rows sent before a silence, to `pager`.
 /// Returns the code of the call.
 fn type_in_pager(
@@ -101,12 +118,12 @@ fn type_in_pager(
     ensures kept { 0 < result → pager.new ≡ pager.old }
 {
     match file_of(session, pager.file) {
-        Ok(file) => match hear(alloc, *pager, file, bytes, most(width), most(height)) {
-            Ok(next) => {
+        Ok(file) => match typed_pager(alloc, *pager, file, bytes, width, height) {
+            Some(next) => {
                 *pager = next;
                 DONE
             }
-            Err(_) => NO_MEMORY,
+            None => NO_MEMORY,
         },
         Err(code) => code,
     }
@@ -150,7 +167,8 @@ fn page_update(
         (λ update. ShowsPage pager file.now width height (string_bytes update)) }
 {
     let bytes = paint(alloc, pager, file, most(width), most(height)).ok()?;
-    update_of(alloc, &bytes)
+    let update = update_of(alloc, &bytes)?;
+    Some(update)
 }
 
 /// Writes to `out` the update that makes a terminal of `width` columns and `height` rows show `pager`, clipped
