@@ -11,6 +11,7 @@ mod EachLemmas
 mod PaintedLemmas
 -- What lies over documents.
 mod OverlaidLemmas
+mod OverCountLemmas
 -- Screens of two commits, computed from the definitions.
 mod Computing
 mod TwoCommits

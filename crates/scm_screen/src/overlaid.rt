@@ -6,10 +6,10 @@ ghost use Rattle.scm_layout.specs.Layouts.{layout_of};
 ghost use Rattle.scm_overlay.specs.Overlays.{overlays};
 ghost use Rattle.scm_strips.specs.Painted.{IsSized};
 ghost use Rattle.scm_types.specs.Limits.{is_accepted_state, max_scroll};
-ghost use Rattle.scm_view.specs.Window.{window};
+ghost use Rattle.scm_view.specs.Window.{IsFew, window};
 ghost use Rattle.scm_widgets.specs.Layers.{shown_by};
 ghost use Rattle.scm_screen.specs.DocumentRows.{each_row};
-ghost use Rattle.scm_screen.specs.Overlaid.{HasOverlays};
+ghost use Rattle.scm_screen.specs.Overlaid.{AreFewOver, HasOverlays};
 
 use crate::paint::paint_document;
 use scm_cells::{Grid, Rect};
@@ -40,6 +40,7 @@ fn paint_overlays(
     ensures ok { OnOk result (grid.new.rows ≡ each_row (shown_by (overlays grid.old.width
         (length grid.old.rows) scroll shown.now.open_menu shown.now.quit_dialog
         shown.now.is_help_open)) scroll grid.old.rows) }
+    ensures few { OnOk result (AreFewOver grid.old.counts grid.new.counts) }
     ensures size { IsSized grid.old grid.new }
     ensures err { IfErr result (λ e. e ≡ OutOfMemory) }
 {
@@ -58,6 +59,8 @@ fn paint_overlays(
 
 /// Clears `grid` and paints the window of `shown` inline, whose first row shows row `scroll` of the document.
 /// `layout` is that of the state and its unfolded keys. `view` has the menu bar and the dialogs, and no document.
+///
+/// Counts at most one row more than `grid` has, and few draw calls, however long the document is.
 ///
 /// # Errors
 /// `OutOfMemory`: an allocation failed; the grid keeps its size.
@@ -78,6 +81,7 @@ pub fn paint_window(
     requires scroll { scroll ≤ max_scroll }
     ensures ok { OnOk result (grid.new.rows
         ≡ window grid.old.width (length grid.old.rows) scroll shown.now) }
+    ensures few { OnOk result (IsFew (length grid.old.rows) grid.new.counts) }
     ensures size { IsSized grid.old grid.new }
     ensures err { IfErr result (λ e. e ≡ OutOfMemory) }
 {

@@ -8,6 +8,7 @@ use Rattle.scm_view.specs.Window.{inline_document}
 use Rattle.scm_widgets.specs.Blanks.{blank_row}
 use Rattle.scm_widgets.specs.Layers.{shown_by}
 use Rattle.scm_screen.specs.DocumentRows.{each_row, painted_rows}
+use Rattle.scm_screen.proofs.OverCountLemmas.{window-few}
 use Rattle.scm_screen.proofs.InlineLemmas.{inline-rows}
 use Rattle.scm_screen.proofs.PaintedLemmas.{windows-painted}
 use Rattle.scm_screen.proofs.overlaid.paint_window.Goals as goal
@@ -31,3 +32,12 @@ returns-clause-ok c =
     ∙ sym (windows-painted w h z s c.requires.inline)
     ∙ inline-rows w h z s c.requires.inline c.requires.wide)
     c.paint_overlays.ensures.ok
+
+pub returns-clause-few : goal.returns-clause-few
+returns-clause-few c =
+    let h = length c.args.grid.now.rows in
+    let none = ap (λ (g : Screen). g.counts) c.clear.ensures in
+    let tall : length c.clear.new.self.rows ≡ h = ap (λ (g : Screen). length g.rows) c.clear.ensures ∙ length-replicate h (blank_row c.args.grid.now.width) in
+    on-ok c.paint_overlays.result
+    (λ p. window-few h (length c.clear.new.self.rows) c.clear.new.self.counts c.paint_document.new.grid.counts _ tall none c.in_ok-paint_document.ensures.few p)
+    c.paint_overlays.ensures.few
