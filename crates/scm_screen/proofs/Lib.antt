@@ -9,6 +9,8 @@ pub mod MessageLemmas
 -- Rows of the screen, each painted by its number.
 mod EachLemmas
 mod PaintedLemmas
+-- The first row of the screen, which the menu bar hides.
+mod FirstRowLemmas
 -- What lies over documents.
 mod OverlaidLemmas
 mod OverCountLemmas

@@ -1,5 +1,5 @@
 -- The menu bar and the dialogs take few draw calls.
-use Rattle.std.proofs.Common.{◌≡◌, ℕ, zero, suc, ◌+◌, ◌≤◌, Bool, true, false, List, [], take, refl, ap, ◌∙◌, arith, Option, Some, None}
+use Rattle.std.proofs.Common.{◌≡◌, ℕ, zero, suc, ◌-◌, ◌≤◌, Bool, true, false, List, [], take, refl, ap, ◌∙◌, arith, Option, Some, None}
 use Rattle.std.specs.Prelude.{ℤ, pos}
 use Rattle.scm_cells.specs.Counts.{Counts, no_counts, added}
 use Rattle.scm_render.specs.Canvas.{Sight}
@@ -68,9 +68,9 @@ over-counted s a t before after last o k e =
     let calls = raised_by-most (app_counts a t (pos 0)).calls before.calls in
     rw (k, e) (record { begun = omega (arith, rows, most.0); calls = omega (arith, calls, most.1) })
 
--- a cleared screen counts few rows and calls after a document was painted, and what lies over it
-pub window-few : (h n : ℕ) (blank under over : Counts) → n ≡ h → blank ≡ no_counts → AreFew (n + 1) blank under → AreFewOver under over → IsFew h over
-window-few h n blank under over tall none p q =
+-- a cleared screen counts few rows and calls after the document was painted below its first row, and what lies over it
+pub window-few : (h n : ℕ) (blank under top over : Counts) → n ≡ h → blank ≡ no_counts → AreFew (n - 1) blank under → AreFew 1 under top → AreFewOver top over → IsFew h over
+window-few h n blank under top over tall none p q r =
     let rows = ap (λ (c : Counts). c.rows) none in
     let calls = ap (λ (c : Counts). c.calls) none in
-    record { rows = omega (arith, tall, rows, p.begun, q.begun); calls = omega (arith, tall, calls, p.calls, q.calls) }
+    record { rows = omega (arith, tall, rows, p.begun, q.begun, r.begun); calls = omega (arith, tall, calls, p.calls, q.calls, r.calls) }

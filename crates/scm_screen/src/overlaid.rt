@@ -11,7 +11,7 @@ ghost use Rattle.scm_widgets.specs.Layers.{shown_by};
 ghost use Rattle.scm_screen.specs.DocumentRows.{each_row};
 ghost use Rattle.scm_screen.specs.Overlaid.{AreFewOver, HasOverlays};
 
-use crate::paint::paint_document;
+use crate::paint::{paint_shown, paint_top};
 use scm_cells::{Grid, Rect};
 use scm_layout::Layout;
 use scm_render::{Component, Viewport};
@@ -90,6 +90,8 @@ pub fn paint_window(
         left: 0,
         width: grid.width(),
     };
-    paint_document(alloc, grid, area, shown, layout, scroll)?;
+    // the menu bar hides what the document shows on the first row
+    paint_shown(alloc, grid, area, shown, layout, scroll, 1)?;
+    paint_top(alloc, grid, area, shown, layout, scroll)?;
     paint_overlays(alloc, grid, shown, view, scroll)
 }

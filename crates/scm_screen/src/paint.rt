@@ -1,5 +1,5 @@
 //! The painting of a document: its rows on a screen, and what lies over them.
-ghost use Rattle.std.specs.Prelude.{◌≡◌, ℕ, [], ◌+◌, ◌<◌, ◌≤◌, ◌^◌, ◌==◌, true, length, option_map, slice_index_or, slice_set, if◌then◌else◌, None, OnOk, IfErr, IsTrue};
+ghost use Rattle.std.specs.Prelude.{◌≡◌, ℕ, [], ◌+◌, ◌-◌, ◌<◌, ◌≤◌, ◌^◌, ◌==◌, ◌++◌, true, drop, length, option_map, slice_index_or, slice_set, take, if◌then◌else◌, None, OnOk, IfErr, IsTrue};
 ghost use Rattle.scm_errors.specs.declared.error.RecordError.TheVariants.{OutOfMemory};
 ghost use Rattle.scm_layout.specs.Layouts.{layout_of};
 ghost use Rattle.scm_render.specs.Canvas.{Row};
@@ -70,28 +70,34 @@ fn paint_over(
     }
 }
 
-/// Paints what each row of the document shows, without what lies over it.
+/// Paints what each row of the document shows, without what lies over it. Leaves the rows of `grid` before row
+/// `first` as they are.
 #[tactic(auto, using(scm_types::proofs::LimitLemmas::scroll_room))]
-fn paint_shown(
+pub(crate) fn paint_shown(
     alloc: Global,
     grid: &mut Grid,
     area: Area,
     shown: &ViewState<'_>,
     layout: &Layout,
     scroll: usize,
+    first: usize,
 ) -> Result<(), RecordError>
     requires area { area.left + area.width ≤ grid.old.width }
     requires accepted { IsTrue (is_accepted_state shown.now.state) }
     requires layout { layout.now ≡ layout_of shown.now.state shown.now.expanded }
     requires scroll { scroll ≤ max_scroll }
-    ensures ok { OnOk result (grid.new.rows ≡ each_row (λ (z : ℕ) (line : Row). with_shown area
-        (row_shown (inline_document shown.now) z) line) scroll grid.old.rows) }
-    ensures few { OnOk result (AreFew (length grid.old.rows) grid.old.counts grid.new.counts) }
+    requires first { first ≤ length grid.old.rows }
+    ensures ok { OnOk result (grid.new.rows ≡ take first grid.old.rows
+        ++ each_row (λ (z : ℕ) (line : Row). with_shown area
+        (row_shown (inline_document shown.now) z) line) (scroll + first)
+        (drop first grid.old.rows)) }
+    ensures few { OnOk result
+        (AreFew (length grid.old.rows - first) grid.old.counts grid.new.counts) }
     ensures size { IsSized grid.old grid.new }
     ensures err { IfErr result (λ e. e ≡ OutOfMemory) }
 {
     let height = grid.height();
-    for row in 0..height {
+    for row in first..height {
         let what = document_row(&*shown, layout, scroll + row);
         paint_some(alloc, grid, row, area, &what)?;
     }
@@ -100,7 +106,7 @@ fn paint_shown(
 
 /// Paints what lies over the document: the empty-state text if there are no files, else the pinned header.
 #[tactic(auto, using(scm_types::proofs::LimitLemmas::scroll_room))]
-fn paint_top(
+pub(crate) fn paint_top(
     alloc: Global,
     grid: &mut Grid,
     area: Area,
@@ -155,6 +161,6 @@ pub fn paint_document(
     ensures size { IsSized grid.old grid.new }
     ensures err { IfErr result (λ e. e ≡ OutOfMemory) }
 {
-    paint_shown(alloc, grid, area, shown, layout, scroll)?;
+    paint_shown(alloc, grid, area, shown, layout, scroll, 0)?;
     paint_top(alloc, grid, area, shown, layout, scroll)
 }

@@ -1,4 +1,4 @@
-use Rattle.std.proofs.Common.{◌≡◌, ◌+◌, ◌++◌, ℕ, take, drop}
+use Rattle.std.proofs.Common.{◌≡◌, ◌+◌, ◌-◌, ◌≤◌, ◌++◌, ℕ, take, drop}
 use Rattle.scm_render.specs.Canvas.{Row}
 use Rattle.scm_strips.specs.Painted.{IsSized}
 use Rattle.scm_view.specs.Window.{inline_document}
@@ -11,6 +11,7 @@ invariant-loop-row l =
     let paint = λ (z : ℕ) (line : Row). with_shown l.area (row_shown (inline_document l.shown) z) line in
     record {
       size : IsSized l.fn.grid l.grid;
-      rows : take l.row l.grid.rows ++ each_row paint (l.scroll + l.row) (drop l.row l.grid.rows) ≡ each_row paint l.scroll l.fn.grid.rows;
-      few : AreFew l.row l.fn.grid.counts l.grid.counts;
+      rows : take l.row l.grid.rows ++ each_row paint (l.scroll + l.row) (drop l.row l.grid.rows) ≡ take l.first l.fn.grid.rows ++ each_row paint (l.scroll + l.first) (drop l.first l.fn.grid.rows);
+      begun : l.first ≤ l.row;
+      few : AreFew (l.row - l.first) l.fn.grid.counts l.grid.counts;
     }
