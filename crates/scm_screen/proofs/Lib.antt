@@ -11,6 +11,8 @@ mod EachLemmas
 mod PaintedLemmas
 -- The first row of the screen, which the menu bar hides.
 mod FirstRowLemmas
+-- The row that a pinned header hides.
+mod HeaderHidesLemmas
 -- What lies over documents.
 mod OverlaidLemmas
 mod OverCountLemmas

@@ -68,9 +68,9 @@ over-counted s a t before after last o k e =
     let calls = raised_by-most (app_counts a t (pos 0)).calls before.calls in
     rw (k, e) (record { begun = omega (arith, rows, most.0); calls = omega (arith, calls, most.1) })
 
--- a cleared screen counts few rows and calls after the document was painted below its first row, and what lies over it
-pub window-few : (h n : ℕ) (blank under top over : Counts) → n ≡ h → blank ≡ no_counts → AreFew (n - 1) blank under → AreFew 1 under top → AreFewOver top over → IsFew h over
-window-few h n blank under top over tall none p q r =
+-- a cleared screen counts few rows and calls after the document was painted from row `first` of it on, and what lies over it
+pub window-few : (h first n : ℕ) (blank under top over : Counts) → n ≡ h → blank ≡ no_counts → AreFew (n - first) blank under → AreFew 1 under top → AreFewOver top over → IsFew h over
+window-few h first n blank under top over tall none p q r =
     let rows = ap (λ (c : Counts). c.rows) none in
     let calls = ap (λ (c : Counts). c.calls) none in
     record { rows = omega (arith, tall, rows, p.begun, q.begun, r.begun); calls = omega (arith, tall, calls, p.calls, q.calls, r.calls) }

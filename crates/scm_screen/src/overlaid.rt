@@ -1,16 +1,17 @@
 //! The painting of a window: a document, and over it the menu bar and the open dialogs.
-ghost use Rattle.std.specs.Prelude.{◌≡◌, ◌≤◌, length, OnOk, IfErr, IsTrue};
+ghost use Rattle.std.specs.Prelude.{◌≡◌, ◌+◌, ◌≤◌, is_some, if◌then◌else◌, length, OnOk, IfErr, IsTrue};
 ghost use Rattle.scm_document.specs.declared.commit_view.CommitViewMode.TheVariants.{Inline};
 ghost use Rattle.scm_errors.specs.declared.error.RecordError.TheVariants.{OutOfMemory};
 ghost use Rattle.scm_layout.specs.Layouts.{layout_of};
 ghost use Rattle.scm_overlay.specs.Overlays.{overlays};
 ghost use Rattle.scm_strips.specs.Painted.{IsSized};
 ghost use Rattle.scm_types.specs.Limits.{is_accepted_state, max_scroll};
-ghost use Rattle.scm_view.specs.Window.{IsFew, window};
+ghost use Rattle.scm_view.specs.Window.{IsFew, inline_document, window};
 ghost use Rattle.scm_widgets.specs.Layers.{shown_by};
-ghost use Rattle.scm_screen.specs.DocumentRows.{each_row};
+ghost use Rattle.scm_screen.specs.DocumentRows.{each_row, pinned_on};
 ghost use Rattle.scm_screen.specs.Overlaid.{AreFewOver, HasOverlays};
 
+use crate::document_rows::pinned_header;
 use crate::paint::{paint_shown, paint_top};
 use scm_cells::{Grid, Rect};
 use scm_layout::Layout;
@@ -57,6 +58,22 @@ fn paint_overlays(
     outcome
 }
 
+/// Returns the first row of the screen on which nothing hides a row of the document: the row below the menu bar, or
+/// the row below a pinned header. The first row of the screen shows row `scroll` of the document.
+#[tactic(auto, using(scm_types::proofs::LimitLemmas::scroll_room))]
+fn first_row(shown: &ViewState<'_>, layout: &Layout, scroll: usize) -> usize
+    requires accepted { IsTrue (is_accepted_state shown.now.state) }
+    requires layout { layout.now ≡ layout_of shown.now.state shown.now.expanded }
+    requires scroll { scroll ≤ max_scroll }
+    ensures { result ≡ (if is_some (pinned_on (inline_document shown.now) (scroll + 1))
+        then 2 else 1) }
+{
+    match pinned_header(shown, layout, scroll + 1) {
+        None => 1,
+        Some(_) => 2,
+    }
+}
+
 /// Clears `grid` and paints the window of `shown` inline, whose first row shows row `scroll` of the document.
 /// `layout` is that of the state and its unfolded keys. `view` has the menu bar and the dialogs, and no document.
 ///
@@ -90,8 +107,8 @@ pub fn paint_window(
         left: 0,
         width: grid.width(),
     };
-    // the menu bar hides what the document shows on the first row
-    paint_shown(alloc, grid, area, shown, layout, scroll, 1)?;
+    let first = first_row(shown, layout, scroll);
+    paint_shown(alloc, grid, area, shown, layout, scroll, first)?;
     paint_top(alloc, grid, area, shown, layout, scroll)?;
     paint_overlays(alloc, grid, shown, view, scroll)
 }
