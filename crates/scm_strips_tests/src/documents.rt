@@ -105,6 +105,9 @@ const BARE: &[Row] = &[
 const WINDOW: &str =
     "\"[File] [Edit] [Select] [\"\n\"[◐] f                [-]\"\n\"    (●) + new⏎          \"\n\"    [ ] - old⏎          \"\n\"  [●] File deleted      \"\n";
 
+/// The rows and draw calls that it counts: a pinned header and three rows, and the menu bar.
+const COUNTS: (usize, usize) = (4, 15);
+
 /// Returns a file with a section of each kind.
 fn file(alloc: Global) -> Result<File<'static>, RecordError> {
     let mut sections = Vec::new(alloc);
@@ -273,5 +276,6 @@ fn windows_are_painted(rt: HostRuntime) -> Result<(), RecordError> {
     paint_window(rt.alloc(), &mut grid, &shown, &layout, &view, 8)?;
     let text = grid.view()?;
     check_equal(&rt, text.as_str(), WINDOW);
+    check_equal(&rt, (grid.rows_drawn(), grid.calls()), COUNTS);
     Ok(())
 }
