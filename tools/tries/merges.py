@@ -374,10 +374,10 @@ def a_thousand_conflicts(place):
 
 
 def left_by_the_user(place):
-    """`q` leaves the file as it is, and so does a signal. It asks first, since the removal of the base's lines is marked."""
+    """`q` leaves the file as it is: at once if no mark was changed, and else after a question. So does a signal."""
     paths = files_of(place)
-    status, said = type_into(place, ["q", "enter"], [NAME, *paths])
-    is_left = status == 1 and said.endswith(NAME + ": cancelled by user\n")
+    ends = [type_into(place, words, [NAME, *paths]) for words in (["q"], ["space", "q", "enter"])]
+    is_left = all(status == 1 and said.endswith(NAME + ": cancelled by user\n") for status, said in ends)
     with shown(place, [NAME, *paths]) as typed:
         typed.press("space")
         os.kill(typed.process, 15)
