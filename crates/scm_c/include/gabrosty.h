@@ -737,7 +737,8 @@ GABRO_USE_CODE uint32_t gabro_pager_open(const gabro_session *session, size_t fi
 
 /* Hands what a terminal of `width` columns and `height` rows sent, `length` bytes, to `pager`. The last row of the terminal is the
  * status row; of a larger terminal GABRO_MAX_COLUMNS and GABRO_MAX_ROWS count. Nothing more was sent for a while behind the bytes: so an
- * ESC at their end is a key of its own. What comes after the key that closes the pager is dropped.
+ * ESC at their end is a key of its own. Pasted text does nothing if both marks around it are among the bytes: hand in a paste as a whole,
+ * or not at all. What comes after the key that closes the pager is dropped.
  *
  * May also return GABRO_NO_MEMORY. */
 GABRO_USE_CODE uint32_t gabro_pager_type(const gabro_session *session, gabro_pager *pager, const char *bytes, size_t length,

@@ -34,9 +34,12 @@ static const char CLEAR[] = "\x1b[0m\x1b[2J";
 /* Is written where nothing has changed: so who types into the program sees that it was heard. */
 static const char NO_CHANGE[] = "\x1b[?2026h\x1b[?2026l";
 
-enum { TAB = 9, CONTROL_L = 12, CONTROL_Z = 26, ESC = 27, SILENCE = 50 /* milliseconds */, MOST_WAITS = 20 /* silences */ };
+enum { CONTROL_C = 3, TAB = 9, CONTROL_L = 12, CONTROL_Z = 26, ESC = 27, SILENCE = 50 /* milliseconds */, MOST_WAITS = 20 /* silences */ };
 /* No key of a terminal has as many bytes. */
 enum { MOST_OF_A_KEY = 64 };
+/* The marks around what is pasted. */
+static const char PASTE[] = "\x1b[200~", END_OF_PASTE[] = "\x1b[201~";
+enum { MARK = sizeof PASTE - 1 };
 
 typedef struct run {
     gabro_session *session;
@@ -49,6 +52,8 @@ typedef struct run {
     text frame;
     gabro_pager pager; /* what accepting gives, while that is shown */
     text held;         /* what was typed into the pager and is not handed in yet */
+    bool is_pasting;   /* a paste into the pager goes on, also once that is closed */
+    size_t matched;    /* how many bytes of the mark at its end have come */
     int error; /* an errno that ends the run, or 0 */
 } run;
 
@@ -582,11 +587,38 @@ static void hand_to_pager(run *run) {
     }
 }
 
+/* Returns how many of the bytes that were typed belong to a paste into the pager: pasted text does nothing, however it is cut. A ctrl-c that
+ * comes alone ends a paste whose end is lost. */
+static size_t pass_over_paste(run *run, const char *bytes, size_t count) {
+    size_t passed = 0;
+    if (count == 1 && bytes[0] == CONTROL_C) {
+        run->is_pasting = false;
+    }
+    for (; run->is_pasting && passed < count; passed++) {
+        run->matched = bytes[passed] == END_OF_PASTE[run->matched] ? run->matched + 1 : bytes[passed] == ESC;
+        run->is_pasting = run->matched < MARK;
+    }
+    return passed;
+}
+
+/* Holds a byte that was typed into the pager. If it ends the mark at the beginning of a paste, the paste begins. There is room for it. */
+static void hold(run *run, char byte) {
+    run->held.bytes[run->held.length] = byte;
+    end_at(&run->held, run->held.length + 1);
+    size_t length = run->held.length;
+    if (length >= MARK && memcmp(run->held.bytes + length - MARK, PASTE, MARK) == 0) {
+        end_at(&run->held, length - MARK);
+        run->is_pasting = true;
+        run->matched = 0;
+    }
+}
+
 /* Holds what was typed into the pager, and hands it in unless it may go on as one key. If memory for that fails, it is dropped. */
 static void hear_in_pager(run *run, const char *bytes, size_t count) {
-    if (make_room(&run->held, run->held.length + count)) {
-        memcpy(run->held.bytes + run->held.length, bytes, count);
-        end_at(&run->held, run->held.length + count);
+    bool has_room = make_room(&run->held, run->held.length + count);
+    for (size_t at = 0; has_room && at < count;) {
+        hold(run, bytes[at++]);
+        at += pass_over_paste(run, bytes + at, count - at);
     }
     if (!may_go_on(&run->held)) {
         hand_to_pager(run);
@@ -624,7 +656,7 @@ static size_t hear_to_key(run *run, const char *bytes, size_t count) {
 /* Hands in what was typed, in order. What comes after the key that opens the editor, or ends the session, is dropped. What comes after the
  * one that opens the pager is for that. */
 static void hear(run *run, const char *bytes, size_t count) {
-    size_t heard = 0;
+    size_t heard = pass_over_paste(run, bytes, count);
     while (heard < count && !run->pager.is_open && gabro_stage(run->session) == GABRO_WAITING) {
         heard += hear_to_key(run, bytes + heard, count - heard);
     }
