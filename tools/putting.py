@@ -4,7 +4,7 @@ import os
 import stat
 import sys
 
-sys.path.insert(1, os.path.join(os.path.dirname(os.path.realpath(__file__)), os.pardir, "examples"))
+sys.path.insert(1, os.path.join(os.path.dirname(os.path.realpath(__file__)), os.pardir, "programs"))
 from choosing.folders import IS_FOLDER, IS_PLAIN, closing, identity_of, read_whole, remove_below  # noqa: E402
 from choosing.named import Named, find  # noqa: E402
 from choosing.words import Stop, shown, words_of  # noqa: E402

@@ -2,7 +2,7 @@
 //!
 //! The library is `libgabrosty.a`, or `libscm_c.a` as a clone builds it, and beside it is `liblibc_c.a`, which asks the C library for
 //! memory. They are in the folder `GABROSTY_LIB_DIR`; or where pkg-config finds `gabrosty`, which `tools/install` of the repository
-//! installs; or in a folder above this crate: of an installation, or of a clone in which `tools/build-c` has built them.
+//! installs; or in a folder above this crate: of an installation, or of a clone in which `tools/build` has built them.
 use std::env;
 use std::os::unix::fs::MetadataExt;
 use std::path::{Path, PathBuf};
@@ -20,7 +20,7 @@ the library by itself. For a crate elsewhere, set GABROSTY_LIB_DIR to the folder
 
 Without an archive, one of these commands makes the library, in a clone of Gabrosty:
 
-    tools/build-c            builds it for a crate in that clone
+    tools/build            builds it for a crate in that clone
     tools/install ~/.local   installs it: then set PKG_CONFIG_PATH to ~/.local/lib/pkgconfig, or GABROSTY_LIB_DIR to ~/.local/lib
 
 To check or document the crate without the library, set GABROSTY_LIB_DIR to no text.";

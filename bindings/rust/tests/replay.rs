@@ -1,6 +1,6 @@
 //! Scripts of the program, replayed by runs of the crate. What the program prints has to come out.
 //!
-//! The scripts are the files of `examples` of the repository, and of the folders in it, that have a `.stdout` beside them. With
+//! The scripts are the files of `examples/scripts` of the repository, and of the folders in it, that have a `.stdout` beside them. With
 //! `GABROSTY_CASES` they are those of that folder, and of the folders in it: each `NAME.in` is a script, and the first line of
 //! `NAME.out`, or of `NAME.repaired` if that is there, is the status of the program, before what it prints.
 mod common;
@@ -266,8 +266,8 @@ fn case_of(path: &Path) -> Option<Case> {
 /// Returns the folder with the examples of the repository, if the crate is in it.
 fn examples() -> Option<PathBuf> {
     let mut above = Path::new(env!("CARGO_MANIFEST_DIR")).ancestors();
-    let found = above.find(|folder| folder.join("examples/letter.stdout").exists())?;
-    Some(found.join("examples"))
+    let found = above.find(|folder| folder.join("examples/scripts/letter.stdout").exists())?;
+    Some(found.join("examples/scripts"))
 }
 
 #[test]

@@ -85,6 +85,8 @@ fn key_code(key: KeyEvent) -> u32
         | KeyCode::Right
         | KeyCode::PageUp
         | KeyCode::PageDown
+        | KeyCode::Home
+        | KeyCode::End
         | KeyCode::Enter
         | KeyCode::Esc
         | KeyCode::Other => 0,

@@ -34,5 +34,3 @@ pub mod IndexLemmas
 pub mod PieceLemmas
 pub mod RunLemmas
 pub mod DocumentExtentLemmas
-pub mod LeftOutLemmas
-pub mod SameWindowLemmas

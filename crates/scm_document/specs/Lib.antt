@@ -42,7 +42,5 @@ pub mod SectionPieces
 pub mod ViewPieces
 -- The overlay rectangles of a message's button and of the headers of files.
 pub mod HeaderRects
--- Parts of a list of files: what is left out before a part, and the rows that it lacks.
-pub mod DocumentParts
 -- Texts that are cut behind the last column in sight.
 pub mod Visible

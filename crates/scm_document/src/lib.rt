@@ -24,6 +24,6 @@ pub mod section_pieces;
 mod section_rows;
 mod section_view;
 mod section_walk;
-mod texts;
+pub mod texts;
 mod title;
 mod widths;

@@ -7,11 +7,10 @@ use scm_types::{ChangeType, FileMode, Text};
 use std::alloc::{AllocError, Global};
 
 /// Returns `path`, after `old_path` and an arrow if the file was renamed.
-pub(crate) fn path_text(
-    alloc: Global,
-    old_path: Option<&str>,
-    path: &str,
-) -> Result<String, AllocError>
+///
+/// # Errors
+/// `AllocError`: an allocation failed.
+pub fn path_text(alloc: Global, old_path: Option<&str>, path: &str) -> Result<String, AllocError>
     ensures ok { IfOk result (λ s. string_bytes s ≡ path_text (lent_text old_path.entry) path.now) }
 {
     let text = match old_path {
@@ -22,14 +21,20 @@ pub(crate) fn path_text(
 }
 
 /// Returns the title of a section: its number among the editable sections, and their total.
-pub(crate) fn section_text(alloc: Global, number: usize, total: usize) -> Result<String, AllocError>
+///
+/// # Errors
+/// `AllocError`: an allocation failed.
+pub fn section_text(alloc: Global, number: usize, total: usize) -> Result<String, AllocError>
     ensures ok { IfOk result (λ s. string_bytes s ≡ section_text number total) }
 {
     Ok(format!(in alloc; "Section {number}/{total}")?)
 }
 
 /// Returns the text of a change of file mode.
-pub(crate) fn mode_change_text(alloc: Global, mode: FileMode) -> Result<String, AllocError>
+///
+/// # Errors
+/// `AllocError`: an allocation failed.
+pub fn mode_change_text(alloc: Global, mode: FileMode) -> Result<String, AllocError>
     ensures ok { IfOk result (λ s. string_bytes s ≡ mode_change_text mode) }
 {
     let text = match mode {
@@ -40,7 +45,10 @@ pub(crate) fn mode_change_text(alloc: Global, mode: FileMode) -> Result<String, 
 }
 
 /// Returns the text of a change of binary contents.
-pub(crate) fn binary_text(
+///
+/// # Errors
+/// `AllocError`: an allocation failed.
+pub fn binary_text(
     alloc: Global,
     old_description: &Option<Text<'_>>,
     new_description: &Option<Text<'_>>,
@@ -62,7 +70,7 @@ pub(crate) fn binary_text(
 }
 
 /// Returns the sign of a changed line.
-pub(crate) fn sign_text(change_type: ChangeType) -> &'static str
+pub fn sign_text(change_type: ChangeType) -> &'static str
     ensures { result.now ≡ sign_text change_type }
 {
     match change_type {
@@ -72,14 +80,17 @@ pub(crate) fn sign_text(change_type: ChangeType) -> &'static str
 }
 
 /// Returns a line number, right-aligned in five columns, and a space.
-pub(crate) fn number_text(alloc: Global, number: usize) -> Result<String, AllocError>
+///
+/// # Errors
+/// `AllocError`: an allocation failed.
+pub fn number_text(alloc: Global, number: usize) -> Result<String, AllocError>
     ensures ok { IfOk result (λ s. string_bytes s ≡ number_text number) }
 {
     Ok(format!(in alloc; "{number:>5} ")?)
 }
 
 /// Returns the text of the row of dots.
-pub(crate) fn dots_text(use_unicode: bool) -> &'static str
+pub fn dots_text(use_unicode: bool) -> &'static str
     ensures { result.now ≡ dots_text use_unicode }
 {
     if use_unicode { "⋮" } else { ":" }
@@ -87,7 +98,7 @@ pub(crate) fn dots_text(use_unicode: bool) -> &'static str
 
 /// Returns the first line of `message` without surrounding white space, or `(no message)`.
 #[tactic(auto, unfolding(crate::specs::Texts::message_text))]
-pub(crate) fn message_text(message: &str) -> &str
+pub fn message_text(message: &str) -> &str
     ensures { result.now ≡ message_text message.now }
 {
     let first = match message.split_once('\n') {
@@ -102,14 +113,14 @@ pub(crate) fn message_text(message: &str) -> &str
 }
 
 /// Returns the bullet between the edit button and the message.
-pub(crate) fn divider_text() -> &'static str
+pub fn divider_text() -> &'static str
     ensures { result.now ≡ divider_text }
 {
     " • "
 }
 
 /// Returns the empty-state text.
-pub(crate) fn no_files_text() -> &'static str
+pub fn no_files_text() -> &'static str
     ensures { result.now ≡ no_files_text }
 {
     "There are no changes to view."

@@ -9,15 +9,16 @@ use Rattle.scm_input.specs.KeyTable.{none, shift, control, char, event_of}
 use Rattle.scm_input.specs.declared.events.Event.TheVariants.{ToggleItem, FocusPrevPage}
 use Rattle.scm_input.specs.declared.terminal.KeyModifiers.{KeyModifiers}
 use Rattle.scm_input.specs.declared.terminal.KeyCode.{KeyCode}
-use Rattle.scm_input.specs.declared.terminal.KeyCode.TheVariants.{Esc}
+use Rattle.scm_input.specs.declared.terminal.KeyCode.TheVariants.{Esc, Home, End}
 use Rattle.scm_input.specs.declared.terminal.KeyEventKind.TheVariants.{Press}
 use Rattle.scm_input.specs.declared.terminal.TerminalEvent.{TerminalEvent}
 use Rattle.scm_input.specs.declared.terminal.TerminalEvent.TheVariants.{Key}
 use Rattle.scm_selection.specs.KeyLists.{file_key, section_key, line_key}
 use Rattle.scm_front_items.specs.declared.items.Way.TheVariants.{Up, Down}
+use Rattle.scm_front_items.specs.declared.places.Place.TheVariants.{First, Last}
 use Rattle.scm_front.specs.declared.asking.Typing.TheVariants.{Add, Erase}
 use Rattle.scm_front.specs.declared.actions.Action.{Action}
-use Rattle.scm_front.specs.declared.actions.Action.TheVariants.{Pass, Edit, Again, Range, Mark, Undo, Redo}
+use Rattle.scm_front.specs.declared.actions.Action.TheVariants.{Pass, Edit, Again, Go, Range, Mark, Undo, Redo, Ignore}
 use Rattle.scm_front.specs.declared.actions.Mode.TheVariants as modes
 use Rattle.scm_front.specs.declared.actions.OwnKey.{OwnKey}
 use Rattle.scm_front.specs.declared.actions.OwnKey.TheVariants as owns
@@ -107,6 +108,18 @@ pressed modifiers code = Key (record { code = code; modifiers = modifiers; kind 
 -- `n` is the layer's, but is typed while a text is asked for, and is the session's while a dialog is open
 again : action_of modes.Free [] (pressed none (char "n")) ≡ Again Down
 again = refl
+
+home : action_of modes.Free [] (pressed none Home) ≡ Go First
+home = refl
+
+end_in_a_range : action_of modes.Ranging [] (pressed none End) ≡ Go Last
+end_in_a_range = refl
+
+control_and_home : action_of modes.Free [] (pressed control Home) ≡ Pass (event_of (pressed control Home))
+control_and_home = refl
+
+asked_home : action_of modes.Asking [] (pressed none Home) ≡ Ignore
+asked_home = refl
 
 -- space toggles in the session, and is typed while a text is asked for
 space : action_of modes.Free [] (pressed none (char " ")) ≡ Pass ToggleItem

@@ -50,7 +50,9 @@ own_keys =
 abbrev pub moving_keys : List ActionRow
 moving_keys =
     by none (char "g") (Go First)
+    ∷ by none key.Home (Go First)
     ∷ by shift (char "G") (Go Last)
+    ∷ by none key.End (Go Last)
     ∷ by none (char "]") (Go (Section Down))
     ∷ by none (char "[") (Go (Section Up))
     ∷ by none (char "}") (Go (File Down))
@@ -90,6 +92,8 @@ adding modifiers key.Left = Ignore
 adding modifiers key.Right = Ignore
 adding modifiers key.PageUp = Ignore
 adding modifiers key.PageDown = Ignore
+adding modifiers key.Home = Ignore
+adding modifiers key.End = Ignore
 adding modifiers key.Enter = Ignore
 adding modifiers key.Esc = Ignore
 adding modifiers key.Other = Ignore

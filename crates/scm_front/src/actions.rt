@@ -211,7 +211,9 @@ fn moving_action(modifiers: KeyModifiers, code: KeyCode, pass: Action) -> Action
 {
     match (modifiers, code) {
         (NONE, KeyCode::Char('g')) => Action::Go(Place::First),
+        (NONE, KeyCode::Home) => Action::Go(Place::First),
         (SHIFT, KeyCode::Char('G')) => Action::Go(Place::Last),
+        (NONE, KeyCode::End) => Action::Go(Place::Last),
         (NONE, KeyCode::Char(']')) => Action::Go(Place::Section(Way::Down)),
         (NONE, KeyCode::Char('[')) => Action::Go(Place::Section(Way::Up)),
         (NONE, KeyCode::Char('}')) => Action::Go(Place::File(Way::Down)),

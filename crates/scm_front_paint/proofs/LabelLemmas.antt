@@ -44,7 +44,7 @@ text-here labels i file section d h is before =
 
 -- ---- a label more
 
-none-found : (p : Label → Bool) (labels : List Label) → position p labels ≡ None → find p labels ≡ None
+pub none-found : (p : Label → Bool) (labels : List Label) → position p labels ≡ None → find p labels ≡ None
 none-found p labels e = find_at p labels ∙ go (nat_lt (position_or_len p labels) (length labels)) refl e
   where
     go : (b : Bool) → nat_lt (position_or_len p labels) (length labels) ≡ b → (if b then Some (position_or_len p labels) else None) ≡ None

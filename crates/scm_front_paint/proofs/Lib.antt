@@ -10,10 +10,17 @@ pub mod BlankLemmas
 pub mod BelowLemmas
 -- both of them on a terminal of any widths
 pub mod AnyWidthLemmas
+-- texts whose clusters are those of two parts, the end of a line, and what a row shows of it
+pub mod ApartLemmas
+pub mod LineEndLemmas
+pub mod PutEndLemmas
 -- what the status row says
 pub mod StatusLemmas
+pub mod StatusEndLemmas
 -- the words that differ in two lines
 pub mod WordsLemmas
+-- columns up to the edge of a window
+pub mod ColumnLemmas
 -- what views do
 pub mod ViewLemmas
 -- what is painted of a view
@@ -22,6 +29,7 @@ pub mod PaintLemmas
 pub mod ShownLemmas
 -- labels of sections
 pub mod LabelLemmas
+pub mod LabelOrderLemmas
 -- headers, and the labels that they show
 pub mod HeaderLemmas
 -- the cells of a view

@@ -7,7 +7,7 @@ use Rattle.scm_diff.specs.Words.{AreSpans, AreSpansFrom}
 use Rattle.scm_diff.specs.declared.words.WordSpan.{WordSpan}
 use Rattle.scm_front_paint.specs.declared.columns.Columns.{Columns}
 use Rattle.scm_front_paint.specs.LineValue.{LineValue}
-use Rattle.scm_record.specs.Frames.{scene_of}
+use Rattle.scm_record.specs.Frames.{columns_of, scene_of}
 use Rattle.scm_record.specs.Live.{Live}
 use Rattle.scm_record.specs.ShownLines.{line_on}
 use Rattle.scm_types.specs.declared.keys.LineKey.{LineKey}
@@ -41,26 +41,26 @@ pair-is l row = go (is_bare l) (line_on l row)
 
 -- a row more
 pub more-rows : (l : Live) (old new : List (Option LineValue)) (x : Option LineValue) (row : ℕ) → new ≡ old ++ x ∷ [] → length old ≡ row
-    → ((k : ℕ) → k < length old → AreColumnsFor (pair_on l k) (columns_in (get_or old k None))) → AreColumnsFor (pair_on l row) (columns_in x)
-    → (k : ℕ) → k < length new → AreColumnsFor (pair_on l k) (columns_in (get_or new k None))
+    → ((k : ℕ) → k < length old → AreColumnsFor (columns_of l.kind) (pair_on l k) (columns_in (get_or old k None))) → AreColumnsFor (columns_of l.kind) (pair_on l row) (columns_in x)
+    → (k : ℕ) → k < length new → AreColumnsFor (columns_of l.kind) (pair_on l k) (columns_in (get_or new k None))
 more-rows l old new x row e many before here k h = elim (cases_lt k (length old)) [
   | inl below ↦
-      subst (λ (o : Option LineValue). AreColumnsFor (pair_on l k) (columns_in o))
+      subst (λ (o : Option LineValue). AreColumnsFor (columns_of l.kind) (pair_on l k) (columns_in o))
       (sym (ap (λ (list : List (Option LineValue)). get_or list k None) e ∙ get_or_append_left old (x ∷ []) None k below)) (before k below)
   | inr past ↦
       let long : length new ≡ length old + 1 = ap (λ (list : List (Option LineValue)). length list) e ∙ length_push old x in
       let is : k ≡ row = omega arith in
-      subst (λ (n : ℕ). AreColumnsFor (pair_on l n) (columns_in (get_or new n None))) (sym is)
-      (subst (λ (o : Option LineValue). AreColumnsFor (pair_on l row) (columns_in o))
+      subst (λ (n : ℕ). AreColumnsFor (columns_of l.kind) (pair_on l n) (columns_in (get_or new n None))) (sym is)
+      (subst (λ (o : Option LineValue). AreColumnsFor (columns_of l.kind) (pair_on l row) (columns_in o))
       (sym (ap (λ (list : List (Option LineValue)). get_or list row None) e ∙ get_or_push old x None row many)) here)
 ]
 
 -- all rows
 pub are-words : (l : Live) (items : List (Option LineValue)) (row : ℕ) → length items ≡ row → row ≡ length (scene_of l.kind l.session).frame.rows
-    → ((k : ℕ) → k < length items → AreColumnsFor (pair_on l k) (columns_in (get_or items k None))) → AreWords l (map columns_in items)
+    → ((k : ℕ) → k < length items → AreColumnsFor (columns_of l.kind) (pair_on l k) (columns_in (get_or items k None))) → AreWords l (map columns_in items)
 are-words l items row many high on = record {
   many = length-map items columns_in ∙ many ∙ high;
   on = λ k h.
       let inside : k < length items = subst (λ (n : ℕ). k < n) (length-map items columns_in) h in
-      subst (λ (columns : List Columns). AreColumnsFor (pair_on l k) columns) (sym (get_or-map columns_in items k None [] inside)) (on k inside);
+      subst (λ (columns : List Columns). AreColumnsFor (columns_of l.kind) (pair_on l k) columns) (sym (get_or-map columns_in items k None [] inside)) (on k inside);
 }

@@ -1,5 +1,5 @@
 -- Labels of sections: texts that the rows of sections show in place of `Section 1/6` or `File mode set to 100644`.
-use Rattle.std.specs.Prelude.{ℕ, ◌-◌, pos, nat_eq, nat_le, nat_lt, ◌==◌, Bool, not, ◌&&◌, ◌||◌, List, [], ◌∷◌, ◌++◌, length, slice_index_or, slice_set, Option, Some, None, is_some, find, position, if◌then◌else◌}
+use Rattle.std.specs.Prelude.{◌≡◌, ℕ, ◌-◌, ◌<◌, pos, nat_eq, nat_le, nat_lt, ◌==◌, Bool, true, not, ◌&&◌, ◌||◌, List, [], ◌∷◌, ◌++◌, length, slice_index_or, slice_set, Option, Some, None, is_some, find, position, if◌then◌else◌}
 use Rattle.std.specs.List.{concat}
 use Rattle.scm_cells.specs.Clusters.{text_width}
 use Rattle.scm_cells.specs.Replaced.{line_pieces}
@@ -30,6 +30,16 @@ put_at (Some index) label labels = slice_set labels index label
 -- the labels with `label` in place of that of the same section, if there is one, or else behind them
 abbrev pub with_label : Label → List Label → List Label
 with_label label labels = put_at (position (is_of label.file label.section) labels) label labels
+
+-- whether a label is of a section before section `section` of file `file`
+abbrev pub is_before : ℕ → ℕ → Label → Bool
+is_before file section label = nat_lt label.file file || (nat_eq label.file file && nat_lt label.section section)
+
+-- each label is of a section before those of the labels behind it
+abbrev pub AreOrdered : List Label → Type 0
+AreOrdered labels =
+    (i j : ℕ) (d : Label) → i < j → j < length labels
+    → is_before (slice_index_or labels j d).file (slice_index_or labels j d).section (slice_index_or labels i d) ≡ true
 
 -- ---- rows
 

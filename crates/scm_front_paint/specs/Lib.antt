@@ -30,6 +30,8 @@ pub mod Seen
 pub mod Views
 -- a range on the screen
 pub mod Range
+-- the end of a line that some columns show
+pub mod LineEnds
 -- the status row: what it says, and what it shows
 pub mod Status
 -- pictures of blanks with a row below, and the commands that make this row blank

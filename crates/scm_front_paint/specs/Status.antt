@@ -1,5 +1,5 @@
 -- The status row below a session: what it says, and what it shows.
-use Rattle.std.specs.Prelude.{ℕ, ◌+◌, ◌-◌, min, nat_le, ◌==◌, ℤ, Bool, true, false, List, [], ◌∷◌, ◌++◌, decimal, codes, slice_get, pos, ◌-ℤ◌, if◌then◌else◌, Option, Some, None}
+use Rattle.std.specs.Prelude.{◌≡◌, ℕ, ◌+◌, ◌-◌, min, nat_le, ◌==◌, ℤ, Bool, true, false, List, [], ◌∷◌, ◌++◌, decimal, codes, slice_get, pos, ◌-ℤ◌, if◌then◌else◌, Option, Some, None}
 use Rattle.std.specs.List.{concat}
 use Rattle.scm_types.specs.declared.file.File.{File}
 use Rattle.scm_types.specs.declared.line.SectionChangedLine.{SectionChangedLine}
@@ -23,6 +23,7 @@ use Rattle.scm_front_paint.specs.declared.status.LeftKind.{LeftKind}
 use Rattle.scm_front_paint.specs.declared.status.LeftKind.TheVariants.{Typed, Said, Item}
 use Rattle.scm_front_paint.specs.declared.status.LeftText.{LeftText}
 use Rattle.scm_front_paint.specs.Capped.{capped}
+use Rattle.scm_front_paint.specs.LineEnds.{ShowsEnd}
 use Rattle.scm_front_paint.specs.Range.{range_text}
 
 -- ---- what it says
@@ -131,6 +132,17 @@ abbrev pub is_item : LeftKind → Bool
 is_item Typed = false
 is_item Said = false
 is_item Item = true
+
+-- a text of this kind shows in `columns` columns what `whole` shows: it is the same, or the end of the selected item, which loses its beginning
+abbrev pub ShowsText : LeftKind → ℕ → List ℕ → List ℕ → Type 0
+ShowsText Typed columns text whole = text ≡ whole
+ShowsText Said columns text whole = text ≡ whole
+ShowsText Item columns text whole = ShowsEnd columns text whole
+
+-- a text on the left shows in `columns` columns what another one shows
+pub record ShowsLeft (columns : ℕ) (l whole : LeftText) : Type 0 where
+  pub kind : l.kind ≡ whole.kind
+  pub text : ShowsText whole.kind columns l.text whole.text
 
 -- the columns that a text on the left has before all else: what is typed or said as many as it is wide, the selected item none
 abbrev pub columns_before : LeftText → ℕ

@@ -1,5 +1,5 @@
 -- Words: the parts in which a removed line and the added line that replaces it differ are set off.
-use Rattle.std.specs.Prelude.{◌≡◌, ◌<◌, ℕ, ◌+◌, ◌-◌, ◌==◌, nat_le, nat_lt, Bool, true, false, ◌&&◌, not, if◌then◌else◌, List, [], length, map, take, slice_get, slice_index_or, sum_by, Option, Some, None, is_some}
+use Rattle.std.specs.Prelude.{◌≡◌, ◌<◌, ℕ, ◌+◌, ◌-◌, min, ◌==◌, nat_le, nat_lt, Bool, true, false, ◌&&◌, not, if◌then◌else◌, List, [], length, map, take, slice_get, slice_index_or, sum_by, Option, Some, None, is_some}
 use Rattle.std.specs.List.{list_any}
 use Rattle.std.specs.Str.{IsCharBoundary}
 use Rattle.scm_types.specs.declared.file.File.{File}
@@ -12,15 +12,14 @@ use Rattle.scm_types.specs.declared.keys.LineKey.{LineKey}
 use Rattle.scm_cells.specs.Clusters.{text_width}
 use Rattle.scm_cells.specs.Replaced.{line_pieces}
 use Rattle.scm_cells.specs.declared.style.Style.{Style}
-use Rattle.scm_diff.specs.Words.{AreSpans}
+use Rattle.scm_diff.specs.Words.{AreFew, AreSpans}
 use Rattle.scm_diff.specs.declared.words.WordSpan.{WordSpan}
 use Rattle.scm_document.specs.declared.commit_view.CommitViewMode.{CommitViewMode}
 use Rattle.scm_document.specs.declared.commit_view.CommitViewMode.TheVariants.{Inline, Adjacent}
-use Rattle.scm_record.specs.Frames.{scene_of}
+use Rattle.scm_record.specs.Frames.{columns_of, scene_of}
 use Rattle.scm_record.specs.Live.{Live}
 use Rattle.scm_record.specs.ShownLines.{line_on}
 use Rattle.scm_front_paint.specs.declared.columns.Columns.{Columns}
-use Rattle.scm_front_paint.specs.Capped.{capped}
 use Rattle.scm_front_paint.specs.Pane.{is_free}
 
 -- ---- pairs of lines
@@ -74,20 +73,20 @@ pair_of_key files key = pair_in_file (slice_get files key.file_idx) key
 
 -- the columns that a text takes on the screen, with its replacements
 abbrev pub shown_width : List ℕ → ℕ
-shown_width text = capped (sum_by text_width (line_pieces text))
+shown_width text = sum_by text_width (line_pieces text)
 
 -- the column of the window at which byte `at` of a line stands: behind the sign of the line, which ends before column 10
 abbrev pub column_of : List ℕ → ℕ → ℕ
-column_of text at = capped (shown_width (take at text) + 10)
+column_of text at = shown_width (take at text) + 10
 
--- the columns of bytes `start..end`
-abbrev pub columns_of_bytes : List ℕ → ℕ → ℕ → Columns
-columns_of_bytes text start end = record { start = column_of text start; end = column_of text end }
+-- the columns of bytes `start..end` in a window that ends before column `edge`: what stands behind the edge ends or begins there
+abbrev pub columns_of_bytes : ℕ → List ℕ → ℕ → ℕ → Columns
+columns_of_bytes edge text start end = record { start = min edge (column_of text start); end = min edge (column_of text end) }
 
--- the columns of a differing part
-abbrev pub columns_of_span : Bool → List ℕ → List ℕ → WordSpan → Columns
-columns_of_span true old new span = columns_of_bytes old span.old_start span.old_end
-columns_of_span false old new span = columns_of_bytes new span.new_start span.new_end
+-- the columns of a differing part in that window
+abbrev pub columns_of_span : ℕ → Bool → List ℕ → List ℕ → WordSpan → Columns
+columns_of_span edge true old new span = columns_of_bytes edge old span.old_start span.old_end
+columns_of_span edge false old new span = columns_of_bytes edge new span.new_start span.new_end
 
 -- the ends of a differing part are borders of characters
 pub record HasBorders (old new : List ℕ) (span : WordSpan) : Type 0 where
@@ -96,11 +95,12 @@ pub record HasBorders (old new : List ℕ) (span : WordSpan) : Type 0 where
   pub new_first : IsCharBoundary new span.new_start
   pub new_last : IsCharBoundary new span.new_end
 
--- the columns are those of the parts in which the lines of a pair differ
-pub record AreColumns (old new : List ℕ) (is_old : Bool) (columns : List Columns) : Type 0 where
+-- the columns are those of the parts in which the lines of a pair differ, in a window that ends before column `edge`
+pub record AreColumns (edge : ℕ) (old new : List ℕ) (is_old : Bool) (columns : List Columns) : Type 0 where
   pub spans : List WordSpan
   pub are_spans : AreSpans old new spans
-  pub columns_are : columns ≡ map (columns_of_span is_old old new) spans
+  pub are_few : AreFew old new spans
+  pub columns_are : columns ≡ map (columns_of_span edge is_old old new) spans
 
 -- ---- rows
 
@@ -124,15 +124,15 @@ files_with_pairs l = if is_bare l then l.session.shown.state.files else []
 abbrev pub pair_on : Live → ℕ → Option Pair
 pair_on l row = if is_bare l then pair_of_line l.session.shown.state.files (line_on l row) else None
 
--- the columns are those that are set off for a pair, if there is one
-abbrev pub AreColumnsFor : Option Pair → List Columns → Type 0
-AreColumnsFor None columns = columns ≡ []
-AreColumnsFor (Some pair) columns = AreColumns pair.old pair.new pair.is_old columns
+-- the columns are those that are set off for a pair, if there is one, in a window that ends before column `edge`
+abbrev pub AreColumnsFor : ℕ → Option Pair → List Columns → Type 0
+AreColumnsFor edge None columns = columns ≡ []
+AreColumnsFor edge (Some pair) columns = AreColumns edge pair.old pair.new pair.is_old columns
 
--- the columns that are set off on each row of the screen
+-- the columns that are set off on each row of the screen, up to its last column
 pub record AreWords (l : Live) (words : List (List Columns)) : Type 0 where
   pub many : length words ≡ length (scene_of l.kind l.session).frame.rows
-  pub on : (row : ℕ) → row < length words → AreColumnsFor (pair_on l row) (slice_index_or words row [])
+  pub on : (row : ℕ) → row < length words → AreColumnsFor (columns_of l.kind) (pair_on l row) (slice_index_or words row [])
 
 -- ---- styles
 

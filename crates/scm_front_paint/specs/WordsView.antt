@@ -17,8 +17,9 @@ abbrev pub columns_in : Option LineValue → List Columns
 columns_in None = []
 columns_in (Some words) = words.columns
 
--- the words were found for this pair
-pub record AreFor (words : LineValue) (pair : Pair) : Type 0 where
+-- the words were found for this pair, in a window that ends before column `edge`
+pub record AreFor (edge : ℕ) (words : LineValue) (pair : Pair) : Type 0 where
+  pub is_window : words.edge ≡ edge
   pub old : words.old ≡ pair.old
   pub new : words.new ≡ pair.new
   pub is_old : words.is_old ≡ pair.is_old

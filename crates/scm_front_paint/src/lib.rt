@@ -11,6 +11,7 @@ mod cut;
 pub mod headers;
 pub mod labels;
 pub mod laws;
+mod line_end;
 mod line_words;
 mod painter;
 mod pair_words;

@@ -11,7 +11,9 @@ pub(crate) struct LineWords {
     pub(crate) new: String,
     /// Whether the removed line is meant.
     pub(crate) is_old: bool,
-    /// The columns of the words that differ.
+    /// The column before which the window ends.
+    pub(crate) edge: usize,
+    /// The columns of the words that differ, up to the window's edge.
     pub(crate) columns: Vec<Columns>,
 }
 
@@ -26,9 +28,10 @@ impl Model for LineWords {
       old = string_bytes w.old;
       new = string_bytes w.new;
       is_old = w.is_old;
+      edge = w.edge;
       columns = w.columns.items;
     } };
 
     ghost invariant = { λ w.
-        AreColumns (string_bytes w.old) (string_bytes w.new) w.is_old w.columns.items };
+        AreColumns w.edge (string_bytes w.old) (string_bytes w.new) w.is_old w.columns.items };
 }

@@ -13,7 +13,7 @@ ghost use Rattle.scm_front_paint.specs.Source.{symbols_in};
 
 use crate::cut::cut_of;
 use crate::headers::label_rows;
-use crate::labels::{Label, set_label};
+use crate::labels::{Label, Labels};
 use crate::line_words::LineWords;
 use crate::shown::{Moved, Shown};
 use crate::source::Source;
@@ -22,7 +22,7 @@ use crate::status_painter::StatusPainter;
 use crate::themes::Theme;
 use crate::view::View;
 use crate::words::words_of;
-use scm_record::{Grid, Items, Painter, RecordError};
+use scm_record::{Grid, Painter, RecordError};
 use std::alloc::Global;
 use std::mem::replace;
 
@@ -153,7 +153,7 @@ pub struct FrontPainter {
     /// The colours of the terminal.
     pub(crate) theme: Theme,
     /// The labels of sections.
-    pub(crate) labels: Items<Label>,
+    pub(crate) labels: Labels,
     /// The painter of the session's rows.
     session: SessionPainter,
     /// The painter of the status row.
@@ -175,7 +175,7 @@ impl FrontPainter {
         FrontPainter {
             alloc,
             theme,
-            labels: Items::new(alloc),
+            labels: Labels::new(alloc),
             session: SessionPainter {
                 painter: Painter::new(alloc),
                 cut: None,
@@ -223,7 +223,7 @@ impl FrontPainter {
         ensures theme { self.new.theme ≡ self.old.theme }
         ensures err { IfErr result (λ e. e ≡ OutOfMemory) }
     {
-        set_label(&mut self.labels, label)
+        self.labels.set(label)
     }
 
     /// Returns the bytes that make a terminal show `view`: its session from a column on, with the labels of
@@ -267,12 +267,12 @@ impl FrontPainter {
         let session = view.front().beneath();
         let width = width_of(view);
         let height = rows_of(view);
-        let left = left_of(self.alloc, view.front())?;
+        let left = left_of(self.alloc, view.front(), width as usize)?;
         let x = view.offset() as usize;
         let right = right_of(self.alloc, view.front(), width, &left, x, accept)?;
         let kept = replace(&mut self.words, Vec::new(self.alloc));
         let words = words_of(self.alloc, session, kept)?;
-        let labels = label_rows(self.alloc, self.labels.as_slice(), session)?;
+        let labels = label_rows(self.alloc, &self.labels, session)?;
         self.keep_size(width as usize, height as usize);
         let mut text = self
             .status

@@ -18,8 +18,8 @@ pub fn status_row(alloc: Global, view: &View<'_>, accept: &str) -> Result<Grid, 
     ensures ok { IfOk result (λ grid. HasStatusRow view.now accept.now grid) }
     ensures err { IfErr result (λ e. e ≡ OutOfMemory) }
 {
-    let left = left_of(alloc, view.front())?;
     let width = width_of(view);
+    let left = left_of(alloc, view.front(), width as usize)?;
     let x = view.offset() as usize;
     let right = right_of(alloc, view.front(), width, &left, x, accept)?;
     status_grid(alloc, None, width, 0, &left, right.as_str())

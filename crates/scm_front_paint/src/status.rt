@@ -4,7 +4,9 @@ ghost use Rattle.std.specs.List.{concat};
 ghost use Rattle.scm_errors.specs.declared.error.RecordError.TheVariants.{OutOfMemory};
 ghost use Rattle.scm_cells.specs.Replaced.{line_pieces};
 ghost use Rattle.scm_front_paint.specs.Blank.{IsBlankGrid};
+ghost use Rattle.scm_front_paint.specs.LineEnds.{ShowsEnd};
 ghost use Rattle.scm_front_paint.specs.Status.{
+  ShowsLeft,
   columns_before,
   counts_text,
   fit_or,
@@ -30,6 +32,7 @@ ghost use Rattle.scm_front_paint.specs.Status.{
 };
 
 use crate::blanks::blank_grid;
+use crate::line_end::end_within;
 use crate::range::range_text;
 use scm_front::{Front, Notice};
 use scm_record::{
@@ -133,14 +136,16 @@ fn text_of_notice(notice: Notice) -> &'static str
     }
 }
 
-/// Returns the text of the selected item, with replacements for the characters that a screen cannot show.
-fn item_text(alloc: Global, front: &Front<'_>) -> Result<String, RecordError>
-    ensures ok { IfOk result (λ text. string_bytes text ≡ item_text front.now) }
+/// Returns the text of the selected item, with replacements for the characters that a screen cannot show, or an
+/// end of it, of which the last `columns` columns are those of the whole.
+fn item_end(alloc: Global, front: &Front<'_>, columns: usize) -> Result<String, RecordError>
+    ensures ok { IfOk result (λ text.
+        ShowsEnd columns (string_bytes text) (item_text front.now)) }
     ensures err { IfErr result (λ e. e ≡ OutOfMemory) }
 {
     let view = front.beneath().view_state();
     let text = text_of_key(view.state.files.as_slice(), view.selection);
-    with_replacements(alloc, text)
+    end_within(alloc, text, columns)
 }
 
 /// Returns whether `notice` says that a range is begun.
@@ -180,13 +185,20 @@ fn said_text(alloc: Global, front: &Front<'_>) -> Result<String, RecordError>
 }
 
 /// Returns what stands on the left of the status row if no text is asked for or was not found: `said`, or
-/// the selected item if nothing is said.
-fn said_or(alloc: Global, said: &str, front: &Front<'_>) -> Result<LeftText, RecordError>
-    ensures ok { IfOk result (λ l. l ≡ said_or said.now (item_text front.now)) }
+/// the end of the selected item that `columns` columns show, if nothing is said.
+#[tactic(auto, using(crate::proofs::StatusEndLemmas::left_same))]
+fn said_or(
+    alloc: Global,
+    said: &str,
+    front: &Front<'_>,
+    columns: usize,
+) -> Result<LeftText, RecordError>
+    ensures ok { IfOk result (λ l.
+        ShowsLeft columns l (said_or said.now (item_text front.now))) }
     ensures err { IfErr result (λ e. e ≡ OutOfMemory) }
 {
     if said.is_empty() {
-        let text = item_text(alloc, front)?;
+        let text = item_end(alloc, front, columns)?;
         Ok(on_left(LeftKind::Item, text))
     } else {
         let text = String::from_str(alloc, said)?;
@@ -206,9 +218,14 @@ fn on_left(kind: LeftKind, text: String) -> LeftText
 
 /// Returns what stands on the left of the status row: the text that is typed, the text that was not
 /// found, the keys of the layer while the help is open, what the layer says of the last key, or the
-/// selected item.
-pub(crate) fn left_of(alloc: Global, front: &Front<'_>) -> Result<LeftText, RecordError>
-    ensures ok { IfOk result (λ l. l ≡ left_of front.now) }
+/// end of the selected item that `columns` columns show.
+#[tactic(auto, using(crate::proofs::StatusEndLemmas::left_same))]
+pub(crate) fn left_of(
+    alloc: Global,
+    front: &Front<'_>,
+    columns: usize,
+) -> Result<LeftText, RecordError>
+    ensures ok { IfOk result (λ l. ShowsLeft columns l (left_of front.now)) }
     ensures err { IfErr result (λ e. e ≡ OutOfMemory) }
 {
     let query = front.query();
@@ -226,7 +243,7 @@ pub(crate) fn left_of(alloc: Global, front: &Front<'_>) -> Result<LeftText, Reco
         Ok(on_left(LeftKind::Said, text))
     } else {
         let said = said_text(alloc, front)?;
-        said_or(alloc, said.as_str(), front)
+        said_or(alloc, said.as_str(), front, columns)
     }
 }
 

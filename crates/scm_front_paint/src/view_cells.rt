@@ -104,11 +104,11 @@ impl FrontPainter {
         let session = view.front().beneath();
         let width = width_of(view);
         let height = rows_of(view);
-        let left = left_of(alloc, view.front())?;
+        let left = left_of(alloc, view.front(), width as usize)?;
         let x = view.offset() as usize;
         let right = right_of(alloc, view.front(), width, &left, x, accept)?;
         let words = words_of(alloc, session, Vec::new(alloc))?;
-        let labels = label_rows(alloc, self.labels.as_slice(), session)?;
+        let labels = label_rows(alloc, &self.labels, session)?;
         let shown = Shown {
             session,
             words: words.as_slice(),

@@ -83,6 +83,7 @@ pub(crate) fn words_of(
 {
     let mut kept = kept;
     let files = files_with_pairs(session);
+    let edge = session.grid().width();
     let height = session.grid().height();
     let mut words = Vec::with_capacity(alloc, height)?;
     let mut stretch = stretch_from(session, 0);
@@ -90,7 +91,7 @@ pub(crate) fn words_of(
         stretch = stretch_on(session, stretch, row);
         let line = stretch.lines.line(row - stretch.top);
         let pair = pair_of_line(files, line);
-        words.push(words_with(alloc, pair, kept.as_mut_slice(), row)?)?;
+        words.push(words_with(alloc, edge, pair, kept.as_mut_slice(), row)?)?;
     }
     Ok(words)
 }

@@ -20,7 +20,7 @@ use Rattle.scm_layout.specs.declared.state_rows.StateRows.{StateRows}
 use Rattle.scm_layout.specs.Layouts.{files_top}
 use Rattle.scm_layout.specs.Rows.{rows_of}
 use Rattle.scm_view_state.specs.ViewRows.{HaveRowsOf}
-use Rattle.scm_view_state.proofs.CoverLemmas.{top-message}
+use Rattle.scm_view_state.proofs.ViewLemmas.{top-message}
 use Rattle.scm_view_state.proofs.ViewRowLemmas.{rows-of-views}
 use Rattle.scm_layout_index.specs.LayoutIndex.{AreRowsOf}
 use Rattle.scm_layout_index.specs.RowPieces.{end_of_files, pieces_on, rows_by_key}

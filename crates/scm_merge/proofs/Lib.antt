@@ -18,6 +18,8 @@ pub mod MergeLemmas
 pub mod StyleLemmas
 -- the merge with markers around each open conflict
 pub mod MarkerLemmas
+-- the steps over lines and sections that are written with markers
+pub mod MarkingLemmas
 -- where the lines of a merge come from
 pub mod OriginLemmas
 -- worked examples of the definitions

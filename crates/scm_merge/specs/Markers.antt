@@ -49,6 +49,17 @@ version_lines crlf texts = map (ended crlf) (filter is_line texts)
 abbrev pub opened : Style → List ℕ → List ℕ → List (List ℕ) → List (List ℕ)
 opened style sign label texts = marker style sign label ∷ version_lines style.is_crlf texts
 
+-- their lines of an open conflict between their marker and the last one
+abbrev pub closed : Style → List ℕ → List (List ℕ) → List (List ℕ)
+closed style label texts = opened style (61 ∷ []) [] texts ++ marker style (62 ∷ []) label ∷ []
+
+-- the lines of a section of an open conflict
+abbrev pub role_lines : Style → Labels → Role → List (List ℕ) → List (List ℕ)
+role_lines style labels Settled texts = []
+role_lines style labels Ours texts = opened style (60 ∷ []) labels.ours.now texts
+role_lines style labels Base texts = opened style (124 ∷ []) labels.base.now texts
+role_lines style labels Theirs texts = closed style labels.theirs.now texts
+
 -- The section as it is written: a settled one by its marks, and a version of an open conflict as
 -- context with its markers, which are `<`, `|`, `=` and `>`.
 abbrev pub marked_section : Style → Labels → Role → Section → Section

@@ -1,10 +1,11 @@
 //! What marks make of a merge.
-ghost use Rattle.std.specs.Prelude.{◌≡◌, IfOk, false, true};
+ghost use Rattle.std.specs.Prelude.{◌≡◌, ℕ, List, IfOk, false, true};
 ghost use Rattle.scm_merge.specs.Marked.{IsMergedByMarks, IsMergedFile};
+ghost use Rattle.scm_merge.specs.Records.{texts_of};
 
 use crate::open::open_conflicts;
 use crate::result::merged_bytes;
-use crate::texts::{file_of_texts, texts_of};
+use crate::texts::{Texts, file_of_texts, texts_of};
 use scm_embed::{has_items, mark_file};
 use scm_types::File;
 use std::alloc::{AllocError, Global};
@@ -19,20 +20,27 @@ pub struct Merged {
     pub open: usize,
 }
 
-/// Returns what the marks make of `file`, if they are as many as its items.
-fn merged_of(alloc: Global, file: File<'_>, marks: &[u8]) -> Result<Option<Merged>, AllocError>
-    ensures { IfOk result (IsMergedFile marks.now file.entry) }
+/// Sets the marks in `file`, if they are as many as its items, and returns what they make of it.
+fn merged_of(alloc: Global, file: &mut File<'_>, marks: &[u8]) -> Result<Option<Merged>, AllocError>
+    ensures { IfOk result (IsMergedFile marks.now file.old) }
 {
-    if !has_items(&file, marks.len()) {
+    if !has_items(file, marks.len()) {
         return Ok(None);
     }
-    let mut marked = file;
-    mark_file(&mut marked, marks);
-    let bytes = merged_bytes(alloc, &marked)?;
-    Ok(Some(Merged {
-        bytes,
-        open: open_conflicts(&marked),
-    }))
+    mark_file(file, marks);
+    let open = open_conflicts(file);
+    let bytes = merged_bytes(alloc, file)?;
+    Ok(Some(Merged { bytes, open }))
+}
+
+/// Returns what `marks` make of the merge of three texts.
+fn merged_texts(alloc: Global, texts: &Texts, marks: &[u8]) -> Result<Option<Merged>, AllocError>
+    ensures { (base ours theirs : List ℕ) → texts.now ≡ texts_of base ours theirs
+        → IfOk result (IsMergedByMarks base ours theirs marks.now) }
+{
+    let mut file = file_of_texts(alloc, texts)?;
+    let merged = merged_of(alloc, &mut file, marks)?;
+    Ok(merged)
 }
 
 /// Returns what `marks` make of the merge of three files, or `None` if they are not as many as the
@@ -52,7 +60,5 @@ pub fn merge_by_marks(
     ensures { IfOk result (IsMergedByMarks base.now ours.now theirs.now marks.now) }
 {
     let texts = texts_of(alloc, base, ours, theirs)?;
-    let file = file_of_texts(alloc, &texts)?;
-    let merged = merged_of(alloc, file, marks)?;
-    Ok(merged)
+    merged_texts(alloc, &texts, marks)
 }

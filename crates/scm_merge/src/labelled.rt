@@ -1,10 +1,11 @@
 //! What marks make of a merge, with markers around each conflict that is open.
-ghost use Rattle.std.specs.Prelude.{◌≡◌, IfOk, false, true};
+ghost use Rattle.std.specs.Prelude.{◌≡◌, ℕ, List, IfOk, false, true};
 ghost use Rattle.scm_merge.specs.WithMarkers.{IsLabelled, IsMergedWithMarkers, IsWithMarkers};
+ghost use Rattle.scm_merge.specs.Records.{texts_of};
 
 use crate::labels::Labels;
 use crate::markers::bytes_with_markers;
-use crate::texts::{file_of_texts, texts_of};
+use crate::texts::{Texts, file_of_texts, texts_of};
 use scm_embed::{has_items, mark_file};
 use scm_types::File;
 use std::alloc::{AllocError, Global};
@@ -22,34 +23,33 @@ pub struct LabelBytes<'a> {
     pub theirs: &'a [u8],
 }
 
-/// Returns what the marks make of `file`, with markers, if they are as many as its items.
+/// Sets the marks in `file`, if they are as many as its items, and returns what they make of it, with markers.
 fn marked_bytes(
     alloc: Global,
-    file: File<'_>,
+    file: &mut File<'_>,
     marks: &[u8],
     labels: Labels<'_>,
     least: usize,
 ) -> Result<Option<Vec<u8>>, AllocError>
-    ensures { IfOk result (IsWithMarkers least labels.entry marks.now file.entry) }
+    ensures { IfOk result (IsWithMarkers least labels.entry marks.now file.old) }
 {
-    if !has_items(&file, marks.len()) {
+    if !has_items(file, marks.len()) {
         return Ok(None);
     }
-    let mut marked = file;
-    mark_file(&mut marked, marks);
-    let bytes = bytes_with_markers(alloc, &marked, labels, least)?;
+    mark_file(file, marks);
+    let bytes = bytes_with_markers(alloc, file, labels, least)?;
     Ok(Some(bytes))
 }
 
-/// Returns what `marks` make of a file with these labels, as bytes.
+/// Sets `marks` in a file, and returns what they make of it, with these labels.
 fn labelled_bytes(
     alloc: Global,
-    file: File<'_>,
+    file: &mut File<'_>,
     marks: &[u8],
     labels: LabelBytes<'_>,
     least: usize,
 ) -> Result<Option<Vec<u8>>, AllocError>
-    ensures { IfOk result (λ bytes. IsLabelled least labels.entry marks.now file.entry bytes) }
+    ensures { IfOk result (λ bytes. IsLabelled least labels.entry marks.now file.old bytes) }
 {
     let texts = texts_of(alloc, labels.base, labels.ours, labels.theirs)?;
     let shown = Labels {
@@ -58,6 +58,22 @@ fn labelled_bytes(
         theirs: texts.theirs.as_str(),
     };
     let bytes = marked_bytes(alloc, file, marks, shown, least)?;
+    Ok(bytes)
+}
+
+/// Returns what `marks` make of the merge of three texts, with markers.
+fn labelled_texts(
+    alloc: Global,
+    texts: &Texts,
+    marks: &[u8],
+    labels: LabelBytes<'_>,
+    least: usize,
+) -> Result<Option<Vec<u8>>, AllocError>
+    ensures { (base ours theirs : List ℕ) → texts.now ≡ texts_of base ours theirs
+        → IfOk result (IsMergedWithMarkers least labels.entry base ours theirs marks.now) }
+{
+    let mut file = file_of_texts(alloc, texts)?;
+    let bytes = labelled_bytes(alloc, &mut file, marks, labels, least)?;
     Ok(bytes)
 }
 
@@ -81,7 +97,5 @@ pub fn merge_with_markers(
         (IsMergedWithMarkers least labels.entry base.now ours.now theirs.now marks.now) }
 {
     let texts = texts_of(alloc, base, ours, theirs)?;
-    let file = file_of_texts(alloc, &texts)?;
-    let bytes = labelled_bytes(alloc, file, marks, labels, least)?;
-    Ok(bytes)
+    labelled_texts(alloc, &texts, marks, labels, least)
 }

@@ -1,8 +1,9 @@
 //! The bytes of a merge with markers around each open conflict.
 ghost use Rattle.std.specs.Prelude.{◌≡◌, ◌++◌, ◌∷◌, [], IfOk, OnOk, length, string_bytes};
 ghost use Rattle.std.specs.List.{list_any};
-ghost use Rattle.scm_merge.specs.Markers.{bytes_with_markers, ended, file_with_markers, is_left_out, is_line, is_line_end, label_part, line_end, marked_section, marked_sections, marker, opened, sections_with_markers, version_lines};
+ghost use Rattle.scm_merge.specs.Markers.{bytes_with_markers, closed, ended, file_with_markers, is_left_out, is_line, is_line_end, label_part, line_end, marked_section, marked_sections, marker, opened, role_lines, sections_with_markers, version_lines};
 ghost use Rattle.scm_merge.specs.Style.{texts_of};
+ghost use Rattle.scm_types.specs.declared.section.Section.TheVariants.{Unchanged};
 
 use crate::labels::Labels;
 use crate::result::{file_with_sections, section_with_texts};
@@ -111,38 +112,106 @@ fn push_version<'a>(
     Ok(())
 }
 
-/// Returns a version of an open conflict behind its marker.
-fn opened<'a>(
+/// Adds the line of a marker at the end of `lines`.
+fn push_marker<'a>(
     alloc: Global,
+    lines: &mut Vec<Text<'a>>,
+    style: Style,
+    sign: &str,
+    label: &str,
+) -> Result<(), AllocError>
+    ensures { OnOk result (lines.new.items
+        ≡ lines.old.items ++ marker style sign.now label.now ∷ []) }
+{
+    lines.push(marker(alloc, style, sign, label)?)?;
+    Ok(())
+}
+
+/// Adds the lines of the version that `section` has at the end of `lines`, each with its line end.
+fn push_section_lines<'a>(
+    alloc: Global,
+    lines: &mut Vec<Text<'a>>,
+    is_crlf: bool,
+    section: &Section<'a>,
+) -> Result<(), AllocError>
+    ensures { OnOk result (lines.new.items
+        ≡ lines.old.items ++ version_lines is_crlf (texts_of section.now)) }
+{
+    let mut texts = Vec::new(alloc);
+    push_texts(&mut texts, section)?;
+    push_version(alloc, lines, is_crlf, texts.as_slice())?;
+    Ok(())
+}
+
+/// Adds a version of an open conflict behind its marker.
+fn push_opened<'a>(
+    alloc: Global,
+    lines: &mut Vec<Text<'a>>,
     style: Style,
     sign: &str,
     label: &str,
     section: &Section<'a>,
-) -> Result<Vec<Text<'a>>, AllocError>
-    ensures { IfOk result (λ lines.
-        lines.items ≡ opened style sign.now label.now (texts_of section.now)) }
+) -> Result<(), AllocError>
+    ensures { OnOk result (lines.new.items
+        ≡ lines.old.items ++ opened style sign.now label.now (texts_of section.now)) }
 {
-    let mut texts = Vec::new(alloc);
-    push_texts(&mut texts, section)?;
-    let mut lines = Vec::new(alloc);
-    lines.push(marker(alloc, style, sign, label)?)?;
-    push_version(alloc, &mut lines, style.is_crlf, texts.as_slice())?;
-    Ok(lines)
+    push_marker(alloc, lines, style, sign, label)?;
+    push_section_lines(alloc, lines, style.is_crlf, section)?;
+    Ok(())
 }
 
-/// Returns their lines of an open conflict between their marker and the last one.
-fn closed<'a>(
+/// Adds their lines of an open conflict between their marker and the last one.
+fn push_closed<'a>(
     alloc: Global,
+    lines: &mut Vec<Text<'a>>,
     style: Style,
     label: &str,
     section: &Section<'a>,
-) -> Result<Vec<Text<'a>>, AllocError>
-    ensures { IfOk result (λ lines. lines.items
-        ≡ opened style (61 ∷ []) [] (texts_of section.now) ++ marker style (62 ∷ []) label.now ∷ []) }
+) -> Result<(), AllocError>
+    ensures { OnOk result (lines.new.items
+        ≡ lines.old.items ++ closed style label.now (texts_of section.now)) }
 {
-    let mut lines = opened(alloc, style, "=", "", section)?;
-    lines.push(marker(alloc, style, ">", label)?)?;
-    Ok(lines)
+    push_opened(alloc, lines, style, "=", "", section)?;
+    push_marker(alloc, lines, style, ">", label)?;
+    Ok(())
+}
+
+/// Adds the lines of a section of an open conflict, and nothing of a settled one.
+fn push_role<'a>(
+    alloc: Global,
+    lines: &mut Vec<Text<'a>>,
+    style: Style,
+    labels: Labels<'_>,
+    role: Role,
+    section: &Section<'a>,
+) -> Result<(), AllocError>
+    ensures { OnOk result (lines.new.items
+        ≡ lines.old.items ++ role_lines style labels.entry role (texts_of section.now)) }
+{
+    match role {
+        Role::Settled => Ok(()),
+        Role::Ours => push_opened(alloc, lines, style, "<", labels.ours, section),
+        Role::Base => push_opened(alloc, lines, style, "|", labels.base, section),
+        Role::Theirs => push_closed(alloc, lines, style, labels.theirs, section),
+    }
+}
+
+/// Returns the section of an open conflict as it is written.
+fn open_section<'a>(
+    alloc: Global,
+    style: Style,
+    labels: Labels<'_>,
+    role: Role,
+    section: &Section<'a>,
+) -> Result<Section<'a>, AllocError>
+    ensures { IfOk result
+        (λ copy. copy ≡ Unchanged (role_lines style labels.entry role (texts_of section.now))) }
+{
+    let mut lines = Vec::new(alloc);
+    push_role(alloc, &mut lines, style, labels, role, section)?;
+    Ok(Section::Unchanged {
+        lines: Items::from(lines),
+    })
 }
 
 /// Returns the section as it is written.
@@ -155,15 +224,28 @@ fn marked_section<'a>(
 ) -> Result<Section<'a>, AllocError>
     ensures { IfOk result (λ copy. copy ≡ marked_section style labels.entry role section.now) }
 {
-    let lines = match role {
-        Role::Settled => return section_with_texts(alloc, section),
-        Role::Ours => opened(alloc, style, "<", labels.ours, section)?,
-        Role::Base => opened(alloc, style, "|", labels.base, section)?,
-        Role::Theirs => closed(alloc, style, labels.theirs, section)?,
-    };
-    Ok(Section::Unchanged {
-        lines: Items::from(lines),
-    })
+    match role {
+        Role::Settled => section_with_texts(alloc, section),
+        Role::Ours | Role::Base | Role::Theirs => {
+            open_section(alloc, style, labels, role, section)
+        }
+    }
+}
+
+/// Adds the section as it is written at the end of `copies`.
+fn push_marked_section<'a>(
+    alloc: Global,
+    copies: &mut Vec<Section<'a>>,
+    style: Style,
+    labels: Labels<'_>,
+    role: Role,
+    section: &Section<'a>,
+) -> Result<(), AllocError>
+    ensures { OnOk result (copies.new.items
+        ≡ copies.old.items ++ marked_section style labels.entry role section.now ∷ []) }
+{
+    copies.push(marked_section(alloc, style, labels, role, section)?)?;
+    Ok(())
 }
 
 /// Returns the sections as they are written, each by its role.
@@ -180,7 +262,8 @@ fn marked_sections<'a>(
 {
     let mut copies = Vec::with_capacity(alloc, sections.len())?;
     for index in 0..sections.len() {
-        copies.push(marked_section(alloc, style, labels, roles[index], &sections[index])?)?;
+        let section = &sections[index];
+        push_marked_section(alloc, &mut copies, style, labels, roles[index], section)?;
     }
     Ok(copies)
 }

@@ -1,9 +1,9 @@
 //! The lines of a merge as records.
-ghost use Rattle.std.specs.Prelude.{◌≡◌, ◌++◌, IfOk, OnOk, map};
+ghost use Rattle.std.specs.Prelude.{◌≡◌, ◌++◌, ℕ, List, IfOk, OnOk, map};
 ghost use Rattle.scm_types.specs.declared.line.SectionChangedLine.{SectionChangedLine};
-ghost use Rattle.scm_merge.specs.Records.{ShowsMerge, changed_records, context_records, file_records, letter_of, next_of, record_bytes, section_records, seen_after};
+ghost use Rattle.scm_merge.specs.Records.{ShowsMerge, changed_records, context_records, file_records, letter_of, next_of, record_bytes, section_records, seen_after, texts_of};
 
-use crate::texts::{file_of_texts, texts_of};
+use crate::texts::{Texts, file_of_texts, texts_of};
 use scm_types::{File, Section, SectionChangedLine, Text};
 use std::alloc::{AllocError, Global};
 
@@ -108,6 +108,16 @@ fn file_records(alloc: Global, file: &File<'_>) -> Result<Vec<u8>, AllocError>
     Ok(records)
 }
 
+/// Returns the records of the merge of three texts.
+fn records_of_texts(alloc: Global, texts: &Texts) -> Result<Vec<u8>, AllocError>
+    ensures { (base ours theirs : List ℕ) → texts.now ≡ texts_of base ours theirs
+        → IfOk result (λ records. ShowsMerge base ours theirs records.items) }
+{
+    let file = file_of_texts(alloc, texts)?;
+    let records = file_records(alloc, &file)?;
+    Ok(records)
+}
+
 /// Returns the records of the merge of three files, one for each line that is shown: ` ` with a line
 /// that is taken without asking, and of each conflict `o` with our lines, `b` with those of the base,
 /// and `t` with theirs. A version without lines has one record with the empty text.
@@ -127,7 +137,5 @@ pub fn merge_records(
         (λ records. ShowsMerge base.now ours.now theirs.now records.items) }
 {
     let texts = texts_of(alloc, base, ours, theirs)?;
-    let file = file_of_texts(alloc, &texts)?;
-    let records = file_records(alloc, &file)?;
-    Ok(records)
+    records_of_texts(alloc, &texts)
 }

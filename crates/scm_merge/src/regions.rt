@@ -11,7 +11,7 @@ use scm_types::Text;
 use std::alloc::{AllocError, Global};
 
 /// A region that grows, with a cursor of each side in it.
-#[derive(Clone, Copy, Debug)]
+#[derive(Clone, Copy)]
 pub(crate) struct Growth {
     /// The first line of the region in the base.
     pub(crate) start: usize,
@@ -27,7 +27,7 @@ pub(crate) struct Growth {
 }
 
 /// The same place in all three lists.
-#[derive(Clone, Copy, Debug)]
+#[derive(Clone, Copy)]
 pub(crate) struct Cursors {
     /// The place in our lines.
     pub(crate) ours: Cursor,
@@ -37,7 +37,7 @@ pub(crate) struct Cursors {
 }
 
 /// A region, and the place where it ends.
-#[derive(Clone, Copy, Debug)]
+#[derive(Clone, Copy)]
 pub(crate) struct Found {
     /// The region.
     pub(crate) region: Region,

@@ -10,7 +10,7 @@ use scm_types::{Section, SectionChangedLine};
 use std::alloc::{AllocError, Global};
 
 /// What is written of a section.
-#[derive(Clone, Copy, Debug)]
+#[derive(Clone, Copy)]
 pub(crate) enum Role {
     /// The lines that are taken: the section is in no open conflict.
     Settled,
@@ -26,7 +26,7 @@ pub(crate) enum Role {
 }
 
 /// What is known of a conflict that has begun.
-#[derive(Clone, Copy, Debug)]
+#[derive(Clone, Copy)]
 pub(crate) struct Begun {
     /// How many of its sections are seen: 0 to 2.
     pub(crate) seen: usize,

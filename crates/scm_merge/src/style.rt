@@ -8,7 +8,7 @@ use scm_types::{Section, SectionChangedLine, Text};
 use std::alloc::{AllocError, Global};
 
 /// How the markers of a file look.
-#[derive(Clone, Copy, Debug)]
+#[derive(Clone, Copy)]
 pub(crate) struct Style {
     /// How many signs a marker has.
     pub(crate) len: usize,

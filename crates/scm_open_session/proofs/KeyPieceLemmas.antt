@@ -8,9 +8,8 @@ use Rattle.scm_open_session.specs.declared.open_session.OpenSession.{OpenSession
 use Rattle.scm_c_values.specs.Pieces.{Adds, all_of, pieces_of}
 use Rattle.std.specs.List.{after_first, before_first, position_or_len}
 use Rattle.scm_input.specs.declared.terminal.TerminalEvent.{TerminalEvent}
-use Rattle.scm_script.specs.Words.{key_event_of}
 use Rattle.scm_front.specs.declared.actions.Action.{Action}
-use Rattle.scm_open_session.specs.OwnKeys.{HasKeys, SetsKeys, action_of_word, code_of_keys, has_equals, is_equals, key_with, keys_of_bytes, keys_of_piece, own_key_of, pressed_key_of}
+use Rattle.scm_open_session.specs.OwnKeys.{HasKeys, SetsKeys, action_of_word, code_of_keys, has_equals, is_equals, key_of_word, key_with, keys_of_bytes, keys_of_piece, own_key_of, pressed_key_of}
 use Rattle.scm_open_session.specs.LayerCalls.{is_view}
 use Rattle.scm_c_values.specs.Codes.{IsCode}
 use Rattle.scm_open_session.specs.Results.{code_where}
@@ -45,16 +44,16 @@ equals_back front back None s m = tt
 
 pub key_at : (piece key word : List ℕ) (event : Option TerminalEvent) (action : Option Action) (answer : Option OwnKey)
     → has_equals piece ≡ true → key ≡ before_first is_equals piece → word ≡ after_first is_equals piece
-    → event ≡ key_event_of key → action ≡ action_of_word word → answer ≡ key_with event action → answer ≡ pressed_key_of piece
+    → event ≡ key_of_word key → action ≡ action_of_word word → answer ≡ key_with event action → answer ≡ pressed_key_of piece
 key_at piece key word event action answer t e f g h is =
-    let with_both : answer ≡ key_with (key_event_of (before_first is_equals piece)) (action_of_word (after_first is_equals piece)) =
-    is ∙ (ap (λ (o : Option TerminalEvent). key_with o action) (g ∙ ap key_event_of e)
-    ∙ ap (λ (o : Option Action). key_with (key_event_of (before_first is_equals piece)) o) (h ∙ ap action_of_word f)) in
-    with_both ∙ ap (λ (b : Bool). if b then key_with (key_event_of (before_first is_equals piece)) (action_of_word (after_first is_equals piece)) else None) (sym t)
+    let with_both : answer ≡ key_with (key_of_word (before_first is_equals piece)) (action_of_word (after_first is_equals piece)) =
+    is ∙ (ap (λ (o : Option TerminalEvent). key_with o action) (g ∙ ap key_of_word e)
+    ∙ ap (λ (o : Option Action). key_with (key_of_word (before_first is_equals piece)) o) (h ∙ ap action_of_word f)) in
+    with_both ∙ ap (λ (b : Bool). if b then key_with (key_of_word (before_first is_equals piece)) (action_of_word (after_first is_equals piece)) else None) (sym t)
 
 pub no_key_at : (piece : List ℕ) → has_equals piece ≡ false → None ≡ pressed_key_of piece
 no_key_at piece t =
-    ap (λ (b : Bool). if b then key_with (key_event_of (before_first is_equals piece)) (action_of_word (after_first is_equals piece)) else None) (sym t)
+    ap (λ (b : Bool). if b then key_with (key_of_word (before_first is_equals piece)) (action_of_word (after_first is_equals piece)) else None) (sym t)
 
 -- ---- a piece
 

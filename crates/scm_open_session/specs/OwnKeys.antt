@@ -1,8 +1,13 @@
 -- Keys of the user's own, as words name them: `KEY=WORD`, separated by spaces.
-use Rattle.std.specs.Prelude.{ℕ, ◌==◌, Bool, List, [], ◌∷◌, nat_lt, length, Option, Some, None, option_map, if◌then◌else◌}
+use Rattle.std.specs.Prelude.{ℕ, ◌==◌, Bool, true, false, List, [], ◌∷◌, nat_lt, length, Option, Some, None, option_map, if◌then◌else◌}
 use Rattle.std.specs.Option.{option_or}
 use Rattle.std.specs.List.{position_or_len, before_first, after_first}
 use Rattle.std.specs.Str.{is_utf8}
+use Rattle.scm_input.specs.KeyTable.{control, none, shift}
+use Rattle.scm_input.specs.declared.terminal.KeyCode.{KeyCode}
+use Rattle.scm_input.specs.declared.terminal.KeyCode.TheVariants as key
+use Rattle.scm_input.specs.declared.terminal.KeyEventKind.TheVariants.{Press}
+use Rattle.scm_input.specs.declared.terminal.KeyModifiers.{KeyModifiers}
 use Rattle.scm_input.specs.declared.terminal.TerminalEvent.{TerminalEvent}
 use Rattle.scm_input.specs.declared.terminal.TerminalEvent.TheVariants as terminal
 use Rattle.scm_script.specs.Words.{Row, event_of_word, find_row, key_event_of, row}
@@ -50,6 +55,31 @@ action_of_word word = option_or (find_row layer_actions word) (option_map Pass (
 
 -- ---- keys
 
+-- The event of pressing a key.
+abbrev pub press : KeyModifiers → KeyCode → TerminalEvent
+press modifiers code = terminal.Key (record { code = code; modifiers = modifiers; kind = Press })
+
+-- Only alt is held.
+abbrev pub alt : KeyModifiers
+alt = record { shift = false; control = false; alt = true; other = false }
+
+-- The words of keys that scripts have no word for.
+abbrev pub other_keys : List (Row TerminalEvent)
+other_keys =
+    row "home" (press none key.Home)
+    ∷ row "shift-home" (press shift key.Home)
+    ∷ row "ctrl-home" (press control key.Home)
+    ∷ row "alt-home" (press alt key.Home)
+    ∷ row "end" (press none key.End)
+    ∷ row "shift-end" (press shift key.End)
+    ∷ row "ctrl-end" (press control key.End)
+    ∷ row "alt-end" (press alt key.End)
+    ∷ []
+
+-- The key of a word: one of these, or the word of a key in scripts.
+abbrev pub key_of_word : List ℕ → Option TerminalEvent
+key_of_word word = option_or (find_row other_keys word) (key_event_of word)
+
 -- A key of the terminal with what it does.
 abbrev pub with_action : TerminalEvent → Action → Option OwnKey
 with_action (terminal.Key e) action = Some (own.Key e.code e.modifiers action)
@@ -71,10 +101,10 @@ key_with None (Some action) = None
 key_with (Some key) None = None
 key_with (Some key) (Some action) = with_action key action
 
--- The key of `KEY=WORD`. KEY is the word of a key in scripts, as `ctrl-n` or `space`.
+-- The key of `KEY=WORD`. KEY is the word of a key in scripts, as `ctrl-n` or `space`, or of Home or End.
 abbrev pub pressed_key_of : List ℕ → Option OwnKey
 pressed_key_of piece =
-    if has_equals piece then key_with (key_event_of (before_first is_equals piece)) (action_of_word (after_first is_equals piece))
+    if has_equals piece then key_with (key_of_word (before_first is_equals piece)) (action_of_word (after_first is_equals piece))
     else None
 
 -- What a click on a box does, as a piece says it.

@@ -3,16 +3,24 @@ ghost use Rattle.std.specs.Prelude.{◌≡◌, ◌<◌, IfErr, IfNone, IfOk, IfS
 ghost use Rattle.std.specs.List.{after_first, before_first};
 ghost use Rattle.scm_open_session.specs.declared.open_session.OpenSession.{OpenSession};
 ghost use Rattle.scm_c_values.specs.Pieces.{Adds, all_of, pieces_of};
-ghost use Rattle.scm_open_session.specs.OwnKeys.{action_of_word, click_pieces, code_of_keys, has_equals, is_equals, key_with, keys_of_bytes, keys_of_piece, layer_actions, own_key_of, pressed_key_of, with_action};
+ghost use Rattle.scm_open_session.specs.OwnKeys.{action_of_word, click_pieces, code_of_keys, has_equals, is_equals, key_of_word, key_with, keys_of_bytes, keys_of_piece, layer_actions, other_keys, own_key_of, press, pressed_key_of, with_action};
 ghost use Rattle.scm_c_values.specs.Codes.{IsCode};
 ghost use Rattle.scm_script.specs.Words.{find_row};
 
 use scm_c_values::batches::split_piece;
 use scm_c_values::codes;
 use scm_front::{Action, OwnKey, Place, Typing, Way};
-use scm_record::TerminalEvent;
+use scm_record::{KeyCode, KeyEvent, KeyEventKind, KeyModifiers, TerminalEvent};
 use scm_script::{read_event, read_key};
 use std::alloc::{AllocError, Global};
+
+/// Only alt is held.
+const ALT: KeyModifiers = KeyModifiers {
+    shift: false,
+    control: false,
+    alt: true,
+    other: false,
+};
 
 /// Returns the action of the layer with the name `word`, if there is one.
 fn layer_action(word: &str) -> Option<Action>
@@ -47,6 +55,44 @@ fn action_of(word: &str) -> Option<Action>
             Some(event) => Some(Action::Pass(event)),
             None => None,
         },
+    }
+}
+
+/// Returns the event of pressing the key `code` while exactly `modifiers` are held.
+fn press(modifiers: KeyModifiers, code: KeyCode) -> TerminalEvent
+    ensures { result ≡ press modifiers code }
+{
+    TerminalEvent::Key(KeyEvent {
+        code,
+        modifiers,
+        kind: KeyEventKind::Press,
+    })
+}
+
+/// Returns the key of `word`, if scripts have no word for that key.
+fn other_key(word: &str) -> Option<TerminalEvent>
+    ensures { result ≡ find_row other_keys word.now }
+{
+    match word {
+        "home" => Some(press(KeyModifiers::NONE, KeyCode::Home)),
+        "shift-home" => Some(press(KeyModifiers::SHIFT, KeyCode::Home)),
+        "ctrl-home" => Some(press(KeyModifiers::CONTROL, KeyCode::Home)),
+        "alt-home" => Some(press(ALT, KeyCode::Home)),
+        "end" => Some(press(KeyModifiers::NONE, KeyCode::End)),
+        "shift-end" => Some(press(KeyModifiers::SHIFT, KeyCode::End)),
+        "ctrl-end" => Some(press(KeyModifiers::CONTROL, KeyCode::End)),
+        "alt-end" => Some(press(ALT, KeyCode::End)),
+        _ => None,
+    }
+}
+
+/// Returns the key of `word`: of a script's word, or of Home or End.
+fn key_of(word: &str) -> Option<TerminalEvent>
+    ensures { result ≡ key_of_word word.now }
+{
+    match other_key(word) {
+        Some(key) => Some(key),
+        None => read_key(word),
     }
 }
 
@@ -93,7 +139,7 @@ fn pressed_key(piece: &str) -> Option<OwnKey>
     ensures { result ≡ pressed_key_of piece.now }
 {
     match split_at_equals(piece) {
-        Some((key, word)) => key_with(read_key(key), action_of(word)),
+        Some((key, word)) => key_with(key_of(key), action_of(word)),
         None => None,
     }
 }

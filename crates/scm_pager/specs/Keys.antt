@@ -39,7 +39,9 @@ step_keys =
     ∷ by control (char "b") (Step steps.PageUp)
     ∷ by none key.PageUp (Step steps.PageUp)
     ∷ by none (char "g") (Step steps.First)
+    ∷ by none key.Home (Step steps.First)
     ∷ by shift (char "G") (Step steps.Last)
+    ∷ by none key.End (Step steps.Last)
     ∷ []
 
 -- the other keys
@@ -51,6 +53,7 @@ other_keys =
     ∷ by shift (char "<") (Turn Left)
     ∷ by none (char "p") (Show true)
     ∷ by shift (char "P") (Show false)
+    ∷ by none (char "?") Close
     ∷ by none key.Esc Close
     ∷ by none (char "q") Close
     ∷ by control (char "c") Close

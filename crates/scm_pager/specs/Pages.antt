@@ -1,7 +1,8 @@
 -- What a pager shows: a page of lines, and the status row below them.
 use Rattle.std.specs.Prelude.{ℕ, ◌+◌, ◌-◌, ◌==◌, pos, ◌-ℤ◌, Bool, true, false, List, [], ◌∷◌, ◌++◌, length, take, drop, codes, decimal, slice_get, if◌then◌else◌, Option, Some, None}
-use Rattle.std.specs.List.{concat}
+use Rattle.std.specs.List.{concat, list_any}
 use Rattle.scm_types.specs.declared.file.File.{File}
+use Rattle.scm_types.specs.Marks.{is_editable_section}
 use Rattle.scm_cells.specs.Clusters.{text_width}
 use Rattle.scm_cells.specs.Replaced.{line_pieces}
 use Rattle.scm_cells.specs.Screen.{Screen, blank_screen, put_on}
@@ -43,9 +44,17 @@ page_lines p file height = take (height - 1) (drop p.top (shown_lines p.selected
 abbrev pub side_words : Bool → List ℕ
 side_words selected = if selected then codes ": with the marked changes" else codes ": with the other changes"
 
+-- whether a file has two sides: a section of it changes something
+abbrev pub has_sides : File → Bool
+has_sides file = list_any is_editable_section file.sections
+
+-- what the shown side of a file is called; without a change there are no sides to name
+abbrev pub shown_side : Bool → File → List ℕ
+shown_side selected file = if has_sides file then side_words selected else []
+
 -- what stands on the left of the status row
 abbrev pub left_text : Pager → File → List ℕ
-left_text p file = shown_text file.path ++ side_words p.selected
+left_text p file = shown_text file.path ++ shown_side p.selected file
 
 -- which lines are shown
 abbrev pub lines_text : ℕ → ℕ → ℕ → List ℕ

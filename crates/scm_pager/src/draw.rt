@@ -1,6 +1,7 @@
 //! The page of a pager, as a grid.
 ghost use Rattle.std.specs.Prelude.{◌≡◌, ◌<◌, ◌≤◌, IfErr, IfOk, OnOk, length, string_bytes};
-ghost use Rattle.scm_pager.specs.Pages.{left_text, page_of, place_text, lines_text, right_text, side_words, sign_of, with_line, with_lines, with_status};
+ghost use Rattle.scm_types.specs.Marks.{is_editable_section};
+ghost use Rattle.scm_pager.specs.Pages.{has_sides, left_text, page_of, place_text, lines_text, right_text, shown_side, side_words, sign_of, with_line, with_lines, with_status};
 ghost use Rattle.scm_pager.specs.Windows.{capped_length};
 ghost use Rattle.scm_pager.specs.Sides.{is_replaced, shown_lines};
 ghost use Rattle.scm_errors.specs.declared.error.RecordError.TheVariants.{OutOfMemory};
@@ -10,7 +11,7 @@ use crate::pager::Pager;
 use crate::shown::shown_text;
 use scm_cells::{Grid, text_width};
 use scm_errors::RecordError;
-use scm_types::File;
+use scm_types::{File, Section};
 use std::alloc::Global;
 
 /// Returns the sign of a line: whether it is there by a mark.
@@ -74,13 +75,38 @@ fn side_words(selected: bool) -> &'static str
     }
 }
 
+/// Returns whether `section` changes something.
+fn is_change(section: &Section<'_>) -> bool
+    ensures { result ≡ is_editable_section section.now }
+{
+    section.is_editable()
+}
+
+/// Returns whether `file` has two sides: a section of it changes something.
+fn has_sides(file: &File<'_>) -> bool
+    ensures { result ≡ has_sides file.now }
+{
+    file.sections.as_slice().iter().any(is_change)
+}
+
+/// Returns what the shown side of `file` is called: nothing if the file has no change.
+fn shown_side(selected: bool, file: &File<'_>) -> &'static str
+    ensures { result.now ≡ shown_side selected file.now }
+{
+    if has_sides(file) {
+        side_words(selected)
+    } else {
+        ""
+    }
+}
+
 /// Returns what stands on the left of the status row.
 fn left_text(alloc: Global, pager: Pager, file: &File<'_>) -> Result<String, RecordError>
     ensures ok { IfOk result (λ text. string_bytes text ≡ left_text pager file.now) }
     ensures err { IfErr result (λ e. e ≡ OutOfMemory) }
 {
     let mut text = shown_text(alloc, file.path.as_str())?;
-    text.push_str(side_words(pager.selected))?;
+    text.push_str(shown_side(pager.selected, file))?;
     Ok(text)
 }
 

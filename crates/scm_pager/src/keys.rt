@@ -75,7 +75,9 @@ fn step_of_press(modifiers: KeyModifiers, code: KeyCode) -> Deed
         (CONTROL, KeyCode::Char('b')) => Deed::Step(Step::PageUp),
         (NONE, KeyCode::PageUp) => Deed::Step(Step::PageUp),
         (NONE, KeyCode::Char('g')) => Deed::Step(Step::First),
+        (NONE, KeyCode::Home) => Deed::Step(Step::First),
         (SHIFT, KeyCode::Char('G')) => Deed::Step(Step::Last),
+        (NONE, KeyCode::End) => Deed::Step(Step::Last),
         _ => Deed::Stay,
     }
 }
@@ -91,6 +93,7 @@ fn deed_of_press(modifiers: KeyModifiers, code: KeyCode) -> Deed
         (SHIFT, KeyCode::Char('<')) => Deed::Turn(Turn::Left),
         (NONE, KeyCode::Char('p')) => Deed::Show(true),
         (SHIFT, KeyCode::Char('P')) => Deed::Show(false),
+        (NONE, KeyCode::Char('?')) => Deed::Close,
         (NONE, KeyCode::Esc) => Deed::Close,
         (NONE, KeyCode::Char('q')) => Deed::Close,
         (CONTROL, KeyCode::Char('c')) => Deed::Close,

@@ -77,8 +77,10 @@ const KEYS: [(KeyModifiers, KeyCode, Event); 36] = [
 ];
 
 /// Keys without a row.
-const OTHER_KEYS: [KeyCode; 8] = [
+const OTHER_KEYS: [KeyCode; 10] = [
     KeyCode::Other,
+    KeyCode::Home,
+    KeyCode::End,
     KeyCode::Char('Q'),
     KeyCode::Char('C'),
     KeyCode::Char('H'),

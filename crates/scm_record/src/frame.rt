@@ -25,10 +25,10 @@ use scm_input::TerminalKind;
 use scm_layout::{Layout, StateRows};
 use scm_layout_index::{LayoutIndex, LineRows, OwnerRun, RowOwners, SharedRows, span_of_key};
 use scm_render::{DrawnRects, Viewport};
+use scm_screen::paint_window;
 use scm_types::{LineKey, RecordError, RecordState};
 use scm_view::{AppView, CommitViewMode, ComponentId, SelectionKey, laws};
 use scm_view_state::ViewState;
-use scm_view_state::visible_views::visible_views_show_windows;
 use std::alloc::Global;
 
 /// Where components are on the frame last drawn, in rows of the document and columns of the screen.
@@ -214,13 +214,12 @@ impl DrawnFrame {
     {
         let width = self.grid.width();
         let height = self.grid.height();
-        let part = view_state.visible_view(alloc, layout, scroll, height)?;
-        visible_views_show_windows();
-        part.view.paint_part(alloc, &mut self.grid, part.scroll)?;
+        let view = view_state.overlay_view(alloc)?;
+        paint_window(alloc, &mut self.grid, view_state, layout, &view, scroll)?;
         let index = LayoutIndex::new(
             alloc,
             view_state,
-            &part.view.menu_bar,
+            &view.menu_bar,
             rows,
             width as u16,
             height as u16,

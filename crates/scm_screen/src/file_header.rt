@@ -1,35 +1,18 @@
 //! What the header of a file shows.
-ghost use Rattle.std.specs.Prelude.{◌≡◌, ◌==◌};
+ghost use Rattle.std.specs.Prelude.{◌≡◌};
 ghost use Rattle.scm_document.specs.Rows.{HeaderRow, lent_text, shown_file};
 ghost use Rattle.scm_layout.specs.Counts.{file_counts};
 ghost use Rattle.scm_layout.specs.Rows.{folded_count};
 ghost use Rattle.scm_strips.specs.Shows.{FileRow};
 ghost use Rattle.scm_strips.specs.ShownRows.{row_of};
-ghost use Rattle.scm_types.specs.Keys.{has_key};
-ghost use Rattle.scm_types.specs.declared.keys.SelectionKey.TheVariants as keys;
 ghost use Rattle.scm_view.specs.ViewState.{file_view_of};
-ghost use Rattle.scm_view_state.specs.Folds.{fold_of};
 ghost use Rattle.scm_screen.specs.Headers.{counted_heading};
 
-use crate::boxes::{fold_box, mark_by, toggle_box};
 use scm_layout::FileCounts;
 use scm_strips::Shown;
-use scm_types::{File, FileKey, SelectionKey, Tristate};
+use scm_types::{File, FileKey, SelectionKey};
 use scm_view_state::ViewState;
-
-/// Returns the fold of file `key`, of which `folded` sections of changed lines are folded: `False` if it is
-/// folded itself, `Partial` if any of them is.
-fn file_fold(shown: &ViewState<'_>, key: FileKey, folded: usize) -> Tristate
-    ensures { result ≡ fold_of (has_key shown.now.expanded (keys.File key)) (folded == 0) }
-{
-    if !shown.is_expanded(SelectionKey::File(key)) {
-        Tristate::False
-    } else if folded == 0 {
-        Tristate::True
-    } else {
-        Tristate::Partial
-    }
-}
+use scm_view_state::marks::tristate_by;
 
 /// Returns the path that `file` had before, if it differs.
 fn old_path<'a>(file: &'a File<'_>) -> Option<&'a str>
@@ -55,12 +38,12 @@ pub(crate) fn shown_header<'a>(
         ≡ FileRow (HeaderRow key (shown_file (file_view_of shown.now key file.now)).heading) }
 {
     let header = SelectionKey::File(key);
-    let mark = mark_by(counts.checked, counts.items);
-    let fold = file_fold(shown, key, folded);
+    let mark = tristate_by(counts.checked, counts.items);
+    let fold = shown.counted_fold(key, folded);
     Shown::File {
         key,
-        toggle_box: toggle_box(shown, header, mark),
-        expand_box: fold_box(shown, header, fold),
+        toggle_box: shown.toggle_box(header, mark),
+        expand_box: shown.expand_box(header, fold),
         old_path: old_path(file),
         path: file.path.as_str(),
     }

@@ -6,7 +6,6 @@ pub use document_rows::{document_row, pinned_header};
 pub use overlaid::paint_window;
 pub use paint::paint_document;
 
-mod boxes;
 mod document_rows;
 mod file_header;
 pub mod laws;

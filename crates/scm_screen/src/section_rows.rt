@@ -1,6 +1,6 @@
 //! What each row of a section shows.
 ghost use Rattle.std.specs.Prelude.{◌≡◌, ◌<◌, ◌≤◌, ◌+◌, ◌^◌, length, get_or};
-ghost use Rattle.scm_document.specs.Rows.{SectionRow, MarkRow, changed_row, gap_row, is_selected, numbered_row, row_on, section_box, section_heading, section_height};
+ghost use Rattle.scm_document.specs.Rows.{SectionRow, MarkRow, changed_row, gap_row, is_selected, mark_of, numbered_row, row_on, section_box, section_heading, section_height};
 ghost use Rattle.scm_document.specs.Texts.{binary_text, mode_change_text};
 ghost use Rattle.scm_layout.specs.Counts.{file_counts};
 ghost use Rattle.scm_rows.specs.Context.{place};
@@ -15,7 +15,6 @@ ghost use Rattle.scm_types.specs.Keys.{is_key};
 ghost use Rattle.scm_types.specs.declared.keys.SelectionKey.TheVariants as keys;
 ghost use Rattle.scm_screen.specs.Sections.{view_of};
 
-use crate::boxes::{fold_box, mark_by, mark_of, section_fold, toggle_box};
 use scm_layout::{FileCounts, SectionCounts};
 use scm_rows::SectionPlace;
 use scm_rows::row_kind::{RowKind, row_kind};
@@ -23,9 +22,10 @@ use scm_rows::section_shape::shape_of;
 use scm_strips::Shown;
 use scm_types::keys::is_key;
 use scm_types::{
-    File, FileKey, FileMode, Section, SectionChangedLine, SectionKey, SelectionKey, Text,
+    File, FileKey, FileMode, Section, SectionChangedLine, SectionKey, SelectionKey, Text, Tristate,
 };
 use scm_view_state::ViewState;
+use scm_view_state::marks::tristate_by;
 use scm_widgets::ids::ComponentId;
 use scm_widgets::tristate_box::TristateBox;
 
@@ -79,6 +79,17 @@ fn is_selected(shown: &ViewState<'_>, key: SectionKey) -> bool
     is_key(SelectionKey::Section(key), shown.selection)
 }
 
+/// Returns the mark of one item.
+pub(crate) fn mark_of(is_checked: bool) -> Tristate
+    ensures { result ≡ mark_of is_checked }
+{
+    if is_checked {
+        Tristate::True
+    } else {
+        Tristate::False
+    }
+}
+
 /// Returns the checkbox of a section with one item.
 #[tactic(auto, using(crate::proofs::SectionLemmas::header_selected))]
 fn item_box(
@@ -88,11 +99,7 @@ fn item_box(
 ) -> TristateBox<ComponentId>
     ensures { result ≡ section_box (view_of shown.now counted.entry) is_checked }
 {
-    toggle_box(
-        shown,
-        SelectionKey::Section(counted.key),
-        mark_of(is_checked),
-    )
+    shown.toggle_box(SelectionKey::Section(counted.key), mark_of(is_checked))
 }
 
 /// Returns the header of a section of changed lines.
@@ -103,11 +110,11 @@ fn header(shown: &ViewState<'_>, counted: CountedSection<'_>) -> Shown<'static>
         (section_heading (view_of shown.now counted.entry))) }
 {
     let key = SelectionKey::Section(counted.key);
-    let mark = mark_by(counted.counts.checked, counted.counts.items);
+    let mark = tristate_by(counted.counts.checked, counted.counts.items);
     Shown::Section {
         is_selected: is_selected(shown, counted.key),
-        toggle_box: toggle_box(shown, key, mark),
-        expand_box: fold_box(shown, key, section_fold(shown, counted.key)),
+        toggle_box: shown.toggle_box(key, mark),
+        expand_box: shown.expand_box(key, shown.section_fold(counted.key)),
         number: counted.counts.editable_before + 1,
         total: counted.editable,
     }
@@ -126,7 +133,7 @@ fn changed_line<'a>(
     let key = counted.key.line(index);
     Shown::Line {
         key,
-        toggle_box: toggle_box(shown, SelectionKey::Line(key), mark_of(line.is_checked)),
+        toggle_box: shown.toggle_box(SelectionKey::Line(key), mark_of(line.is_checked)),
         change_type: line.change_type,
         line: line.line.as_str(),
     }

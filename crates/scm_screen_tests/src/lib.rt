@@ -1,5 +1,5 @@
-//! Tests of the screen: of rectangles, masks, texts and the grid, of drawing by sample components, of the views and their indexes, and of
-//! the bytes that a terminal sends and receives.
+//! Tests of the screen: of rectangles, masks, texts and the grid, of drawing by sample components, of the views and their indexes, of rows
+//! painted in an area and the documents and pages that they make, and of the bytes that a terminal sends and receives.
 #![tactic(auto)]
 
 #[cfg(test)]
@@ -15,11 +15,17 @@ mod cells;
 #[cfg(test)]
 mod checks;
 #[cfg(test)]
+mod documents;
+#[cfg(test)]
 mod index;
 #[cfg(test)]
 mod memory;
 #[cfg(test)]
 mod over_letters;
+#[cfg(test)]
+mod owners;
+#[cfg(test)]
+mod pages;
 #[cfg(test)]
 mod painted;
 #[cfg(test)]
@@ -28,6 +34,10 @@ mod paints;
 mod pieces;
 #[cfg(test)]
 mod render;
+#[cfg(test)]
+mod row_samples;
+#[cfg(test)]
+mod rows;
 #[cfg(test)]
 mod same_answers;
 pub mod samples;
@@ -40,5 +50,3 @@ pub mod tags;
 mod terminals;
 #[cfg(test)]
 mod views;
-#[cfg(test)]
-mod visible;

@@ -41,6 +41,12 @@ const TMUX: &[(&[u8], KeyCode, KeyModifiers)] = &[
     (b"\x1b[6~", KeyCode::PageDown, NONE),
     (b"\x1b[5;5~", KeyCode::PageUp, CONTROL),
     (b"\x1b[6;5~", KeyCode::PageDown, CONTROL),
+    (b"\x1b[1~", KeyCode::Home, NONE),
+    (b"\x1b[4~", KeyCode::End, NONE),
+    (b"\x1b[1;5H", KeyCode::Home, CONTROL),
+    (b"\x1b[1;5F", KeyCode::End, CONTROL),
+    (b"\x1b[1;2H", KeyCode::Home, SHIFT),
+    (b"\x1b[1;2F", KeyCode::End, SHIFT),
     (b"\r", KeyCode::Enter, NONE),
     (b" ", KeyCode::Char(' '), NONE),
     (b"A", KeyCode::Char('A'), SHIFT),
@@ -52,9 +58,9 @@ const TMUX: &[(&[u8], KeyCode, KeyModifiers)] = &[
     (b"\xf0\x9f\x99\x82", KeyCode::Char('🙂'), NONE),
 ];
 
-/// Other forms of keys of the key table: xterm's application mode and its older modifiers, rxvt's
-/// arrows and paging keys, and the two forms in which a key is its code: `CSI code ; modifiers u`
-/// and xterm's `CSI 27 ; modifiers ; code ~`.
+/// Other forms of keys: xterm's application mode and its older modifiers, xterm's and rxvt's Home
+/// and End, rxvt's arrows and paging keys, and the two forms in which a key is its code:
+/// `CSI code ; modifiers u` and xterm's `CSI 27 ; modifiers ; code ~`.
 const OTHER_FORMS: &[(&[u8], KeyCode, KeyModifiers)] = &[
     (b"\x1bOA", KeyCode::Up, NONE),
     (b"\x1bO5A", KeyCode::Up, CONTROL),
@@ -67,6 +73,17 @@ const OTHER_FORMS: &[(&[u8], KeyCode, KeyModifiers)] = &[
     (b"\x1bOb", KeyCode::Down, CONTROL),
     (b"\x1b[5^", KeyCode::PageUp, CONTROL),
     (b"\x1b[6^", KeyCode::PageDown, CONTROL),
+    (b"\x1b[H", KeyCode::Home, NONE),
+    (b"\x1b[F", KeyCode::End, NONE),
+    (b"\x1bOH", KeyCode::Home, NONE),
+    (b"\x1bOF", KeyCode::End, NONE),
+    (b"\x1bO5H", KeyCode::Home, CONTROL),
+    (b"\x1b[7~", KeyCode::Home, NONE),
+    (b"\x1b[8~", KeyCode::End, NONE),
+    (b"\x1b[7^", KeyCode::Home, CONTROL),
+    (b"\x1b[8^", KeyCode::End, CONTROL),
+    (b"\x1b[1;2~", KeyCode::Home, SHIFT),
+    (b"\x1b[4;5~", KeyCode::End, CONTROL),
     (b"\x1b[97u", KeyCode::Char('a'), NONE),
     (b"\x1b[97;1u", KeyCode::Char('a'), NONE),
     (b"\x1b[97;2u", KeyCode::Char('A'), SHIFT),
@@ -90,9 +107,14 @@ const OTHER_FORMS: &[(&[u8], KeyCode, KeyModifiers)] = &[
 /// Bytes that act as no key: keys outside the table, as tmux, xterm, kitty, VTE and the Linux
 /// console send them, reports, and late answers.
 const OTHERS: &[&[u8]] = &[
-    b"\x1b[1~",
-    b"\x1b[H",
-    b"\x1bOF",
+    b"\x1b[2~",
+    b"\x1b[3~",
+    b"\x1b[9~",
+    b"\x1b[E",
+    b"\x1b[G",
+    b"\x1bOG",
+    b"\x1b[2;5H",
+    b"\x1b[h",
     b"\x1bOP",
     b"\x1b[15~",
     b"\x1b[1;5P",

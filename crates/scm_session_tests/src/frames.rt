@@ -11,26 +11,22 @@ use std::process::Abort;
 /// take. The most rows are one more than the screen has. The most calls are eight for each of these
 /// rows, and forty more.
 ///
-/// A row of the document counts if it is on the screen. The header of a file or of a section takes
-/// four calls (expand box, blank, toggle box, title). A changed line, a mode and a binary change take
-/// two (toggle box, text). A line of context, the dots and a blank row take one. A sticky header is
-/// one row more. The menu bar takes five (a blank and four titles), and an open menu two for each
-/// item.
-///
-/// Only files and sections that have a row below the menu bar are drawn, and the header of the first
-/// of these files. So the row under the menu bar counts if it is one of theirs, not if it is the
-/// message's; and it is that header if a section below it is the first to be drawn.
+/// A row of the document counts if the screen shows it: not the row under the menu bar, and not the
+/// row under a sticky header. The header of a file or of a section takes four calls (expand box,
+/// blank, toggle box, title). A changed line, a mode and a binary change take two (toggle box, text).
+/// A line of context, the dots and a blank row take one. A sticky header is a row too. The menu bar
+/// takes five (a blank and four titles), and an open menu two for each item.
 const INLINE: &str = "
 # A file of ten lines, and one of ten thousand, scrolled by a row.
-24 8 t lljjjjj => 9 29 of 9 112
-24 8 L lljjjjj => 9 29 of 9 112
+24 8 t lljjjjj => 7 21 of 9 112
+24 8 L lljjjjj => 7 21 of 9 112
 # No files: the words that say so stand in the middle, below the message's three rows, of which the second takes three calls, the others one.
 10 2 - - => 1 6 of 3 64
 24 8 - - => 1 6 of 9 112
 300 100 - - => 1 6 of 101 848
 24 8 !- - => 4 11 of 9 112
-24 8 !- d => 4 11 of 9 112
-24 8 !- dd => 3 10 of 9 112
+24 8 !- d => 3 10 of 9 112
+24 8 !- dd => 2 7 of 9 112
 # A folded file, and each menu: two calls for each of its 2, 5, 9 or 6 items.
 80 24 . - => 1 9 of 25 240
 80 24 . A => 1 13 of 25 240
@@ -53,31 +49,31 @@ const INLINE: &str = "
 300 100 k Cq? => 1 32 of 101 848
 # Two sections with context between them, from each row on that a screen can begin with.
 24 8 x7y l => 7 19 of 9 112
-24 8 x7y ld => 9 24 of 9 112
-24 8 x7y ldd => 9 21 of 9 112
-24 8 x7y lddd => 9 18 of 9 112
-24 8 x7y ldddd => 9 20 of 9 112
-24 8 x7y lddddd => 9 21 of 9 112
-24 8 x7y ldddddd => 8 20 of 9 112
-24 8 x7y lddddddd => 7 19 of 9 112
-24 8 x7y ldddddddd => 6 18 of 9 112
-24 8 x7y lddddddddd => 5 17 of 9 112
-24 8 x7y ldddddddddd => 4 19 of 9 112
-24 8 x7y lddddddddddd => 3 15 of 9 112
+24 8 x7y ld => 7 16 of 9 112
+24 8 x7y ldd => 7 15 of 9 112
+24 8 x7y lddd => 7 15 of 9 112
+24 8 x7y ldddd => 7 18 of 9 112
+24 8 x7y lddddd => 7 19 of 9 112
+24 8 x7y ldddddd => 6 18 of 9 112
+24 8 x7y lddddddd => 5 17 of 9 112
+24 8 x7y ldddddddd => 4 16 of 9 112
+24 8 x7y lddddddddd => 3 15 of 9 112
+24 8 x7y ldddddddddd => 2 11 of 9 112
+24 8 x7y lddddddddddd => 1 9 of 9 112
 10 2 x7y l => 1 9 of 3 64
-10 2 x7y ldd => 3 15 of 3 64
-10 2 x7y ldddddd => 3 11 of 3 64
-10 3 x7y ldd => 4 16 of 4 72
+10 2 x7y ldd => 1 9 of 3 64
+10 2 x7y ldddddd => 1 9 of 3 64
+10 3 x7y ldd => 2 10 of 4 72
 80 24 x7y l => 12 28 of 25 240
-300 100 x7y ldd => 12 28 of 101 848
+300 100 x7y ldd => 10 22 of 101 848
 # Rows of every kind, in two files under a message.
 10 2 !x7y0mb,t F => 1 9 of 3 64
-10 2 !x7y0mb,t Fddddd => 3 11 of 3 64
-24 8 !x7y0mb,t Fp => 9 23 of 9 112
-24 8 !x7y0mb,t Fpp => 9 29 of 9 112
-24 8 !x7y0mb,t Fppp => 5 17 of 9 112
+10 2 !x7y0mb,t Fddddd => 1 9 of 3 64
+24 8 !x7y0mb,t Fp => 7 21 of 9 112
+24 8 !x7y0mb,t Fpp => 7 21 of 9 112
+24 8 !x7y0mb,t Fppp => 3 13 of 9 112
 80 24 !x7y0mb,t F => 23 52 of 25 240
-80 24 !x7y0mb,t Fdddddddddddddd => 18 48 of 25 240
+80 24 !x7y0mb,t Fdddddddddddddd => 16 42 of 25 240
 300 100 !x7y0mb,t F => 30 66 of 101 848
 300 100 !x7y0mb,t FCq? => 30 89 of 101 848
 # The same, all folded.

@@ -9,8 +9,9 @@ ghost use Rattle.scm_errors.specs.declared.error.RecordError.TheVariants.{OutOfM
 
 use crate::area::{Area, end_column};
 use crate::puts::{draw_blank, draw_fold, draw_piece, say};
-use crate::texts::{box_text, renamed_text, section_text};
+use crate::texts::renamed_text;
 use scm_cells::Grid;
+use scm_document::texts::section_text;
 use scm_types::RecordError;
 use scm_widgets::ids::ComponentId;
 use scm_widgets::tristate_box::TristateBox;
@@ -37,9 +38,9 @@ fn draw_heading(
     let end = end_column(grid, area);
     let low = area.left + indent;
     let high = area.left + area.width.saturating_sub(3);
-    draw_fold(grid, row, box_text(expand_box), area.left, end)?;
+    draw_fold(grid, row, expand_box.text(), area.left, end)?;
     draw_blank(grid, row, low, high);
-    draw_piece(grid, row, low, box_text(toggle_box), low, high)?;
+    draw_piece(grid, row, low, toggle_box.text(), low, high)?;
     say(grid, row, low + 4, title, low, high)
 }
 

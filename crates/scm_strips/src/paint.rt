@@ -12,11 +12,12 @@ use crate::headings::{draw_file, draw_section};
 use crate::lines::say_line;
 use crate::puts::{draw_blank, draw_piece, say};
 use crate::shown::Shown;
-use crate::texts::{
-    binary_text, box_text, divider_text, dots_text, edit_text, message_text, mode_change_text,
-    no_files_text, number_text, sign_text,
-};
+use crate::texts::edit_text;
 use scm_cells::Grid;
+use scm_document::texts::{
+    binary_text, divider_text, dots_text, message_text, mode_change_text, no_files_text,
+    number_text, sign_text,
+};
 use scm_render::centred_gap;
 use scm_types::{ChangeType, FileMode, RecordError, Text};
 use scm_widgets::ids::ComponentId;
@@ -42,7 +43,7 @@ fn draw_line(
 {
     let low = area.left;
     let high = end_column(grid, area);
-    draw_piece(grid, row, low + 4, box_text(toggle_box), low, high)?;
+    draw_piece(grid, row, low + 4, toggle_box.text(), low, high)?;
     say_line(
         alloc,
         grid,
@@ -94,7 +95,7 @@ fn draw_mark(
 {
     let low = area.left;
     let high = end_column(grid, area);
-    draw_piece(grid, row, low + 2, box_text(toggle_box), low, high)?;
+    draw_piece(grid, row, low + 2, toggle_box.text(), low, high)?;
     say(grid, row, low + 6, text, low, high)
 }
 

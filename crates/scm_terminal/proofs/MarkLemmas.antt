@@ -19,7 +19,7 @@ use Rattle.scm_terminal.specs.declared.tokens.Token.{Token}
 use Rattle.scm_terminal.specs.declared.tokens.Token.TheVariants.{Event, PasteBegins, PasteEnds}
 use Rattle.scm_terminal.specs.Bytes.{begins_control_string, is_between, is_continuation, is_final, is_parameter, is_digit}
 use Rattle.scm_terminal.specs.ByteKeys.{byte_key}
-use Rattle.scm_terminal.specs.Sequences.{key_modifiers, modifiers_of, unrecognized_token, new_sequence, with_parameter, token_of, token_by, key_token, control_paging_token, typed_token, old_mouse_token, arrow_token, key_with, typed_key, arrow, paging, key_number, is_mark, is_blank, is_csi, counted, with_digit, with_semicolon, trailing_bytes}
+use Rattle.scm_terminal.specs.Sequences.{key_modifiers, modifiers_of, unrecognized_token, new_sequence, with_parameter, token_of, token_by, key_token, control_numbered_token, typed_token, old_mouse_token, lettered_token, key_with, typed_key, lettered_key, numbered_key, key_number, is_mark, is_blank, is_csi, counted, with_digit, with_semicolon, trailing_bytes}
 use Rattle.scm_terminal.specs.Characters.{char_token, part, bits_with, lead_character, with_continuation}
 use Rattle.scm_terminal.specs.Streams.{Split, with_token, Found, Unfinished, Finished, character, after_lead, after_start, trailing, sequence, control_string, escape_key, after_escape, first, split_from, token_events, pasted_after, AreOther, StayPasted, HasMark, paste_end}
 use Rattle.scm_input.specs.declared.terminal.KeyCode.{KeyCode}
@@ -121,39 +121,39 @@ typed-plain held code =
     (if-plain (code == 9 || code == 13) _ _ refl
     (if-plain (is_between 32 126 code) _ _ refl refl))
 
-arrow-plain : (held : KeyModifiers) (q : Sequence) (last : ℕ) → is_end (arrow_token held q last) ≡ false
-arrow-plain held q last =
+lettered-plain : (held : KeyModifiers) (q : Sequence) (last : ℕ) → is_end (lettered_token held q last) ≡ false
+lettered-plain held q last =
     if-plain (is_between 97 100 last) _ _
-    (if-plain (q.bytes == 0) _ _ (with-plain held (arrow (last - 32))) refl)
-    (if-plain (nat_lt q.semicolons 2 && nat_le q.second 1) _ _ (with-plain (modifiers_of q.last) (arrow last)) refl)
+    (if-plain (q.bytes == 0) _ _ (with-plain held (lettered_key (last - 32))) refl)
+    (if-plain (nat_lt q.semicolons 2 && nat_le q.second 1) _ _ (with-plain (modifiers_of q.last) (lettered_key last)) refl)
 
 -- what a final byte makes that is no tilde
 final-token : Sequence → ℕ → Token
 final-token q b =
-    if b == 94 then control_paging_token q
+    if b == 94 then control_numbered_token q
     else if b == 117 then typed_token q
     else if b == 77 then old_mouse_token q
-    else arrow_token shift q b
+    else lettered_token shift q b
 
 final-plain : (q : Sequence) (b : ℕ) → is_end (final-token q b) ≡ false
 unfolding final-token
 final-plain q b =
-    if-plain (b == 94) _ _ (if-plain (q.semicolons == 0) _ _ (with-plain control (paging q.last)) refl)
+    if-plain (b == 94) _ _ (if-plain (q.semicolons == 0) _ _ (with-plain control (numbered_key q.last)) refl)
     (if-plain (b == 117) _ _ (if-plain (nat_lt q.semicolons 2) _ _ (typed-plain (key_modifiers q) (key_number q)) refl)
     (if-plain (b == 77) _ _ (event-plain (q.semicolons == 2 && nat_le 32 q.first) (mouse_event true (q.first - 32) q.second q.last))
-    (arrow-plain shift q b)))
+    (lettered-plain shift q b)))
 
 -- what a tilde makes that is no mark
 tilde-rest : Sequence → Token
 tilde-rest q =
-    if nat_lt q.semicolons 2 then key_with (key_modifiers q) (paging (key_number q))
+    if nat_lt q.semicolons 2 then key_with (key_modifiers q) (numbered_key (key_number q))
     else if q.first == 27 then typed_key (modifiers_of q.second) q.last
     else unrecognized_token
 
 tilde-plain : (q : Sequence) → is_end (tilde-rest q) ≡ false
 unfolding tilde-rest
 tilde-plain q =
-    if-plain (nat_lt q.semicolons 2) _ _ (with-plain (key_modifiers q) (paging (key_number q)))
+    if-plain (nat_lt q.semicolons 2) _ _ (with-plain (key_modifiers q) (numbered_key (key_number q)))
     (if-plain (q.first == 27) _ _ (typed-plain (modifiers_of q.second) q.last) refl)
 
 key-is : (q : Sequence) (b : ℕ)
@@ -193,7 +193,7 @@ token-plain q b s = at q.kind refl
   where
     at : (k : SequenceKind) → q.kind ≡ k → is_end (token_by k q b) ≡ false
     at Csi e = key-plain q b (mark-not q 201 s (ap is_csi e))
-    at Ss3 e = arrow-plain control q b
+    at Ss3 e = lettered-plain control q b
     at Mouse e = event-plain (q.semicolons == 2 && (b == 77 || b == 109)) (mouse_event (b == 77) q.first q.second q.last)
     at Unknown e = refl
 

@@ -1,5 +1,5 @@
 -- The grammar and the decoder name the same keys.
-use Rattle.std.proofs.Common.{◌≡◌, refl, sym, ◌∙◌, ap, subst, ℕ, suc, ◌+◌, ◌-◌, ◌*◌, ◌≤◌, ◌<◌, Bool, true, false, ◌==◌, ◌&&◌, ◌||◌, nat_le, nat_lt, List, [], ◌∷◌, ◌++◌, length, Option, Some, None, fold, arith, ◌⊎◌, inl, inr, ⊎_elim, if◌then◌else◌}
+use Rattle.std.proofs.Common.{◌≡◌, refl, sym, ◌∙◌, ap, subst, ℕ, suc, ◌+◌, ◌-◌, ◌*◌, ◌≤◌, ◌<◌, Bool, true, false, ◌==◌, ◌&&◌, ◌||◌, nat_le, nat_lt, List, [], ◌∷◌, ◌++◌, length, Option, Some, None, fold, arith, ◌⊎◌, inl, inr, if◌then◌else◌}
 use Rattle.std.specs.Prelude.{option_map}
 use Rattle.std.proofs.lemmas.Bool.{and_parts, eqb-true}
 use Rattle.std.proofs.lemmas.Bool.Decides.{nat_tests}
@@ -15,10 +15,10 @@ use Rattle.scm_terminal.specs.declared.sequences.SequenceKind.TheVariants.{Csi, 
 use Rattle.scm_terminal.specs.declared.tokens.Token.{Token}
 use Rattle.scm_terminal.specs.declared.tokens.Token.TheVariants.{Event}
 use Rattle.scm_terminal.specs.Bytes.{is_digit}
-use Rattle.scm_terminal.specs.Sequences.{unrecognized_token, new_sequence, with_parameter, counted, modifiers_of, key_with, typed_key, arrow, paging, token_of, token_by, tilde_token, is_mark}
+use Rattle.scm_terminal.specs.Sequences.{unrecognized_token, new_sequence, with_parameter, counted, modifiers_of, key_with, typed_key, lettered_key, numbered_key, token_of, token_by, tilde_token, is_mark}
 use Rattle.scm_terminal.specs.Streams.{Finished, first, with_token, split_from, split}
 use Rattle.scm_terminal.specs.Tearing.{IsToken}
-use Rattle.scm_terminal.specs.Grammar.{Parts, written, numbers_from, are_small, key_by, arrow_by, IsKey}
+use Rattle.scm_terminal.specs.Grammar.{Parts, written, numbers_from, are_small, key_by, lettered_by, IsKey}
 use Rattle.scm_terminal.proofs.StreamLemmas.{split_says, split_nil, skip}
 use Rattle.scm_terminal.proofs.GrammarLemmas.{kind_of, token_of_parts, token_is}
 
@@ -117,33 +117,46 @@ reading (b ∷ bs) q ns e s l =
 no_key : (key : KeyEvent) → unrecognized_token ≡ Event (terminal.Key key) → ⊥
 no_key key e = let f : terminal.Other ≡ terminal.Key key = cc in cc
 
--- an arrow's letter
-pages : (held : KeyModifiers) (n : ℕ) (key : KeyEvent) → key_with held (paging n) ≡ Event (terminal.Key key) → (n ≡ 5) ⊎ (n ≡ 6)
-pages held n key e = at (n == 5) refl (n == 6) refl e
+-- the number of a key
+small_number : (held : KeyModifiers) (n : ℕ) (key : KeyEvent) → key_with held (numbered_key n) ≡ Event (terminal.Key key) → n ≤ 8
+small_number held n key e = at (n == 1 || n == 7) refl (n == 4 || n == 8) refl (n == 5) refl (n == 6) refl e
   where
-    at : (s : Bool) → (n == 5) ≡ s → (t : Bool) → (n == 6) ≡ t → key_with held (if s then Some code.PageUp else if t then Some code.PageDown else None) ≡ Event (terminal.Key key) → (n ≡ 5) ⊎ (n ≡ 6)
-    at true f t g h = inl (eqb-true n 5 f)
-    at false f true g h = inr (eqb-true n 6 g)
-    at false f false g h = absurd (no_key key h)
+    at : (h : Bool) → (n == 1 || n == 7) ≡ h → (l : Bool) → (n == 4 || n == 8) ≡ l → (u : Bool) → (n == 5) ≡ u → (d : Bool) → (n == 6) ≡ d
+        → key_with held (if h then Some code.Home else if l then Some code.End else if u then Some code.PageUp else if d then Some code.PageDown else None) ≡ Event (terminal.Key key)
+        → n ≤ 8
+    at true a l b u c d f g = grind (arith, nat_tests)
+    at false a true b u c d f g = grind (arith, nat_tests)
+    at false a false b true c d f g = grind (arith, nat_tests)
+    at false a false b false c true f g = grind (arith, nat_tests)
+    at false a false b false c false f g = absurd (no_key key g)
 
-points : (held : KeyModifiers) (f : ℕ) (key : KeyEvent) → key_with held (arrow f) ≡ Event (terminal.Key key) → ((f ≡ 65) ⊎ (f ≡ 66)) ⊎ ((f ≡ 67) ⊎ (f ≡ 68))
-points held f key e = at (f == 65) refl (f == 66) refl (f == 67) refl (f == 68) refl e
+-- the letters of keys
+abbrev IsLetter : ℕ → Type 0
+IsLetter f = (f ≡ 65) ⊎ ((f ≡ 66) ⊎ ((f ≡ 67) ⊎ ((f ≡ 68) ⊎ ((f ≡ 72) ⊎ (f ≡ 70)))))
+
+points : (held : KeyModifiers) (f : ℕ) (key : KeyEvent) → key_with held (lettered_key f) ≡ Event (terminal.Key key) → IsLetter f
+points held f key e = at (f == 65) refl (f == 66) refl (f == 67) refl (f == 68) refl (f == 72) refl (f == 70) refl e
   where
     at : (s : Bool) → (f == 65) ≡ s → (t : Bool) → (f == 66) ≡ t → (u : Bool) → (f == 67) ≡ u → (v : Bool) → (f == 68) ≡ v
-        → key_with held (if s then Some code.Up else if t then Some code.Down else if u then Some code.Right else if v then Some code.Left else None) ≡ Event (terminal.Key key)
-        → ((f ≡ 65) ⊎ (f ≡ 66)) ⊎ ((f ≡ 67) ⊎ (f ≡ 68))
-    at true a t b u c v d h = inl (inl (eqb-true f 65 a))
-    at false a true b u c v d h = inl (inr (eqb-true f 66 b))
-    at false a false b true c v d h = inr (inl (eqb-true f 67 c))
-    at false a false b false c true d h = inr (inr (eqb-true f 68 d))
-    at false a false b false c false d h = absurd (no_key key h)
+        → (x : Bool) → (f == 72) ≡ x → (y : Bool) → (f == 70) ≡ y
+        → key_with held (if s then Some code.Up else if t then Some code.Down else if u then Some code.Right else if v then Some code.Left else if x then Some code.Home else if y then Some code.End else None) ≡ Event (terminal.Key key)
+        → IsLetter f
+    at true a t b u c v d x k y l h = inl (eqb-true f 65 a)
+    at false a true b u c v d x k y l h = inr (inl (eqb-true f 66 b))
+    at false a false b true c v d x k y l h = inr (inr (inl (eqb-true f 67 c)))
+    at false a false b false c true d x k y l h = inr (inr (inr (inl (eqb-true f 68 d))))
+    at false a false b false c false d true k y l h = inr (inr (inr (inr (inl (eqb-true f 72 k)))))
+    at false a false b false c false d false k true l h = inr (inr (inr (inr (inr (eqb-true f 70 l)))))
+    at false a false b false c false d false k false l h = absurd (no_key key h)
 
--- a property of the letters of arrows
-by_letter : (P : ℕ → Type 0) → P 65 → P 66 → P 67 → P 68 → (f : ℕ) → ((f ≡ 65) ⊎ (f ≡ 66)) ⊎ ((f ≡ 67) ⊎ (f ≡ 68)) → P f
-by_letter P a b c d f (inl (inl e)) = subst P (sym e) a
-by_letter P a b c d f (inl (inr e)) = subst P (sym e) b
-by_letter P a b c d f (inr (inl e)) = subst P (sym e) c
-by_letter P a b c d f (inr (inr e)) = subst P (sym e) d
+-- a property of the letters of keys
+by_letter : (P : ℕ → Type 0) → P 65 → P 66 → P 67 → P 68 → P 72 → P 70 → (f : ℕ) → IsLetter f → P f
+by_letter P a b c d h l f (inl e) = subst P (sym e) a
+by_letter P a b c d h l f (inr (inl e)) = subst P (sym e) b
+by_letter P a b c d h l f (inr (inr (inl e))) = subst P (sym e) c
+by_letter P a b c d h l f (inr (inr (inr (inl e)))) = subst P (sym e) d
+by_letter P a b c d h l f (inr (inr (inr (inr (inl e))))) = subst P (sym e) h
+by_letter P a b c d h l f (inr (inr (inr (inr (inr e))))) = subst P (sym e) l
 
 -- a sequence of numbers
 abbrev of_numbers : SequenceKind → ℕ → ℕ → ℕ → ℕ → ℕ → Sequence
@@ -154,20 +167,21 @@ and_false true = refl
 and_false false = refl
 
 -- what a tilde makes
-tilde_one : (c n : ℕ) (key : KeyEvent) → key_with none (paging n) ≡ Event (terminal.Key key) → tilde_token (of_numbers Csi c 0 0 0 n) ≡ Event (terminal.Key key)
-tilde_one c n key e = ⊎_elim (λ (f : n ≡ 5). at 5 refl refl f) (λ (f : n ≡ 6). at 6 refl refl f) (pages none n key e)
+tilde_one : (c n : ℕ) (key : KeyEvent) → key_with none (numbered_key n) ≡ Event (terminal.Key key) → tilde_token (of_numbers Csi c 0 0 0 n) ≡ Event (terminal.Key key)
+tilde_one c n key e =
+    let low = small_number none n key e in
+    let one : (n == 200) ≡ false = grind (arith, nat_tests) in
+    let two : (n == 201) ≡ false = grind (arith, nat_tests) in
+    rw (no_number 200 one, no_number 201 two) e
   where
-    at : (m : ℕ) → (m == 200) ≡ false → (m == 201) ≡ false → n ≡ m → tilde_token (of_numbers Csi c 0 0 0 n) ≡ Event (terminal.Key key)
-    at m f g h =
-        let one : is_mark (of_numbers Csi c 0 0 0 n) 200 ≡ false = ap (λ (k : ℕ). ((c == 3) && true) && (k == 200)) h ∙ ap (λ (t : Bool). ((c == 3) && true) && t) f ∙ and_false ((c == 3) && true) in
-        let two : is_mark (of_numbers Csi c 0 0 0 n) 201 ≡ false = ap (λ (k : ℕ). ((c == 3) && true) && (k == 201)) h ∙ ap (λ (t : Bool). ((c == 3) && true) && t) g ∙ and_false ((c == 3) && true) in
-        rw (one, two) e
+    no_number : (number : ℕ) → (n == number) ≡ false → is_mark (of_numbers Csi c 0 0 0 n) number ≡ false
+    no_number number f = ap (λ (t : Bool). ((c == 3) && true) && t) f ∙ and_false ((c == 3) && true)
 
 no_mark : (c semicolons first second last number : ℕ) → (semicolons == 0) ≡ false → is_mark (of_numbers Csi c semicolons first second last) number ≡ false
 no_mark c semicolons first second last number e =
     ap (λ (t : Bool). ((c == 3) && t) && (last == number)) e ∙ ap (λ (t : Bool). t && (last == number)) (and_false (c == 3))
 
-tilde_two : (c n m : ℕ) (key : KeyEvent) → key_with (modifiers_of m) (paging n) ≡ Event (terminal.Key key) → tilde_token (of_numbers Csi c 1 0 n m) ≡ Event (terminal.Key key)
+tilde_two : (c n m : ℕ) (key : KeyEvent) → key_with (modifiers_of m) (numbered_key n) ≡ Event (terminal.Key key) → tilde_token (of_numbers Csi c 1 0 n m) ≡ Event (terminal.Key key)
 tilde_two c n m key e = rw (no_mark c 1 0 n m 200 refl, no_mark c 1 0 n m 201 refl) e
 
 tilde_three : (c n m k : ℕ) (key : KeyEvent) → (if n == 27 then typed_key (modifiers_of m) k else unrecognized_token) ≡ Event (terminal.Key key)
@@ -187,19 +201,19 @@ csi_one c n f key e = at (f == 126) refl (f == 117) refl e
     q = of_numbers Csi c 0 0 0 n
 
     at : (s : Bool) → (f == 126) ≡ s → (t : Bool) → (f == 117) ≡ t
-        → (if s then key_with none (paging n) else if t then typed_key none n else key_with (modifiers_of n) (arrow f)) ≡ Event (terminal.Key key) → Good f (token_by Csi q f) key
+        → (if s then key_with none (numbered_key n) else if t then typed_key none n else key_with (modifiers_of n) (lettered_key f)) ≡ Event (terminal.Key key) → Good f (token_by Csi q f) key
     at true a t b h = subst (λ (f : ℕ). Good f (token_by Csi q f) key) (sym (eqb-true f 126 a)) (refl, tilde_one c n key h)
     at false a true b h = subst (λ (f : ℕ). Good f (token_by Csi q f) key) (sym (eqb-true f 117 b)) (refl, h)
     at false a false b h =
-        by_letter (λ (f : ℕ). key_with (modifiers_of n) (arrow f) ≡ Event (terminal.Key key) → Good f (token_by Csi q f) key)
-        (λ h. (refl, h)) (λ h. (refl, h)) (λ h. (refl, h)) (λ h. (refl, h)) f (points (modifiers_of n) f key h) h
+        by_letter (λ (f : ℕ). key_with (modifiers_of n) (lettered_key f) ≡ Event (terminal.Key key) → Good f (token_by Csi q f) key)
+        (λ h. (refl, h)) (λ h. (refl, h)) (λ h. (refl, h)) (λ h. (refl, h)) (λ h. (refl, h)) (λ h. (refl, h)) f (points (modifiers_of n) f key h) h
 
--- of an arrow with a number before its modifiers
-letter_two : (n m f : ℕ) (key : KeyEvent) → (if nat_le n 1 then key_with (modifiers_of m) (arrow f) else unrecognized_token) ≡ Event (terminal.Key key)
-    → ((f ≡ 65) ⊎ (f ≡ 66)) ⊎ ((f ≡ 67) ⊎ (f ≡ 68))
+-- of a lettered key with a number before its modifiers
+letter_two : (n m f : ℕ) (key : KeyEvent) → (if nat_le n 1 then key_with (modifiers_of m) (lettered_key f) else unrecognized_token) ≡ Event (terminal.Key key)
+    → IsLetter f
 letter_two n m f key e = at (nat_le n 1) e
   where
-    at : (t : Bool) → (if t then key_with (modifiers_of m) (arrow f) else unrecognized_token) ≡ Event (terminal.Key key) → ((f ≡ 65) ⊎ (f ≡ 66)) ⊎ ((f ≡ 67) ⊎ (f ≡ 68))
+    at : (t : Bool) → (if t then key_with (modifiers_of m) (lettered_key f) else unrecognized_token) ≡ Event (terminal.Key key) → IsLetter f
     at true h = points (modifiers_of m) f key h
     at false h = absurd (no_key key h)
 
@@ -210,13 +224,13 @@ csi_two c n m f key e = at (f == 126) refl (f == 117) refl e
     q = of_numbers Csi c 1 0 n m
 
     at : (s : Bool) → (f == 126) ≡ s → (t : Bool) → (f == 117) ≡ t
-        → (if s then key_with (modifiers_of m) (paging n) else if t then typed_key (modifiers_of m) n else if nat_le n 1 then key_with (modifiers_of m) (arrow f) else unrecognized_token)
+        → (if s then key_with (modifiers_of m) (numbered_key n) else if t then typed_key (modifiers_of m) n else if nat_le n 1 then key_with (modifiers_of m) (lettered_key f) else unrecognized_token)
         ≡ Event (terminal.Key key) → Good f (token_by Csi q f) key
     at true a t b h = subst (λ (f : ℕ). Good f (token_by Csi q f) key) (sym (eqb-true f 126 a)) (refl, tilde_two c n m key h)
     at false a true b h = subst (λ (f : ℕ). Good f (token_by Csi q f) key) (sym (eqb-true f 117 b)) (refl, h)
     at false a false b h =
-        by_letter (λ (f : ℕ). (if nat_le n 1 then key_with (modifiers_of m) (arrow f) else unrecognized_token) ≡ Event (terminal.Key key) → Good f (token_by Csi q f) key)
-        (λ h. (refl, h)) (λ h. (refl, h)) (λ h. (refl, h)) (λ h. (refl, h)) f (letter_two n m f key h) h
+        by_letter (λ (f : ℕ). (if nat_le n 1 then key_with (modifiers_of m) (lettered_key f) else unrecognized_token) ≡ Event (terminal.Key key) → Good f (token_by Csi q f) key)
+        (λ h. (refl, h)) (λ h. (refl, h)) (λ h. (refl, h)) (λ h. (refl, h)) (λ h. (refl, h)) (λ h. (refl, h)) f (letter_two n m f key h) h
 
 csi_three : (c n m k f : ℕ) (key : KeyEvent) → key_by 91 (n ∷ m ∷ k ∷ []) f ≡ Event (terminal.Key key) → Good f (token_by Csi (of_numbers Csi c 2 n m k) f) key
 csi_three c n m k f key e = at (f == 126) refl (f == 117) e
@@ -231,15 +245,15 @@ csi_three c n m k f key e = at (f == 126) refl (f == 117) e
     at false a true h = absurd (no_key key h)
     at false a false h = absurd (no_key key h)
 
-ss3_one : (c n f : ℕ) (key : KeyEvent) → arrow_by (n ∷ []) f ≡ Event (terminal.Key key) → Good f (token_by Ss3 (of_numbers Ss3 c 0 0 0 n) f) key
+ss3_one : (c n f : ℕ) (key : KeyEvent) → lettered_by (n ∷ []) f ≡ Event (terminal.Key key) → Good f (token_by Ss3 (of_numbers Ss3 c 0 0 0 n) f) key
 ss3_one c n f key e =
-    by_letter (λ (f : ℕ). key_with (modifiers_of n) (arrow f) ≡ Event (terminal.Key key) → Good f (token_by Ss3 (of_numbers Ss3 c 0 0 0 n) f) key)
-    (λ h. (refl, h)) (λ h. (refl, h)) (λ h. (refl, h)) (λ h. (refl, h)) f (points (modifiers_of n) f key e) e
+    by_letter (λ (f : ℕ). key_with (modifiers_of n) (lettered_key f) ≡ Event (terminal.Key key) → Good f (token_by Ss3 (of_numbers Ss3 c 0 0 0 n) f) key)
+    (λ h. (refl, h)) (λ h. (refl, h)) (λ h. (refl, h)) (λ h. (refl, h)) (λ h. (refl, h)) (λ h. (refl, h)) f (points (modifiers_of n) f key e) e
 
-ss3_two : (c n m f : ℕ) (key : KeyEvent) → arrow_by (n ∷ m ∷ []) f ≡ Event (terminal.Key key) → Good f (token_by Ss3 (of_numbers Ss3 c 1 0 n m) f) key
+ss3_two : (c n m f : ℕ) (key : KeyEvent) → lettered_by (n ∷ m ∷ []) f ≡ Event (terminal.Key key) → Good f (token_by Ss3 (of_numbers Ss3 c 1 0 n m) f) key
 ss3_two c n m f key e =
-    by_letter (λ (f : ℕ). (if nat_le n 1 then key_with (modifiers_of m) (arrow f) else unrecognized_token) ≡ Event (terminal.Key key) → Good f (token_by Ss3 (of_numbers Ss3 c 1 0 n m) f) key)
-    (λ h. (refl, h)) (λ h. (refl, h)) (λ h. (refl, h)) (λ h. (refl, h)) f (letter_two n m f key e) e
+    by_letter (λ (f : ℕ). (if nat_le n 1 then key_with (modifiers_of m) (lettered_key f) else unrecognized_token) ≡ Event (terminal.Key key) → Good f (token_by Ss3 (of_numbers Ss3 c 1 0 n m) f) key)
+    (λ h. (refl, h)) (λ h. (refl, h)) (λ h. (refl, h)) (λ h. (refl, h)) (λ h. (refl, h)) (λ h. (refl, h)) f (letter_two n m f key e) e
 
 -- ---- the sequence
 
@@ -262,7 +276,7 @@ csi_good (n ∷ m ∷ k ∷ l ∷ ns) f key e = absurd (at (f == 126) (f == 117)
     at false true h = no_key key h
     at false false h = no_key key h
 
-ss3_good : (numbers : List ℕ) (f : ℕ) (key : KeyEvent) → arrow_by numbers f ≡ Event (terminal.Key key)
+ss3_good : (numbers : List ℕ) (f : ℕ) (key : KeyEvent) → lettered_by numbers f ≡ Event (terminal.Key key)
     → (length numbers ≤ 3) × ((c : ℕ) → Good f (token_by Ss3 (record (shifted numbers (of_numbers Ss3 0 0 0 0 0)) { bytes = c }) f) key)
 unfolding shifted
 ss3_good [] f key e = absurd (no_key key e)
@@ -275,7 +289,7 @@ good : (opening : ℕ) (numbers : List ℕ) (f : ℕ) (key : KeyEvent) → key_b
     → (length numbers ≤ 3) × ((c : ℕ) → Good f (token_by (kind_of opening) (record (shifted numbers (of_numbers (kind_of opening) 0 0 0 0 0)) { bytes = c }) f) key)
 good opening numbers f key e = at (opening == 91) e
   where
-    at : (s : Bool) → (if s then key_by 91 numbers f else arrow_by numbers f) ≡ Event (terminal.Key key)
+    at : (s : Bool) → (if s then key_by 91 numbers f else lettered_by numbers f) ≡ Event (terminal.Key key)
         → (length numbers ≤ 3) × ((c : ℕ) → Good f (token_by (if s then Csi else Ss3) (record (shifted numbers (of_numbers (if s then Csi else Ss3) 0 0 0 0 0)) { bytes = c }) f) key)
     at true h = csi_good numbers f key h
     at false h = ss3_good numbers f key h

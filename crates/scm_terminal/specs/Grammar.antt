@@ -10,7 +10,7 @@ use Rattle.scm_input.specs.declared.terminal.TerminalEvent.TheVariants as termin
 use Rattle.scm_terminal.specs.declared.tokens.Token.{Token}
 use Rattle.scm_terminal.specs.declared.tokens.Token.TheVariants.{Event}
 use Rattle.scm_terminal.specs.Bytes.{escape, bracket, semicolon, tilde, small_u, capital_m, begins_sequence, is_between, is_digit}
-use Rattle.scm_terminal.specs.Sequences.{unrecognized_token, modifiers_of, key_with, arrow, paging, typed_key}
+use Rattle.scm_terminal.specs.Sequences.{unrecognized_token, modifiers_of, key_with, lettered_key, numbered_key, typed_key}
 use Rattle.scm_terminal.specs.Streams.{Finished, first}
 use Rattle.scm_terminal.specs.KeyBytes.{key_bytes}
 use Rattle.scm_terminal.specs.Tearing.{is_sequence}
@@ -55,20 +55,20 @@ numbers_from n (b ∷ bs) =
     else if b == semicolon then option_map (λ numbers. n ∷ numbers) (numbers_from 0 bs)
     else None
 
--- the token of an arrow by its numbers: its modifiers, perhaps behind a 1
-abbrev pub arrow_by : List ℕ → ℕ → Token
-arrow_by [] final = unrecognized_token
-arrow_by (n ∷ []) final = key_with (modifiers_of n) (arrow final)
-arrow_by (n ∷ m ∷ []) final =
-    if nat_le n 1 then key_with (modifiers_of m) (arrow final) else unrecognized_token
-arrow_by (n ∷ m ∷ k ∷ numbers) final = unrecognized_token
+-- the token of a lettered key by its numbers: its modifiers, perhaps behind a 1
+abbrev pub lettered_by : List ℕ → ℕ → Token
+lettered_by [] final = unrecognized_token
+lettered_by (n ∷ []) final = key_with (modifiers_of n) (lettered_key final)
+lettered_by (n ∷ m ∷ []) final =
+    if nat_le n 1 then key_with (modifiers_of m) (lettered_key final) else unrecognized_token
+lettered_by (n ∷ m ∷ k ∷ numbers) final = unrecognized_token
 
--- the token of a sequence that ends with `~`: a paging key by its number and modifiers, or a typed
--- key in xterm's form: 27, its modifiers and its code
+-- the token of a sequence that ends with `~`: a numbered key by its number and modifiers, or a
+-- typed key in xterm's form: 27, its modifiers and its code
 abbrev pub tilde_by : List ℕ → Token
 tilde_by [] = unrecognized_token
-tilde_by (n ∷ []) = key_with none (paging n)
-tilde_by (n ∷ m ∷ []) = key_with (modifiers_of m) (paging n)
+tilde_by (n ∷ []) = key_with none (numbered_key n)
+tilde_by (n ∷ m ∷ []) = key_with (modifiers_of m) (numbered_key n)
 tilde_by (n ∷ m ∷ code ∷ []) =
     if n == 27 then typed_key (modifiers_of m) code else unrecognized_token
 tilde_by (n ∷ m ∷ code ∷ k ∷ numbers) = unrecognized_token
@@ -86,8 +86,8 @@ key_by opening numbers final =
     if opening == bracket then (
     if final == tilde then tilde_by numbers
     else if final == small_u then typed_by numbers
-    else arrow_by numbers final)
-    else arrow_by numbers final
+    else lettered_by numbers final)
+    else lettered_by numbers final
 
 -- whether the numbers have 16 bits, as the decoder keeps them
 abbrev pub are_small : List ℕ → Bool

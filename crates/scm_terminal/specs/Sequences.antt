@@ -100,36 +100,41 @@ key_with modifiers None = unrecognized_token
 key_with modifiers (Some code) =
     Event (terminal.Key (record { code = code; modifiers = modifiers; kind = Press }))
 
--- the arrow key of the final byte `last`, `A` to `D`
-abbrev pub arrow : ℕ → Option KeyCode
-arrow last =
+-- the key of the final byte `last`: the arrows are `A` to `D`, Home is `H`, and End is `F`
+abbrev pub lettered_key : ℕ → Option KeyCode
+lettered_key last =
     if last == 65 then Some key.Up
     else if last == 66 then Some key.Down
     else if last == 67 then Some key.Right
     else if last == 68 then Some key.Left
+    else if last == 72 then Some key.Home
+    else if last == 70 then Some key.End
     else None
 
--- the token of an arrow: `A` to `D` with the modifiers of the last parameter, where the parameter
--- before it is 1 or left out; or without parameters `a` to `d`, rxvt's arrows with `held`
-abbrev pub arrow_token : KeyModifiers → Sequence → ℕ → Token
-arrow_token held q last =
+-- the token of a lettered key: an arrow (`A` to `D`), Home (`H`) or End (`F`) with the modifiers of
+-- the last parameter, where the parameter before it is 1 or left out; or without parameters `a` to
+-- `d`, rxvt's arrows with `held`
+abbrev pub lettered_token : KeyModifiers → Sequence → ℕ → Token
+lettered_token held q last =
     if is_between 97 100 last then (
-    if q.bytes == 0 then key_with held (arrow (last - 32)) else unrecognized_token)
+    if q.bytes == 0 then key_with held (lettered_key (last - 32)) else unrecognized_token)
     else if nat_lt q.semicolons 2 && nat_le q.second 1 then
-    key_with (modifiers_of q.last) (arrow last)
+    key_with (modifiers_of q.last) (lettered_key last)
     else unrecognized_token
 
--- the paging key of `number`: 5 is Page Up, 6 is Page Down
-abbrev pub paging : ℕ → Option KeyCode
-paging number =
-    if number == 5 then Some key.PageUp
+-- the key of `number`: 1 and 7 are Home, 4 and 8 are End, 5 is Page Up, and 6 is Page Down
+abbrev pub numbered_key : ℕ → Option KeyCode
+numbered_key number =
+    if number == 1 || number == 7 then Some key.Home
+    else if number == 4 || number == 8 then Some key.End
+    else if number == 5 then Some key.PageUp
     else if number == 6 then Some key.PageDown
     else None
 
--- the token of rxvt's paging key with control
-abbrev pub control_paging_token : Sequence → Token
-control_paging_token q =
-    if q.semicolons == 0 then key_with control (paging q.last) else unrecognized_token
+-- the token of rxvt's numbered key with control
+abbrev pub control_numbered_token : Sequence → Token
+control_numbered_token q =
+    if q.semicolons == 0 then key_with control (numbered_key q.last) else unrecognized_token
 
 -- the character that a key types: of a small letter with shift, the capital
 abbrev pub capital : Bool → ℕ → ℕ
@@ -158,12 +163,12 @@ abbrev pub is_mark : Sequence → ℕ → Bool
 is_mark q number = ((q.bytes == 3) && (q.semicolons == 0)) && (q.last == number)
 
 -- the token of a control sequence with the final byte `~`: a mark of a bracketed paste, 200 or 201
--- and nothing else; a paging key; or a typed key in xterm's form, 27, its modifiers and its code
+-- and nothing else; a numbered key; or a typed key in xterm's form, 27, its modifiers and its code
 abbrev pub tilde_token : Sequence → Token
 tilde_token q =
     if is_mark q 200 then PasteBegins
     else if is_mark q 201 then PasteEnds
-    else if nat_lt q.semicolons 2 then key_with (key_modifiers q) (paging (key_number q))
+    else if nat_lt q.semicolons 2 then key_with (key_modifiers q) (numbered_key (key_number q))
     else if q.first == 27 then typed_key (modifiers_of q.second) q.last
     else unrecognized_token
 
@@ -179,10 +184,10 @@ old_mouse_token q =
 abbrev pub key_token : Sequence → ℕ → Token
 key_token q last =
     if last == tilde then tilde_token q
-    else if last == caret then control_paging_token q
+    else if last == caret then control_numbered_token q
     else if last == small_u then typed_token q
     else if last == capital_m then old_mouse_token q
-    else arrow_token shift q last
+    else lettered_token shift q last
 
 -- the token of a mouse report: button, column and row, then `M` for a press or `m` for a release
 abbrev pub mouse_token : Sequence → ℕ → Token
@@ -194,7 +199,7 @@ mouse_token q last =
 -- the token of the sequence `q` of the kind in front, with the final byte `last`
 abbrev pub token_by : SequenceKind → Sequence → ℕ → Token
 token_by Csi q last = key_token q last
-token_by Ss3 q last = arrow_token control q last
+token_by Ss3 q last = lettered_token control q last
 token_by Mouse q last = mouse_token q last
 token_by Unknown q last = unrecognized_token
 

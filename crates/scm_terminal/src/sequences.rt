@@ -2,10 +2,10 @@
 //! Their meanings are those of xterm's control sequences, as far as the key table needs them.
 ghost use Rattle.std.specs.Prelude.{◌≡◌, ◌<◌};
 ghost use Rattle.scm_terminal.specs.Sequences.{
-  arrow,
-  arrow_token,
+  lettered_key,
+  lettered_token,
   capital,
-  control_paging_token,
+  control_numbered_token,
   counted,
   is_mark,
   new_sequence,
@@ -18,7 +18,7 @@ ghost use Rattle.scm_terminal.specs.Sequences.{
   modifiers_of,
   mouse_token,
   old_mouse_token,
-  paging,
+  numbered_key,
   printable_key,
   tilde_token,
   typed_key,
@@ -193,7 +193,7 @@ pub(crate) fn token_of(sequence: Sequence, last: u8) -> Token
 {
     match sequence.kind {
         SequenceKind::Csi => key_token(sequence, last),
-        SequenceKind::Ss3 => arrow_token(KeyModifiers::CONTROL, sequence, last),
+        SequenceKind::Ss3 => lettered_token(KeyModifiers::CONTROL, sequence, last),
         SequenceKind::Mouse => mouse_token(sequence, last),
         SequenceKind::Unknown => Token::UNRECOGNIZED,
     }
@@ -216,15 +216,15 @@ fn key_token(sequence: Sequence, last: u8) -> Token
 {
     match last {
         b'~' => tilde_token(sequence),
-        b'^' => control_paging_token(sequence),
+        b'^' => control_numbered_token(sequence),
         b'u' => typed_token(sequence),
         b'M' => old_mouse_token(sequence),
-        _ => arrow_token(KeyModifiers::SHIFT, sequence, last),
+        _ => lettered_token(KeyModifiers::SHIFT, sequence, last),
     }
 }
 
 /// Returns the token of the control sequence `sequence` with the final byte `~`: a mark of a
-/// bracketed paste, a paging key, or a typed key in xterm's form `27 ; modifiers ; code`.
+/// bracketed paste, a numbered key, or a typed key in xterm's form `27 ; modifiers ; code`.
 fn tilde_token(sequence: Sequence) -> Token
     ensures { result ≡ tilde_token sequence }
 {
@@ -233,7 +233,7 @@ fn tilde_token(sequence: Sequence) -> Token
     } else if is_mark(sequence, 201) {
         Token::PasteEnds
     } else if sequence.semicolons < 2 {
-        key_with(key_modifiers(sequence), paging(key_number(sequence)))
+        key_with(key_modifiers(sequence), numbered_key(key_number(sequence)))
     } else if sequence.first == OTHER_KEY {
         typed_key(modifiers_of(sequence.second), sequence.last)
     } else {
@@ -241,13 +241,13 @@ fn tilde_token(sequence: Sequence) -> Token
     }
 }
 
-/// Returns the token of rxvt's paging key with control: `sequence` has the number of the key alone,
-/// and its final byte is `^`.
-fn control_paging_token(sequence: Sequence) -> Token
-    ensures { result ≡ control_paging_token sequence }
+/// Returns the token of rxvt's numbered key with control: `sequence` has the number of the key
+/// alone, and its final byte is `^`.
+fn control_numbered_token(sequence: Sequence) -> Token
+    ensures { result ≡ control_numbered_token sequence }
 {
     if sequence.semicolons == 0 {
-        key_with(KeyModifiers::CONTROL, paging(sequence.last))
+        key_with(KeyModifiers::CONTROL, numbered_key(sequence.last))
     } else {
         Token::UNRECOGNIZED
     }
@@ -324,42 +324,47 @@ fn modifiers_of(number: u16) -> KeyModifiers
     }
 }
 
-/// Returns the token of an arrow: `A` to `D` with the modifiers of the last parameter, or `a` to
-/// `d`, rxvt's arrows with the modifiers `held`.
-fn arrow_token(held: KeyModifiers, sequence: Sequence, last: u8) -> Token
-    ensures { result ≡ arrow_token held sequence last }
+/// Returns the token of a lettered key: an arrow (`A` to `D`), Home (`H`) or End (`F`) with the
+/// modifiers of the last parameter, or one of rxvt's arrows (`a` to `d`) with the modifiers `held`.
+fn lettered_token(held: KeyModifiers, sequence: Sequence, last: u8) -> Token
+    ensures { result ≡ lettered_token held sequence last }
 {
     if is_between(b'a', b'd', last) {
         if sequence.bytes == 0 {
-            key_with(held, arrow(last - 32))
+            key_with(held, lettered_key(last - 32))
         } else {
             Token::UNRECOGNIZED
         }
     } else if sequence.semicolons < 2 && sequence.second <= 1 {
-        key_with(modifiers_of(sequence.last), arrow(last))
+        key_with(modifiers_of(sequence.last), lettered_key(last))
     } else {
         Token::UNRECOGNIZED
     }
 }
 
-/// Returns the arrow key of the letter `last`, if any.
-fn arrow(last: u8) -> Option<KeyCode>
-    ensures { result ≡ arrow last }
+/// Returns the arrow of the letter `last`, Home or End, if any.
+fn lettered_key(last: u8) -> Option<KeyCode>
+    ensures { result ≡ lettered_key last }
 {
     match last {
         b'A' => Some(KeyCode::Up),
         b'B' => Some(KeyCode::Down),
         b'C' => Some(KeyCode::Right),
         b'D' => Some(KeyCode::Left),
+        b'H' => Some(KeyCode::Home),
+        b'F' => Some(KeyCode::End),
         _ => None,
     }
 }
 
-/// Returns the paging key of the parameter `number`, if any.
-fn paging(number: u16) -> Option<KeyCode>
-    ensures { result ≡ paging number }
+/// Returns the key of the parameter `number`, if any: Home, End, Page Up or Page Down. The older
+/// terminals disagree about the numbers of Home and End, so each has two.
+fn numbered_key(number: u16) -> Option<KeyCode>
+    ensures { result ≡ numbered_key number }
 {
     match number {
+        1 | 7 => Some(KeyCode::Home),
+        4 | 8 => Some(KeyCode::End),
         5 => Some(KeyCode::PageUp),
         6 => Some(KeyCode::PageDown),
         _ => None,

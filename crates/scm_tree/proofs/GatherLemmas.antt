@@ -1,6 +1,7 @@
 -- Places that are gathered path by path.
 use Rattle.std.proofs.Common.{◌≡◌, ℕ, zero, suc, ◌+◌, ◌-◌, ◌<◌, ◌≤◌, List, [], ◌∷◌, ◌++◌, length, take, get_or, Bool, true, false, ◌||◌, Option, Some, None, eqb, refl, arith, sym, subst, ◌∙◌, ap, inl, inr}
 use Rattle.std.proofs.Math.ListN.{get_or-append}
+use Rattle.std.proofs.Math.Dec.{eqb-suc-zero}
 use Rattle.std.proofs.Math.Seq.{get_or-append_seam}
 use Rattle.std.proofs.lemmas.Bool.{false≢true, true≢false, cases_lt, or_cases}
 use Rattle.std.specs.Prelude.{is_some}
@@ -16,7 +17,7 @@ use Rattle.scm_tree.specs.declared.place.Place.{Place}
 use Rattle.scm_tree.specs.declared.rows.GatherError.{GatherError}
 use Rattle.scm_tree.specs.declared.rows.GatherError.TheVariants.{Twice, Unknown, OutOfMemory}
 use Rattle.scm_tree.specs.GatherFaults.{IsAddFault, IsPlaceFault}
-use Rattle.scm_tree.specs.Places.{AreGathered, ArePlacesInOrder, AreSorted, HaveSameFiles, IsAdded, IsFilled, IsJoined, is_twice, place_current, place_goal, place_path, place_wish}
+use Rattle.scm_tree.specs.Places.{AreGathered, ArePlacesInOrder, AreSorted, HaveSameFiles, IsAdded, IsFilled, IsGathered, IsJoined, is_twice, place_current, place_goal, place_path, place_wish}
 use Rattle.scm_tree.proofs.TimesLemmas.{two_there}
 use Rattle.scm_tree.proofs.HoldsLemmas.{all_first, all_last, same_joined, same_push, same_refl, same_trans}
 
@@ -151,10 +152,6 @@ one_in_order y = λ i j d h k. absurd (no_pair i j h k)
     no_pair : (i j : ℕ) → i < j → j < 1 → ⊥
     no_pair i j h k = omega arith
 
-pub filled : (xs : List Place) (t : Bool) → t ≡ eqb (length xs) 0 → t ≡ false → 0 < length xs
-filled [] t e f = absurd (false≢true (sym f ∙ e))
-filled (x ∷ xs) t e f = omega arith
-
 pub gathered_first : (xs : List Place) (last : Place) → 0 < length xs → ((d : Place) → get_or xs 0 d ≡ last) → AreGathered xs 1 [] last
 gathered_first xs last h is = record {
   in_order = one_in_order last;
@@ -200,15 +197,23 @@ gathered_fault xs i done last y (Twice p) g h is f =
       | inr both ↦ inr (two_there place_path place_wish xs done last y i p.now t (g.same.wish.as_often p.now) f.0 other both)
     ]
 
-pub gathered_all : (xs : List Place) (i : ℕ) (done : List Place) (last : Place) → AreGathered xs i done last → length xs ≤ i → HaveSameFiles xs (done ++ last ∷ [])
-gathered_all xs i done last g h = subst (λ (ys : List Place). HaveSameFiles ys (done ++ last ∷ [])) (take_all i xs h) g.same
+-- all places were gathered
+all_gathered : (xs : List Place) (i : ℕ) (done : List Place) (last : Place) → AreGathered xs i done last → length xs ≤ i → HaveSameFiles xs (done ++ last ∷ [])
+all_gathered xs i done last g h = subst (λ (ys : List Place). HaveSameFiles ys (done ++ last ∷ [])) (take_all i xs h) g.same
 
-pub gathered_nothing : (xs : List Place) → length xs ≡ 0 → HaveSameFiles xs []
-gathered_nothing [] e = files_refl []
-gathered_nothing (x ∷ xs) e = absurd (omega arith)
+pub gathered_whole : (xs : List Place) (i : ℕ) (done after : List Place) (last : Place) → AreGathered xs i done last → length xs ≤ i → after ≡ done ++ last ∷ [] → IsGathered xs after
+gathered_whole xs i done after last g h e = subst (λ (ys : List Place). IsGathered xs ys) (sym e) (record { in_order = g.in_order; same = all_gathered xs i done last g h })
 
-pub nothing_in_order : ArePlacesInOrder []
+nothing_in_order : ArePlacesInOrder []
 nothing_in_order = λ i j d h k. absurd (not_below j k)
   where
     not_below : (j : ℕ) → j < 0 → ⊥
     not_below j h = omega arith
+
+pub nothing_gathered : (xs done : List Place) (t : Bool) → done ≡ [] → t ≡ eqb (length xs) 0 → t ≡ true → IsGathered xs done
+nothing_gathered (x ∷ xs) done t d e f = absurd (true≢false (sym f ∙ e ∙ eqb-suc-zero (length xs)))
+nothing_gathered [] done t d e f = subst (λ (ys : List Place). IsGathered [] ys) (sym d) (record { in_order = nothing_in_order; same = files_refl [] })
+
+pub some_places : (xs : List Place) (t : Bool) → t ≡ eqb (length xs) 0 → t ≡ false → 0 < length xs
+some_places [] t e f = absurd (false≢true (sym f ∙ e))
+some_places (x ∷ xs) t e f = omega arith

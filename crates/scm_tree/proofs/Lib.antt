@@ -1,3 +1,5 @@
+-- places of bytes
+pub mod ByteLemmas
 -- names that a file system takes for another name
 pub mod FoldingLemmas
 -- the names of a path

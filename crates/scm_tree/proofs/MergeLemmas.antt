@@ -1,6 +1,6 @@
 -- The rows of two trees and marks.
-use Rattle.std.proofs.Common.{◌≡◌, ℕ, ◌+◌, ◌<◌, ◌≤◌, List, [], ◌∷◌, ◌++◌, length, get_or, true, ◌||◌, Option, Some, None, refl, arith, sym, subst, ◌∙◌, ap, ◌⊎◌, inl, inr}
-use Rattle.std.specs.Prelude.{is_some}
+use Rattle.std.proofs.Common.{◌≡◌, ℕ, ◌+◌, ◌<◌, ◌≤◌, List, [], ◌∷◌, ◌++◌, length, get_or, true, ◌&&◌, ◌||◌, Option, Some, None, refl, arith, sym, subst, ◌∙◌, ap, ◌⊎◌, inl, inr}
+use Rattle.std.specs.Prelude.{is_none, is_some}
 use Rattle.std.proofs.Math.ListN.{get_or-append}
 use Rattle.std.proofs.Math.Seq.{get_or-append_seam}
 use Rattle.std.proofs.lemmas.Bool.{false≢true, cases_lt, cases_order}
@@ -18,7 +18,7 @@ use Rattle.scm_tree.specs.declared.place.Place.{Place}
 use Rattle.scm_tree.specs.declared.rows.GatherError.{GatherError}
 use Rattle.scm_tree.specs.declared.rows.GatherError.TheVariants.{Twice, Unknown, OutOfMemory}
 use Rattle.scm_tree.specs.Holds.{HaveSame, Holds, times}
-use Rattle.scm_tree.specs.GatherFaults.{IsGatherFault, IsInNoTree, IsPlaceFault, IsRowsFault, IsTwice, IsUnknown}
+use Rattle.scm_tree.specs.GatherFaults.{IsGatherFault, IsInNoTree, IsPlaceFault, IsRowsFault, IsTwice, IsUnknown, is_unknown}
 use Rattle.scm_tree.specs.Places.{AreListed, ArePlacesInOrder, entry_path, entry_version, mark_path, mark_wish, place_current, place_goal, place_path, place_wish}
 use Rattle.scm_tree.specs.Merge.{AreMerged, AreRowsBelow, IsMarked, IsRowOf, IsUnmarked, file_by, row_current, row_goal, row_path, wanted_by}
 use Rattle.scm_tree.proofs.TimesLemmas.{times_in_order}
@@ -32,7 +32,7 @@ no_rows count places = record { long = refl; each = λ k d h. absurd (not_below 
     not_below : (k : ℕ) → k < 0 → ⊥
     not_below k h = omega arith
 
-pub rows_more : (count : ℕ) (places : List Place) (i : ℕ) (rows : List Row) (r : Row) → AreRowsBelow count places i rows → IsRowOf count places i r → AreRowsBelow count places (i + 1) (rows ++ r ∷ [])
+rows_more : (count : ℕ) (places : List Place) (i : ℕ) (rows : List Row) (r : Row) → AreRowsBelow count places i rows → IsRowOf count places i r → AreRowsBelow count places (i + 1) (rows ++ r ∷ [])
 rows_more count places i rows r s is = record {
   long = let l = s.long in length-append rows (r ∷ []) ∙ ap (λ (n : ℕ). n + 1) l;
   each = λ k d h. elim (cases_lt k i) [
@@ -45,6 +45,28 @@ rows_more count places i rows r s is = record {
         subst (λ (y : Row). IsRowOf count places k y) (sym x) (subst (λ (n : ℕ). IsRowOf count places n r) (sym e) is))
   ];
 }
+
+pub row_added : (count : ℕ) (places : List Place) (i : ℕ) (rows after : List Row) (r : Row) → AreRowsBelow count places i rows → IsRowOf count places i r → after ≡ rows ++ r ∷ [] → AreRowsBelow count places (i + 1) after
+row_added count places i rows after r s is e = subst (λ (rs : List Row). AreRowsBelow count places (i + 1) rs) (sym e) (rows_more count places i rows r s is)
+
+-- a place that is in neither tree
+none_both : (a b : Option Version) → (is_none a && is_none b) ≡ true → (a ≡ None) × (b ≡ None)
+none_both None None e = (refl, refl)
+none_both None (Some v) e = absurd (false≢true e)
+none_both (Some v) b e = absurd (false≢true e)
+
+pub unknown_fault : (places : List Place) (i : ℕ) (p : List ℕ) → i < length places → ((d : Place) → is_unknown (get_or places i d) ≡ true) → ((d : Place) → (get_or places i d).path.now ≡ p) → (k : ℕ) × ((k < length places) × IsInNoTree places k p)
+unknown_fault places i p h u e = (
+  i,
+  (
+    h,
+    record {
+      path = e;
+      current = λ d. (none_both _ _ (u d)).0;
+      goal = λ d. (none_both _ _ (u d)).1;
+    },
+  ),
+)
 
 -- ---- the rows of all places
 

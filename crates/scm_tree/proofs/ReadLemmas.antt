@@ -1,20 +1,20 @@
 -- What bytes hold, part by part.
-use Rattle.std.proofs.Common.{◌≡◌, ℕ, zero, suc, ◌+◌, ◌-◌, ◌<◌, ◌≤◌, eqb, List, [], ◌∷◌, ◌++◌, length, take, drop, map, get_or, Bool, true, false, cond, Option, Some, None, Result, Ok, Err, refl, arith, sym, ◌∙◌, ap}
-use Rattle.std.specs.Prelude.{slice_get, nat_lt}
+use Rattle.std.proofs.Common.{◌≡◌, ℕ, zero, suc, ◌+◌, ◌-◌, ◌<◌, eqb, List, [], ◌∷◌, ◌++◌, length, take, drop, map, get_or, Bool, true, false, Option, Some, None, Result, Ok, Err, refl, arith, sym, ◌∙◌, ap}
+use Rattle.std.specs.Prelude.{slice_get}
 use Rattle.std.specs.Option.{option_map}
-use Rattle.std.specs.List.{position, position_or_len}
+use Rattle.std.specs.List.{position}
 use Rattle.std.proofs.Math.Dec.{eqb-suc-zero}
-use Rattle.std.proofs.lemmas.Bool.{false≢true, ltb-false, true≢false}
+use Rattle.std.proofs.lemmas.Bool.{false≢true, true≢false}
 use Rattle.std.proofs.lemmas.List.{append-nil, append_assoc, length-map, map-append}
 use Rattle.std.proofs.lemmas.Option.{slice_get-map}
 use Rattle.std.proofs.lemmas.List.Quantifiers.{position-Some}
-use Rattle.std.proofs.lemmas.List.Sums.{fails_before_first}
 use Rattle.scm_tree.specs.Rows as tree
 use Rattle.scm_tree.specs.declared.place.Mark.{Mark}
 use Rattle.scm_tree.specs.declared.decision.Moved.{Moved}
 use Rattle.scm_tree.specs.declared.asked.Asked.{Asked}
 use Rattle.scm_tree.specs.Records.{Held, PathRecord, RenamedPaths, ShownPath, after_record, ended, held_by, is_nul, read, record_of, seen_mark, seen_moved, shown_path, with_record, with_second}
 use Rattle.scm_tree.specs.Reading.{held_if}
+use Rattle.scm_tree.proofs.ByteLemmas.{none_at}
 
 -- what is held after the part that ends at the NUL at place `i`
 abbrev pub read_on : Held → List ℕ → List ℕ → ℕ → Result Held (List ℕ)
@@ -58,20 +58,8 @@ read_rest (b ∷ bytes) h part n =
 pub read_at : (bytes : List ℕ) (h : Held) (i : ℕ) → position is_nul bytes ≡ Some i → read h [] bytes ≡ read_on h [] bytes i
 read_at bytes h i e = let p = position-Some is_nul bytes i 1 e in read_piece bytes h [] i p.0 p.1 p.2
 
-none_before : (t : Bool) (n : ℕ) → cond t (Some n) None ≡ None → t ≡ false
-none_before false n e = refl
-none_before true n e = absurd (some_none n e)
-  where
-    some_none : (n : ℕ) → Some n ≡ None → ⊥
-    some_none n e = cc
-
-none_at : (bytes : List ℕ) → position is_nul bytes ≡ None → (k : ℕ) → k < length bytes → is_nul (get_or bytes k 1) ≡ false
-none_at bytes e k l =
-    let past : length bytes ≤ position_or_len is_nul bytes = ltb-false (position_or_len is_nul bytes) (length bytes) (none_before (nat_lt (position_or_len is_nul bytes) (length bytes)) (position_or_len is_nul bytes) e) in
-    fails_before_first is_nul bytes k 1 (omega arith)
-
 pub read_last : (bytes : List ℕ) (h : Held) → position is_nul bytes ≡ None → read h [] bytes ≡ ended h bytes
-read_last bytes h e = read_rest bytes h [] (none_at bytes e)
+read_last bytes h e = read_rest bytes h [] (λ k l. none_at is_nul bytes e k 1 l)
 
 -- ---- a part that is a record, or none
 

@@ -15,7 +15,7 @@ use Rattle.scm_tree.specs.declared.rows.GatherError.TheVariants as gather
 use Rattle.scm_tree.specs.GatherFaults.{IsGatherFault}
 use Rattle.scm_tree.specs.Merge.{AreMerged}
 use Rattle.scm_tree.specs.Find.{HasNoRow, IsRowFor}
-use Rattle.scm_tree.specs.Renames.{IsBadRename, is_one_of}
+use Rattle.scm_tree.specs.Renames.{IsBadRename, is_one_of, IsRename}
 use Rattle.scm_tree.specs.Decisions.{IsMoved}
 use Rattle.scm_tree.specs.DecideFaults.{IsDecideFault, IsMarkReason, IsMovedReason, IsPathReason, IsTreesReason, PathsFit, decide_error}
 use Rattle.scm_tree.proofs.HoldsLemmas.{some_of}
@@ -80,6 +80,9 @@ no_old_row rows m n s = let d : Row = some_of rows s.old s.old_is.within in n.is
 
 pub no_new_row : (rows : List Row) (m : Moved) → HasNoRow rows m.new.now → IsMoved rows m → ⊥
 no_new_row rows m n s = let d : Row = some_of rows s.new s.new_is.within in n.is_none s.new d s.new_is.within (s.new_is.path_is d)
+
+pub a_rename : (rows : List Row) (m : Moved) (i j : ℕ) → IsRowFor rows m.old.now i → IsRowFor rows m.new.now j → IsRename rows (record { old = i; new = j }) → IsMoved rows m
+a_rename rows m i j old new is = record { old = i; new = j; old_is = old; new_is = new; is_rename = is }
 
 pub no_rename : (rows : List Row) (m : Moved) (i j : ℕ) → AreInOrder rows → IsRowFor rows m.old.now i → IsRowFor rows m.new.now j → IsBadRename rows (record { old = i; new = j }) → IsMoved rows m → ⊥
 no_rename rows m i j o old new bad s =

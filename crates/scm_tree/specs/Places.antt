@@ -98,6 +98,11 @@ pub record IsAdded (before : List Place) (last y : Place) (after : List Place) (
   pub path : next.path.now ≡ y.path.now
   pub same : HaveSameFiles ((before ++ last ∷ []) ++ y ∷ []) (after ++ next ∷ [])
 
+-- The second places have what the first ones have, each path once, in the order of paths.
+pub record IsGathered (xs ys : List Place) : Type 0 where
+  pub in_order : ArePlacesInOrder ys
+  pub same : HaveSameFiles xs ys
+
 -- The first `i` places were gathered: `done` and `last` have what they have, each path once, and `last` has the path of the
 -- place before place `i`.
 pub record AreGathered (xs : List Place) (i : ℕ) (done : List Place) (last : Place) : Type 0 where

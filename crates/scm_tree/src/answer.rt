@@ -3,6 +3,7 @@ ghost use Rattle.std.specs.Prelude.{◌≡◌, ◌++◌, IfOk, OnOk, Some, slice
 ghost use Rattle.std.specs.Option.{option_map};
 ghost use Rattle.scm_tree.specs.Answers.{IsAnswer, IsAnswerTo, answer_of, letter_of, moved_to, path_or, reason_answer, record_bytes, refusal_answer, refusals_answer, row_answer, rows_answer};
 
+use crate::adding::add;
 use crate::asked::{Asked, ReadError, read_records};
 use crate::{DecideError, Decision, Moved, Refusal, Row, Version, decide, result_at};
 use std::alloc::{AllocError, Global};
@@ -27,11 +28,10 @@ fn letter_of(version: Option<Version>) -> u8
 fn add_record(answer: &mut Vec<u8>, letter: u8, path: &[u8]) -> Result<(), AllocError>
     ensures { OnOk result (answer.new.items ≡ answer.old.items ++ record_bytes letter path.now) }
 {
-    answer.push(letter)?;
-    answer.push(b' ')?;
+    add(answer, letter)?;
+    add(answer, b' ')?;
     answer.extend_from_slice(path)?;
-    answer.push(0)?;
-    Ok(())
+    add(answer, 0)
 }
 
 /// Adds what becomes of the path of `row`, if that is shown: if its file is one of `count`.

@@ -5,8 +5,10 @@ ghost use Rattle.scm_tree.specs.declared.asked.ReadError.TheVariants.{OutOfMemor
 ghost use Rattle.scm_tree.specs.Records.{held_by, is_nul, record_of, rows_in, seen_record, with_asked, with_files, with_first, with_record, with_second, last_shown, nothing_held, seen_mark, shown_path, with_shown};
 ghost use Rattle.scm_tree.specs.Reading.{IsReadFault, held_if};
 
+use crate::adding::add;
+use crate::bytes::{after, before, first_place};
 use crate::record::{Ask, Record, asked_version, new_version, old_version, record_of};
-use crate::{Entry, Mark, Moved, Wish};
+use crate::{Entry, Mark, Moved, Version, Wish};
 use std::alloc::{AllocError, Global};
 
 /// What records have. Each shown file has a number, in the order of the records.
@@ -39,22 +41,26 @@ impl From<AllocError> for ReadError<'_> {
     }
 }
 
+/// Returns the file that a tree has at the record's path.
+fn entry_of<'a>(row: &Record<'a>, version: Version) -> Entry<'a>
+    ensures { result ≡ record { path = row.now.path; version = version } }
+{
+    Entry {
+        path: row.path,
+        version,
+    }
+}
+
 /// Adds the files that the two trees have at the record's path.
 fn add_entries<'a>(asked: &mut Asked<'a>, row: &Record<'a>) -> Result<(), AllocError>
     ensures { OnOk result
         (held_by asked.exit.now ≡ with_files (seen_record row.now) (held_by asked.entry.now)) }
 {
     if row.is_old {
-        asked.old.push(Entry {
-            path: row.path,
-            version: old_version(),
-        })?;
+        add(&mut asked.old, entry_of(row, old_version()))?;
     }
     if row.is_new {
-        asked.new.push(Entry {
-            path: row.path,
-            version: new_version(),
-        })?;
+        add(&mut asked.new, entry_of(row, new_version()))?;
     }
     Ok(())
 }
@@ -91,11 +97,12 @@ fn add_second<'a>(asked: &mut Asked<'a>, row: &Record<'a>) -> Result<bool, Alloc
     let Some(first) = last_mark(asked.marks.as_slice()) else {
         return Ok(false);
     };
-    asked.moved.push(Moved {
+    let moved = Moved {
         old: first.path,
         new: row.path,
-    })?;
-    asked.marks.push(mark_of(row, first.wish.file))?;
+    };
+    add(&mut asked.moved, moved)?;
+    add(&mut asked.marks, mark_of(row, first.wish.file))?;
     Ok(true)
 }
 
@@ -107,7 +114,7 @@ fn add_first<'a>(asked: &mut Asked<'a>, row: &Record<'a>) -> Result<(), AllocErr
     let Some(count) = asked.count.checked_add(1) else {
         return Err(AllocError);
     };
-    asked.marks.push(mark_of(row, asked.count))?;
+    add(&mut asked.marks, mark_of(row, asked.count))?;
     asked.count = count;
     Ok(())
 }
@@ -148,30 +155,6 @@ fn add_record<'a>(asked: &mut Asked<'a>, bytes: &'a [u8]) -> Result<bool, AllocE
     add_asked(asked, &record)
 }
 
-/// Returns the place of the first NUL.
-fn first_nul(bytes: &[u8]) -> Option<usize>
-    ensures is { result ≡ position is_nul bytes.now }
-    ensures within { IfSome result (λ i. i < length bytes.now) }
-{
-    bytes.iter().position(|byte| *byte == 0)
-}
-
-/// Returns the bytes before `end`.
-fn before(bytes: &[u8], end: usize) -> &[u8]
-    requires { end < length bytes.now }
-    ensures { result.now ≡ take end bytes.now }
-{
-    &bytes[..end]
-}
-
-/// Returns the bytes after the one at `end`.
-fn after(bytes: &[u8], end: usize) -> &[u8]
-    requires { end < length bytes.now }
-    ensures { result.now ≡ drop (end + 1) bytes.now }
-{
-    &bytes[end + 1..]
-}
-
 /// Returns nothing, to which records are added.
 fn nothing_asked<'a>(alloc: Global) -> Asked<'a>
     ensures { held_by result ≡ nothing_held }
@@ -196,7 +179,7 @@ pub(crate) fn read_records<'a>(alloc: Global, bytes: &'a [u8]) -> Result<Asked<'
 {
     let mut asked = nothing_asked(alloc);
     let mut rest = bytes;
-    'records: while let Some(end) = first_nul(rest) {
+    'records: while let Some(end) = first_place(rest, 0) {
         let part = before(rest, end);
         if !add_record(&mut asked, part)? {
             return Err(ReadError::NoRecord(part));

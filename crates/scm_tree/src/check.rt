@@ -49,7 +49,6 @@ fn follows(rows: &[Row<'_>], i: usize) -> bool
 }
 
 /// Returns the first row whose path does not come after that of the row before.
-#[tactic(auto, using(crate::proofs::CheckLemmas::ordered_next, crate::proofs::CheckLemmas::ordered_none))]
 fn order_fault(rows: &[Row<'_>]) -> Option<usize>
     ensures none { result ≡ None → AreInOrder rows.now }
     ensures some { IfSome result (IsOutOfOrder rows.now) }

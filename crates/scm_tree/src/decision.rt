@@ -11,6 +11,7 @@ ghost use Rattle.scm_tree.specs.Merge.{AreMerged};
 ghost use Rattle.scm_tree.specs.Decisions.{AreOutcomes, IsDecision, IsMoved, IsOutcome, IsPromise, is_shown, may_change, row_fault};
 ghost use Rattle.scm_tree.specs.DecideFaults.{IsDecideFault, IsMarkReason, IsMovedReason, IsPathReason, IsTreesReason, MarksFit, PathsFit, decide_error};
 
+use crate::adding::add;
 use crate::check::{RowFault, check_rows};
 use crate::find::row_number;
 use crate::names::{PathFault, path_fault};
@@ -21,7 +22,7 @@ use crate::result::result_at;
 use crate::row::{Row, Version};
 use crate::rows::{GatherError, rows_of};
 use crate::scan::Refusal;
-use std::alloc::{AllocError, AllocFailed, Global};
+use std::alloc::{AllocError, Global};
 
 /// A renamed file: its path in the old tree, and that in the new one.
 #[derive(Clone, Copy)]
@@ -88,14 +89,6 @@ impl From<AllocError> for DecideError<'_> {
     ghost from_gives = { λ _ e. e ≡ OutOfMemory };
 
     fn from(_error: AllocError) -> Self {
-        DecideError::OutOfMemory
-    }
-}
-
-impl<T: Drop> From<AllocFailed<T>> for DecideError<'_> {
-    ghost from_gives = { λ _ e. e ≡ OutOfMemory };
-
-    fn from(_error: AllocFailed<T>) -> Self {
         DecideError::OutOfMemory
     }
 }
@@ -247,7 +240,7 @@ fn add_outcomes<'a>(
         (AreOutcomes rows.now refused.now (length rows.now) outcomes.new.items) }
 {
     for i in 0..rows.len() {
-        outcomes.push(outcome_at(rows, refused, i))?;
+        add(outcomes, outcome_at(rows, refused, i))?;
     }
     Ok(())
 }

@@ -3,6 +3,8 @@ ghost use Rattle.std.specs.Prelude.{◌≡◌, ◌+◌, ◌<◌, ◌≤◌, ◌|
 ghost use Rattle.std.specs.List.{position};
 ghost use Rattle.scm_tree.specs.Folding.{begins, begins_ignorable, has_part, is_backslash, is_between, is_dot_or_blank, is_ignorable, is_letter, is_on_hfs, is_on_ntfs, is_passed, is_same, is_taken_for, letters, small, IsNext};
 
+use crate::bytes::{after, before, first_place};
+
 /// Returns the small letter of a capital letter, and each other byte itself.
 fn small(byte: u8) -> u8
     ensures { result ≡ small byte }
@@ -62,14 +64,6 @@ fn rest_from(bytes: &[u8], start: usize) -> &[u8]
     } else {
         &[]
     }
-}
-
-/// Returns the bytes after the one at `place`.
-pub(crate) fn after(bytes: &[u8], place: usize) -> &[u8]
-    requires { place < length bytes.now }
-    ensures { result.now ≡ drop (place + 1) bytes.now }
-{
-    &bytes[place + 1..]
 }
 
 /// Returns whether `byte` is letter `count` of `word`, in small or capital letters.
@@ -138,18 +132,15 @@ fn is_on_hfs(word: &[u8], name: &[u8]) -> bool
 }
 
 /// Returns whether `name` begins with `word`, in small or capital letters.
-#[tactic(auto, using(crate::proofs::FoldingLemmas::begins_same, crate::proofs::FoldingLemmas::begins_differs, crate::proofs::FoldingLemmas::begins_past, crate::proofs::FoldingLemmas::begins_end))]
 fn begins(word: &[u8], name: &[u8]) -> bool
     ensures { result ≡ begins word.now name.now }
 {
     for (i, letter) in word.iter().enumerate() {
-        match name.get(i) {
-            None => return false,
-            Some(byte) => {
-                if small(*byte) != *letter {
-                    return false;
-                }
-            }
+        if i >= name.len() {
+            return false;
+        }
+        if small(name[i]) != *letter {
+            return false;
         }
     }
     true
@@ -163,7 +154,6 @@ fn is_dot_or_blank(byte: u8) -> bool
 }
 
 /// Returns whether NTFS passes over `end`, the end of a name.
-#[tactic(auto, using(crate::proofs::FoldingLemmas::passed_colon, crate::proofs::FoldingLemmas::passed_blank, crate::proofs::FoldingLemmas::passed_other, crate::proofs::FoldingLemmas::passed_end))]
 fn is_passed(end: &[u8]) -> bool
     ensures { result ≡ is_passed end.now }
 {
@@ -185,14 +175,6 @@ fn is_on_ntfs(word: &[u8], name: &[u8]) -> bool
     begins(word, name) & is_passed(rest_from(name, word.len()))
 }
 
-/// Returns the place of the first `\`.
-fn first_backslash(name: &[u8]) -> Option<usize>
-    ensures is { result ≡ position is_backslash name.now }
-    ensures within { IfSome result (λ i. i < length name.now) }
-{
-    name.iter().position(|byte| *byte == 92)
-}
-
 /// Returns whether NTFS takes `part` for `word`, or for its short form `short`.
 fn is_part(word: &[u8], short: &[u8], part: &[u8]) -> bool
     ensures { result ≡ (is_on_ntfs word.now part.now || is_on_ntfs short.now part.now) }
@@ -200,14 +182,13 @@ fn is_part(word: &[u8], short: &[u8], part: &[u8]) -> bool
     is_on_ntfs(word, part) | is_on_ntfs(short, part)
 }
 
-#[tactic(auto, using(crate::proofs::NameLemmas::part_now, crate::proofs::NameLemmas::part_later, crate::proofs::NameLemmas::part_last))]
 /// Returns whether NTFS takes a part of `name`, between its `\`, for `word`, or for its short form `short`.
 fn has_part(word: &[u8], short: &[u8], name: &[u8]) -> bool
     ensures { result ≡ has_part word.now short.now name.now }
 {
     let mut rest = name;
-    'parts: while let Some(end) = first_backslash(rest) {
-        if is_part(word, short, &rest[..end]) {
+    'parts: while let Some(end) = first_place(rest, b'\\') {
+        if is_part(word, short, before(rest, end)) {
             return true;
         }
         rest = after(rest, end);

@@ -1,11 +1,12 @@
 //! Places that are gathered path by path.
-ghost use Rattle.std.specs.Prelude.{◌≡◌, ◌+◌, ◌<◌, ◌++◌, ◌∷◌, [], IfErr, IfOk, false, length, slice_index_or, true};
+ghost use Rattle.std.specs.Prelude.{◌≡◌, ◌+◌, ◌<◌, ◌++◌, ◌∷◌, [], IfErr, IfOk, MatchResult, false, length, slice_index_or, true};
 ghost use Rattle.std.specs.List.{All};
 ghost use Rattle.std.specs.Option.{option_or};
 ghost use Rattle.scm_tree.specs.Paths.{is_before};
 ghost use Rattle.scm_tree.specs.GatherFaults.{IsAddFault, IsPlaceFault};
-ghost use Rattle.scm_tree.specs.Places.{AreGathered, ArePlacesInOrder, AreSorted, HaveSameFiles, IsAdded, IsJoined, is_twice};
+ghost use Rattle.scm_tree.specs.Places.{ArePlacesInOrder, AreSorted, IsAdded, IsGathered, IsJoined, is_twice};
 
+use crate::adding::add;
 use crate::path::is_before;
 use crate::place::Place;
 use crate::rows::GatherError;
@@ -49,7 +50,7 @@ fn add_place<'a>(
     ensures fault { IfErr result (IsAddFault last.entry place.entry) }
 {
     if is_before(last.path, place.path) {
-        done.push(last)?;
+        add(done, last)?;
         return Ok(place);
     }
     if is_twice(&last, &place) {
@@ -66,6 +67,28 @@ fn place_at<'a>(places: &[Place<'a>], i: usize) -> Place<'a>
     places[i]
 }
 
+/// Adds sorted `places` to the empty `done`, each path once.
+///
+/// # Errors
+/// - `Twice`: one tree has two files of a path, or two marks have one.
+/// - `OutOfMemory`: an allocation failed.
+fn add_places<'a>(done: &mut Vec<Place<'a>>, places: &[Place<'a>]) -> Result<(), GatherError<'a>>
+    requires sorted { AreSorted places.now }
+    requires empty { done.old.items ≡ [] }
+    ensures { MatchResult result (λ _. IsGathered places.now done.new.items)
+        (IsPlaceFault places.now) }
+{
+    if places.is_empty() {
+        return Ok(());
+    }
+    let mut last = place_at(places, 0);
+    for i in 1..places.len() {
+        last = add_place(done, last, place_at(places, i))?;
+    }
+    add(done, last)?;
+    Ok(())
+}
+
 /// Returns the places of sorted ones, each path once.
 ///
 /// # Errors
@@ -76,18 +99,10 @@ pub(crate) fn gathered<'a>(
     places: &[Place<'a>],
 ) -> Result<Vec<Place<'a>>, GatherError<'a>>
     requires { AreSorted places.now }
-    ensures in_order { IfOk result (λ done. ArePlacesInOrder done.items) }
-    ensures same { IfOk result (λ done. HaveSameFiles places.now done.items) }
-    ensures fault { IfErr result (IsPlaceFault places.now) }
+    ensures { MatchResult result (λ done. IsGathered places.now done.items)
+        (IsPlaceFault places.now) }
 {
     let mut done = Vec::new(alloc);
-    if places.is_empty() {
-        return Ok(done);
-    }
-    let mut last = place_at(places, 0);
-    for i in 1..places.len() {
-        last = add_place(&mut done, last, place_at(places, i))?;
-    }
-    done.push(last)?;
+    add_places(&mut done, places)?;
     Ok(done)
 }

@@ -3,6 +3,7 @@
 #![tactic(auto)]
 
 // paths
+mod bytes;
 mod folding;
 pub mod names;
 mod path;
@@ -16,6 +17,7 @@ pub mod row;
 pub mod scan;
 
 // decisions
+mod adding;
 mod decision;
 mod find;
 mod gather;

@@ -3,7 +3,8 @@ ghost use Rattle.std.specs.Prelude.{◌≡◌, ◌+◌, ◌<◌, IfSome, drop, l
 ghost use Rattle.std.specs.List.{position};
 ghost use Rattle.scm_tree.specs.Names.{fault_of, has_nul, is_dot, is_dots, is_git, is_jj, is_slash, name_fault};
 
-use crate::folding::{after, is_taken_for};
+use crate::bytes::{after, before, first_place};
+use crate::folding::is_taken_for;
 
 /// What is wrong with a path.
 #[derive(Clone, Copy, Debug)]
@@ -69,7 +70,7 @@ fn is_jj(name: &[u8]) -> bool
 fn has_nul(name: &[u8]) -> bool
     ensures { result ≡ has_nul name.now }
 {
-    name.iter().any(|byte| *byte == 0)
+    first_place(name, 0).is_some()
 }
 
 /// Returns what is wrong with `name`, if anything is.
@@ -94,31 +95,14 @@ fn name_fault(name: &[u8]) -> Option<PathFault>
     }
 }
 
-/// Returns the place of the first `/`.
-fn first_slash(path: &[u8]) -> Option<usize>
-    ensures is { result ≡ position is_slash path.now }
-    ensures within { IfSome result (λ i. i < length path.now) }
-{
-    path.iter().position(|byte| *byte == 47)
-}
-
-/// Returns what is wrong with the name before the `/` at `end`, if anything is.
-fn fault_before(path: &[u8], end: usize) -> Option<PathFault>
-    requires { end < length path.now }
-    ensures { result ≡ name_fault (take end path.now) }
-{
-    name_fault(&path[..end])
-}
-
 /// Returns what is wrong with the first name of `path` with which something is, or `None` if the path
 /// names a file below the top folder on every file system.
-#[tactic(auto, using(crate::proofs::NameLemmas::fault_now, crate::proofs::NameLemmas::fault_later, crate::proofs::NameLemmas::fault_last, crate::proofs::NameLemmas::slash_within))]
 pub fn path_fault(path: &[u8]) -> Option<PathFault>
     ensures { result ≡ fault_of path.now }
 {
     let mut rest = path;
-    'names: while let Some(end) = first_slash(rest) {
-        let fault = fault_before(rest, end);
+    'names: while let Some(end) = first_place(rest, b'/') {
+        let fault = name_fault(before(rest, end));
         if fault.is_some() {
             return fault;
         }

@@ -3,6 +3,7 @@ ghost use Rattle.std.specs.Prelude.{◌≡◌, ◌<◌, List, [], IfOk, OnOk, le
 ghost use Rattle.scm_tree.specs.declared.place.Entry.{Entry};
 ghost use Rattle.scm_tree.specs.Places.{AreListed, IsOfMark, IsOfNew, IsOfOld};
 
+use crate::adding::add;
 use crate::row::Version;
 use std::alloc::{AllocError, Global};
 
@@ -102,7 +103,7 @@ fn add_old<'a>(places: &mut Vec<Place<'a>>, old: &[Entry<'a>]) -> Result<(), All
     ensures { OnOk result (AreListed old.now [] [] places.new.items) }
 {
     for i in 0..old.len() {
-        places.push(old_place(old, i))?;
+        add(places, old_place(old, i))?;
     }
     Ok(())
 }
@@ -116,7 +117,7 @@ fn add_new<'a>(places: &mut Vec<Place<'a>>, new: &[Entry<'a>]) -> Result<(), All
         → AreListed old new.now [] places.new.items) }
 {
     for i in 0..new.len() {
-        places.push(new_place(new, i))?;
+        add(places, new_place(new, i))?;
     }
     Ok(())
 }
@@ -130,7 +131,7 @@ fn add_marks<'a>(places: &mut Vec<Place<'a>>, marks: &[Mark<'a>]) -> Result<(), 
         → AreListed old new marks.now places.new.items) }
 {
     for i in 0..marks.len() {
-        places.push(marked_place(marks, i))?;
+        add(places, marked_place(marks, i))?;
     }
     Ok(())
 }

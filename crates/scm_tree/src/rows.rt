@@ -1,15 +1,16 @@
 //! Two trees and marks as rows.
-ghost use Rattle.std.specs.Prelude.{◌≡◌, ◌<◌, [], IfErr, IfOk, MatchResult, false, length, slice_index_or};
+ghost use Rattle.std.specs.Prelude.{◌≡◌, ◌+◌, ◌<◌, [], IfErr, IfOk, MatchResult, false, length, slice_index_or};
 ghost use Rattle.scm_tree.specs.declared.rows.GatherError.TheVariants.{OutOfMemory};
 ghost use Rattle.scm_tree.specs.GatherFaults.{IsGatherFault, IsRowsFault, is_unknown};
 ghost use Rattle.scm_tree.specs.Places.{AreListed, ArePlacesInOrder, AreSorted, HaveSameFiles};
 ghost use Rattle.scm_tree.specs.Merge.{AreMerged, AreRowsBelow, IsRowOf};
 
+use crate::adding::add;
 use crate::gather::gathered;
 use crate::order::sort_places;
 use crate::place::{Entry, Mark, Place, places_of};
 use crate::row::Row;
-use std::alloc::{AllocError, AllocFailed, Global};
+use std::alloc::{AllocError, Global};
 
 /// Why two trees and marks have no rows.
 #[derive(Clone, Copy)]
@@ -28,14 +29,6 @@ impl From<AllocError> for GatherError<'_> {
     ghost from_gives = { λ _ e. e ≡ OutOfMemory };
 
     fn from(_error: AllocError) -> Self {
-        GatherError::OutOfMemory
-    }
-}
-
-impl<T: Drop> From<AllocFailed<T>> for GatherError<'_> {
-    ghost from_gives = { λ _ e. e ≡ OutOfMemory };
-
-    fn from(_error: AllocFailed<T>) -> Self {
         GatherError::OutOfMemory
     }
 }
@@ -97,6 +90,30 @@ fn row_at<'a>(count: usize, places: &[Place<'a>], i: usize) -> Row<'a>
     }
 }
 
+/// Adds the row of place `i` to `rows`, which has the rows of the places before it.
+///
+/// # Errors
+/// - `Unknown`: a mark has the path, and neither tree has it.
+/// - `OutOfMemory`: an allocation failed.
+fn add_row<'a>(
+    rows: &mut Vec<Row<'a>>,
+    count: usize,
+    places: &[Place<'a>],
+    i: usize,
+) -> Result<(), GatherError<'a>>
+    requires within { i < length places.now }
+    requires below { AreRowsBelow count places.now i rows.old.items }
+    ensures { MatchResult result
+        (λ _. AreRowsBelow count places.now (i + 1) rows.new.items)
+        (IsRowsFault places.now) }
+{
+    if is_unknown(places, i) {
+        return Err(GatherError::Unknown(path_at(places, i)));
+    }
+    add(rows, row_at(count, places, i))?;
+    Ok(())
+}
+
 /// Adds the rows of `places` to the empty `rows`.
 ///
 /// # Errors
@@ -113,10 +130,7 @@ fn add_rows<'a>(
         (IsRowsFault places.now) }
 {
     for i in 0..places.len() {
-        if is_unknown(places, i) {
-            return Err(GatherError::Unknown(path_at(places, i)));
-        }
-        rows.push(row_at(count, places, i))?;
+        add_row(rows, count, places, i)?;
     }
     Ok(())
 }

@@ -19,8 +19,4 @@ pub mod PlaceLemmas
 pub mod DocumentKeyLemmas
 pub mod WindowOwnerLemmas
 pub mod WindowExtentLemmas
-pub mod PartViewLemmas
-pub mod MovedLemmas
-pub mod PaintPartLemmas
-pub mod SameWindowLemmas
-pub mod DocumentPartLemmas
+pub mod PaintLemmas

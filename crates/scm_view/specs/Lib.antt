@@ -16,7 +16,3 @@ pub mod Frame
 pub mod Index
 -- Row ranges.
 pub mod Runs
--- Parts of a document, and which of them show what the document shows.
-pub mod DocumentParts
--- Views that show a document or a part of it inline.
-pub mod PartViews

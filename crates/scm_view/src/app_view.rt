@@ -9,7 +9,6 @@ ghost use Rattle.scm_document.specs.ViewColumns.{view_count, view_width, nearest
 ghost use Rattle.scm_view.specs.AppView.{view_call, views_call, has_help, app_picture, app_counts};
 ghost use Rattle.scm_render.specs.Draws.{CanDraw, HasDrawn};
 ghost use Rattle.scm_overlay.specs.OverlayCalls.{quit_call, help_call};
-ghost use Rattle.scm_view.specs.PartViews.{HasWindowOf, ShowsPartInline};
 
 use scm_cells::{Grid, Mask, Rect, gap};
 use scm_document::commit_view::{CommitView, CommitViewMode};
@@ -195,36 +194,12 @@ impl<'a> AppView<'a> {
     /// # Errors
     ///
     /// `OutOfMemory`: an allocation failed; the grid keeps its size.
+    #[tactic(auto, using(scm_types::proofs::LimitLemmas::scroll_room))]
     pub fn paint(&self, alloc: Global, grid: &mut Grid, scroll: usize) -> Result<(), RecordError>
         requires shows { ShowsInline self.now grid.old.width (length grid.old.rows) scroll }
         ensures ok { OnOk result
             ((shown : ViewState) → IsPlain self.now shown grid.old.width (length grid.old.rows) →
             grid.new.rows ≡ window grid.old.width (length grid.old.rows) scroll shown) }
-        ensures few { OnOk result (IsFew (length grid.old.rows) grid.new.counts) }
-        ensures width { grid.new.width ≡ grid.old.width }
-        ensures height { length grid.new.rows ≡ length grid.old.rows }
-        ensures err { IfErr result (λ e. e ≡ OutOfMemory) }
-    {
-        self.paint_part(alloc, grid, scroll)
-    }
-
-    /// Clears `grid` and paints the inline view, which may have only a part of a session's
-    /// document. The first row of the screen shows row `scroll` of that part. If the part covers
-    /// the screen, this is what the session shows, by `parts_show_windows`.
-    ///
-    /// # Errors
-    ///
-    /// `OutOfMemory`: an allocation failed; the grid keeps its size.
-    #[tactic(auto, using(scm_types::proofs::LimitLemmas::scroll_room))]
-    pub fn paint_part(
-        &self,
-        alloc: Global,
-        grid: &mut Grid,
-        scroll: usize,
-    ) -> Result<(), RecordError>
-        requires shows { ShowsPartInline self.now grid.old.width (length grid.old.rows) scroll }
-        ensures ok { OnOk result
-            (HasWindowOf self.now grid.old.width (length grid.old.rows) scroll grid.new.rows) }
         ensures few { OnOk result (IsFew (length grid.old.rows) grid.new.counts) }
         ensures width { grid.new.width ≡ grid.old.width }
         ensures height { length grid.new.rows ≡ length grid.old.rows }

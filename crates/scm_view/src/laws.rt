@@ -3,7 +3,6 @@ ghost use Rattle.scm_view.specs.AppView.{AppsAreInRange, AppsAreDrawnAlike};
 ghost use Rattle.scm_view.specs.ComponentRanges.{ComponentsAreInRange};
 ghost use Rattle.scm_view.specs.Laws.{ClearedGridsAreScreens, CommitsAreInRange, DocumentsArePainted, SectionsOwnTheirColumns};
 ghost use Rattle.scm_widgets.specs.SameIds.{IdsAreToldApart};
-ghost use Rattle.scm_view.specs.DocumentParts.{PartsShowWindows};
 ghost use Rattle.scm_view.specs.Window.{AppsHaveExtents, AppsShowWindows, AppsTakeFewCalls, ClicksFindOwners, KeysHaveRows};
 
 /// Proves that all that a `CommitView` draws is in range, if it shows a commit of a session with an
@@ -114,11 +113,4 @@ pub fn apps_have_extents()
 /// pinned header, and takes few drawing calls, however long the document is.
 pub fn apps_take_few_calls()
     ensures { AppsTakeFewCalls }
-{}
-
-/// Proves that a part of a document shows the same as the whole document, on a screen of at least
-/// two rows that the part covers. The part is scrolled up by the number of rows that it leaves out
-/// above.
-pub fn parts_show_windows()
-    ensures { PartsShowWindows }
 {}

@@ -14,7 +14,6 @@ pub use scm_types::{FileKey, LineKey, SectionKey, SelectionKey};
 pub use scm_widgets::{Button, ComponentId, QuitDialogButtonId, TristateBox, TristateIconStyle};
 
 mod app_view;
-pub mod document_part;
 mod frame_index;
 pub mod frame_measures;
 pub mod laws;

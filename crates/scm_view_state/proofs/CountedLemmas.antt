@@ -2,21 +2,16 @@
 use Rattle.std.proofs.Common.{◌≡◌, ℕ, zero, suc, ◌+◌, ◌<◌, ◌≤◌, List, [], ◌∷◌, length, get_or, refl, sym, ap, ap₂, subst, ◌∙◌, arith}
 use Rattle.std.specs.Prelude.{sum_by, if◌then◌else◌}
 use Rattle.std.proofs.lemmas.List.Sums.{sum_by-cons}
-use Rattle.scm_types.specs.declared.file.File.{File}
 use Rattle.scm_types.specs.declared.keys.FileKey.{FileKey}
 use Rattle.scm_types.specs.declared.section.Section.{Section}
 use Rattle.scm_types.specs.Keys.{section_key_of}
 use Rattle.scm_types.specs.Marks.{is_editable_section}
-use Rattle.scm_document.specs.declared.file_view.FileView.{FileView}
 use Rattle.scm_document.specs.declared.section_view.SectionView.{SectionView}
 use Rattle.scm_rows.specs.Lines.{old_lines}
 use Rattle.scm_view.specs.ViewState.{Totals, ViewState, section_view_of, section_views_of}
 use Rattle.scm_layout.specs.declared.section_counts.SectionCounts.{SectionCounts}
 use Rattle.scm_layout.specs.Counts.{section_counts, sections_counts}
-use Rattle.scm_layout.specs.Rows.{file_key_of}
 use Rattle.scm_layout.proofs.CountLemmas.{at_most_one_more}
-use Rattle.scm_view_state.specs.declared.stretches.Stretch.{Stretch}
-use Rattle.scm_view_state.specs.Stretches.{file_part_of, file_parts_of, is_unfolded, section_range}
 
 -- section x with index n has the counts c and the view v
 pub record IsCounted (s : ViewState) (t : Totals) (k : FileKey) (editable lines : ℕ) (n : ℕ) (x : Section) (c : SectionCounts) (v : SectionView) : Type 0 where
@@ -62,25 +57,6 @@ section-at s t k n dx dc dv xs h =
       before = omega (arith, r.before);
       above = omega (arith, r.above);
     }
-
--- ---- files
-
-pub part-at : (s : ViewState) (st : Stretch) (i n : ℕ) (df : File) (dv : FileView) (fs : List File) → n < length fs
-    → get_or (file_parts_of s st i fs) n dv ≡ file_part_of s (file_key_of 0 (i + n)) (section_range (is_unfolded s (i + n)) st (i + n) (length (get_or fs n df).sections)) (get_or fs n df)
-unfolding file_parts_of
-part-at s st i n df dv [] h = absurd (omega (arith, h))
-part-at s st i zero df dv (f ∷ fs) h =
-    let same : i ≡ i + 0 = omega arith in
-    ap (λ j. file_part_of s (file_key_of 0 j) (section_range (is_unfolded s j) st j (length f.sections)) f) same
-part-at s st i (suc n) df dv (f ∷ fs) h =
-    let next : suc i + n ≡ i + suc n = omega arith in
-    part-at s st (suc i) n df dv fs (omega (arith, h))
-    ∙ ap (λ j. file_part_of s (file_key_of 0 j) (section_range (is_unfolded s j) st j (length (get_or fs n df).sections)) (get_or fs n df)) next
-
-pub parts-length : (s : ViewState) (st : Stretch) (i : ℕ) (fs : List File) → length (file_parts_of s st i fs) ≡ length fs
-unfolding file_parts_of
-parts-length s st i [] = refl
-parts-length s st i (f ∷ fs) = ap suc (parts-length s st (suc i) fs)
 
 -- section x, with index n, has the counts c and the view that these give
 pub record IsCountedHere (s : ViewState) (t : Totals) (k : FileKey) (n : ℕ) (xs : List Section) (x : Section) (c : SectionCounts) : Type 0 where

@@ -1,5 +1,5 @@
 -- The views of a view state, section by section and file by file.
-use Rattle.std.proofs.Common.{◌≡◌, ℕ, zero, suc, ◌+◌, ◌<◌, ◌≤◌, Bool, true, false, ◌&&◌, List, [], ◌∷◌, ◌++◌, length, drop, get_or, refl, ap, sym, ◌∙◌, add-one, drop-cons, arith}
+use Rattle.std.proofs.Common.{◌≡◌, ℕ, zero, suc, ◌+◌, ◌<◌, ◌≤◌, Bool, true, false, ◌&&◌, List, [], ◌∷◌, ◌++◌, length, drop, take, get_or, refl, ap, sym, ◌∙◌, add-one, drop-cons, arith}
 use Rattle.std.specs.List.{list_all}
 use Rattle.std.specs.Prelude.{map, None, slice_get, unwrap_or, if◌then◌else◌}
 use Rattle.std.proofs.lemmas.List.{drop_all}
@@ -15,7 +15,9 @@ use Rattle.scm_types.specs.Keys.{section_key_of, has_key}
 use Rattle.scm_document.specs.declared.section_view.SectionView.{SectionView}
 use Rattle.scm_view_state.specs.Views.{lent_sections}
 use Rattle.scm_view_state.specs.Folds.{has_no_fold, is_full}
+use Rattle.scm_rows.specs.Heights.{message_height}
 use Rattle.scm_rows.specs.Lines.{is_changed, old_lines}
+use Rattle.scm_layout.specs.Layouts.{files_top}
 use Rattle.scm_view.specs.ViewState.{ViewState, Totals, are_all_expanded, commit_at, file_view_of, file_views_of, section_view_of, section_views_of}
 
 -- ---- lists
@@ -24,6 +26,14 @@ use Rattle.scm_view.specs.ViewState.{ViewState, Totals, are_all_expanded, commit
 pub pushed : {A B : Type 0} (f : A → B) (made : List A) (next : A) (left : List B) → map f (made ++ next ∷ []) ++ left ≡ map f made ++ (f next ∷ left)
 pushed f [] next left = refl
 pushed f (x ∷ xs) next left = ap (λ ys. f x ∷ ys) (pushed f xs next left)
+
+-- one element more, of those from index a on
+pub more-taken : {A : Type 0} (a i : ℕ) (d : A) (xs : List A) → a ≤ i → i < length xs → drop a (take (suc i) xs) ≡ drop a (take i xs) ++ get_or xs i d ∷ []
+more-taken a i d [] low within = absurd (omega (arith, within))
+more-taken zero zero d (x ∷ xs) low within = refl
+more-taken zero (suc i) d (x ∷ xs) low within = ap (λ ys. x ∷ ys) (more-taken zero i d xs (omega arith) (omega (arith, within)))
+more-taken (suc a) zero d (x ∷ xs) low within = absurd (omega (arith, low))
+more-taken (suc a) (suc i) d (x ∷ xs) low within = more-taken a i d xs (omega (arith, low)) (omega (arith, within))
 
 -- ---- folds
 
@@ -73,3 +83,16 @@ unfolding commit_at
 commit_at-get i [] = refl
 commit_at-get zero (c ∷ cs) = refl
 commit_at-get (suc i) (c ∷ cs) = commit_at-get i cs
+
+-- ---- lengths and rows
+
+pub sections-length : (s : ViewState) (t : Totals) (k : FileKey) (i editable line : ℕ) (xs : List Section) → length (section_views_of s t k i editable line xs) ≡ length xs
+unfolding section_views_of
+sections-length s t k i editable line [] = refl
+sections-length s t k i editable line (x ∷ xs) = ap suc (sections-length s t k (suc i) (if is_editable_section x then editable + 1 else editable) (line + old_lines x) xs)
+
+-- files begin below the message, or below the menu bar if there is none
+pub top-message : (cs : List Commit) → files_top cs ≡ 1 + message_height (commit_at 0 cs).message
+unfolding commit_at
+top-message [] = refl
+top-message (c ∷ cs) = refl

@@ -14,10 +14,6 @@ pub mod Items
 pub mod Styles
 -- a mark by counts of items
 pub mod Marks
--- which files and sections a screen shows; only contracts of this crate cite it
-pub mod Stretches
--- a view of what a screen shows
-pub mod VisibleViews
 -- the numbers of views, by the counts of a layout
 pub mod ViewCounts
 -- the rows of views, by those of a layout

@@ -1,8 +1,9 @@
 //! The views of the commits, and the view of the whole screen.
-ghost use Rattle.std.specs.Prelude.{◌≡◌, length, IfOk, IfErr, IsTrue};
+ghost use Rattle.std.specs.Prelude.{◌≡◌, [], length, IfOk, IfErr, IsTrue};
 ghost use Rattle.scm_errors.specs.declared.error.RecordError.TheVariants.{OutOfMemory};
 ghost use Rattle.scm_types.specs.Limits.{is_accepted_state};
-ghost use Rattle.scm_view.specs.AppView.{ShowInOrder, ShowsSession};
+ghost use Rattle.scm_overlay.specs.Tables.{menus_with};
+ghost use Rattle.scm_view.specs.AppView.{ShowInOrder, ShowsSession, has_help};
 ghost use Rattle.scm_document.specs.ViewColumns.{view_count};
 ghost use Rattle.scm_view.specs.ViewState.{Shows, commit_at};
 
@@ -79,6 +80,29 @@ impl<'state> ViewState<'state> {
             menu_bar,
             commit_view_mode: self.view_mode,
             commit_views,
+            quit_dialog: self.quit_dialog,
+            help_dialog: self.is_help_open.then_some(HelpDialog()),
+        })
+    }
+
+    /// Returns a view of the menu bar and of the open dialogs, without documents. It costs the same for each
+    /// state.
+    ///
+    /// # Errors
+    /// `OutOfMemory`: an allocation failed.
+    pub fn overlay_view(&self, alloc: Global) -> Result<AppView<'_>, RecordError>
+        ensures documents { IfOk result (λ view. view.commit_views ≡ []) }
+        ensures menu_bar { IfOk result
+            (λ view. view.menu_bar ≡ menus_with self.now.open_menu) }
+        ensures quit { IfOk result (λ view. view.quit_dialog ≡ self.now.quit_dialog) }
+        ensures help { IfOk result
+            (λ view. has_help view.help_dialog ≡ self.now.is_help_open) }
+        ensures err { IfErr result (λ e. e ≡ OutOfMemory) }
+    {
+        Ok(AppView {
+            menu_bar: menu_bar(alloc, self.open_menu)?,
+            commit_view_mode: self.view_mode,
+            commit_views: Items::new(alloc),
             quit_dialog: self.quit_dialog,
             help_dialog: self.is_help_open.then_some(HelpDialog()),
         })

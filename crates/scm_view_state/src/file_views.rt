@@ -1,17 +1,14 @@
 //! The views of the files of a commit.
 ghost use Rattle.std.specs.Prelude.{◌≡◌, ◌≤◌, length, sum_by, option_map, IfOk};
 ghost use Rattle.scm_types.specs.Limits.{file_size, max_items};
-ghost use Rattle.scm_layout.specs.Counts.{file_counts};
-ghost use Rattle.scm_layout.specs.Rows.{file_rows, folded_count};
 ghost use Rattle.scm_view.specs.ViewState.{expand_box_of, file_view_of, file_views_of, borrow_of, toggle_box_of};
 ghost use Rattle.scm_types.specs.Keys.{is_key};
 ghost use Rattle.scm_types.specs.declared.keys.SelectionKey.TheVariants as keys;
-ghost use Rattle.scm_view_state.specs.Stretches.{file_part_of};
 ghost use Rattle.scm_view_state.specs.Views.{lent_file, lent_files, lent_path, lent_sections};
 
-use crate::section_views::{SectionRange, counted_views, shown_views, tristate_by};
+use crate::section_views::counted_views;
 use crate::view_state::ViewState;
-use scm_layout::{FileCounts, FileRows};
+use scm_layout::FileCounts;
 use scm_types::{File, Items, Tristate};
 use scm_view::{FileKey, FileView, SectionView, SelectionKey};
 use std::alloc::{AllocError, Global};
@@ -64,34 +61,6 @@ fn file_view<'a>(
     let section_views = counted_views(view_state, alloc, key, &counts, file)?;
     let fold = view_state.file_fold(key, section_views.as_slice());
     Ok(view_with(view_state, key, file.tristate(), fold, file, section_views))
-}
-
-/// Returns the view of `file` with those sections of `range` alone that have a row. The file has the
-/// counts `counts` and the rows `rows`, and its size must be within the limit for a state.
-pub(crate) fn file_part<'a>(
-    view_state: &ViewState<'_>,
-    alloc: Global,
-    key: FileKey,
-    counts: &FileCounts,
-    rows: &FileRows,
-    range: SectionRange,
-    file: &'a File<'a>,
-) -> Result<FileView<'a>, AllocError>
-    requires counted { counts.now ≡ file_counts file.now }
-    requires folded { rows.now.folded
-        ≡ folded_count view_state.now.expanded key 0 file.now.sections }
-    requires rows { rows.now.sections
-        ≡ (file_rows view_state.now.expanded key file.now).sections }
-    requires size { file_size file.now ≤ max_items }
-    requires within { range.end ≤ length file.now.sections }
-    ensures { IfOk result
-        (λ view. lent_file view ≡ file_part_of view_state.now key range file.now) }
-{
-    let sections = &rows.sections;
-    let section_views = shown_views(view_state, alloc, key, counts, sections, range, file)?;
-    let mark = tristate_by(counts.checked, counts.items);
-    let fold = view_state.counted_fold(key, rows.folded);
-    Ok(view_with(view_state, key, mark, fold, file, section_views))
 }
 
 /// Returns the views of `files`. Their sizes together must be within the limit for a state.

@@ -43,7 +43,7 @@ fn fold_of(is_expanded: bool, are_all: bool) -> Tristate
 
 impl<'state> ViewState<'state> {
     /// Returns the fold of section `key`: `True` if it is unfolded, else `False`.
-    pub(crate) fn section_fold(&self, key: SectionKey) -> Tristate
+    pub fn section_fold(&self, key: SectionKey) -> Tristate
         ensures { result ≡ section_fold self.now key }
     {
         if self.is_expanded(SelectionKey::Section(key)) {
@@ -67,7 +67,7 @@ impl<'state> ViewState<'state> {
 
     /// Returns the fold of file `key`, of which `folded` sections of changed lines are folded: `False`
     /// if it is folded itself, `Partial` if any of them is.
-    pub(crate) fn counted_fold(&self, key: FileKey, folded: usize) -> Tristate
+    pub fn counted_fold(&self, key: FileKey, folded: usize) -> Tristate
         ensures { result ≡ fold_of (has_key self.now.expanded (keys.File key)) (folded == 0) }
     {
         fold_of(self.is_expanded(SelectionKey::File(key)), folded == 0)

@@ -13,13 +13,11 @@ pub mod items;
 pub mod layout_laws;
 mod layouts;
 mod line_keys;
+pub mod marks;
 pub mod menus;
 mod section_views;
-mod stretches;
 mod styles;
 pub mod view_state;
-pub mod visible_views;
 
 pub use items::ItemKind;
 pub use view_state::ViewState;
-pub use visible_views::VisibleView;

@@ -3,16 +3,13 @@ ghost use Rattle.std.specs.Prelude.{◌≡◌, ℕ, ◌+◌, ◌<◌, ◌≤◌,
 ghost use Rattle.scm_types.specs.Limits.{file_size, max_items};
 ghost use Rattle.scm_types.specs.Marks.{section_marks, tristate_of};
 ghost use Rattle.scm_document.specs.declared.section_view.SectionView.{SectionView};
-ghost use Rattle.scm_layout.specs.declared.section_rows.SectionRows.{SectionRows};
 ghost use Rattle.scm_layout.specs.Counts.{file_counts, section_counts};
-ghost use Rattle.scm_layout.specs.Searches.{SectionsFollow};
 ghost use Rattle.scm_view.specs.ViewState.{section_view_of, section_views_of, selected_in, totals_of};
-ghost use Rattle.scm_view_state.specs.Marks.{tristate_by};
-ghost use Rattle.scm_view_state.specs.Stretches.{elements_in, has_row, views_with_rows};
 ghost use Rattle.scm_view_state.specs.Views.{lent_section, lent_sections, totals_in};
 
+use crate::marks::tristate_by;
 use crate::view_state::ViewState;
-use scm_layout::{FileCounts, SectionCounts, SectionRows, SectionStack};
+use scm_layout::{FileCounts, SectionCounts};
 use scm_types::keys::is_key;
 use scm_types::{File, Items, Section, Tristate};
 use scm_view::{FileKey, SectionKey, SectionSelection, SectionView, SelectionKey};
@@ -36,15 +33,6 @@ struct Before {
     lines: usize,
 }
 
-/// The sections `start..end` of a file, counted from 0.
-#[derive(Clone, Copy)]
-pub(crate) struct SectionRange {
-    /// The first of them.
-    pub(crate) start: usize,
-    /// Their end, exclusive.
-    pub(crate) end: usize,
-}
-
 /// Returns what is selected in section `key`, if anything.
 fn selected_in(key: SectionKey, selection: SelectionKey) -> Option<SectionSelection>
     ensures { result ≡ selected_in key selection }
@@ -62,19 +50,6 @@ fn selected_in(key: SectionKey, selection: SelectionKey) -> Option<SectionSelect
             );
             is_inside.then_some(SectionSelection::ChangedLine(line.line_idx))
         }
-    }
-}
-
-/// Returns whether none, some or all of `items` items are checked, if `checked` are.
-pub(crate) fn tristate_by(checked: usize, items: usize) -> Tristate
-    ensures { result ≡ tristate_by checked items }
-{
-    if checked == 0 {
-        Tristate::False
-    } else if checked == items {
-        Tristate::True
-    } else {
-        Tristate::Partial
     }
 }
 
@@ -177,59 +152,6 @@ pub(crate) fn counted_views<'a>(
     let mut views = Vec::with_capacity(alloc, count)?;
     for index in 0..count {
         views.push(view_at(view_state, key, counts, index, file))?;
-    }
-    Ok(Items::from(views))
-}
-
-/// Returns whether a section with the rows `rows` has a row.
-fn has_row(rows: &SectionRows) -> bool
-    ensures { result ≡ has_row rows.now }
-{
-    rows.top < rows.end
-}
-
-/// Returns an index after `index`, so that no section between the two has a row. The sections have the
-/// rows `rows`. It costs a bisection.
-fn next_index(rows: &SectionStack, index: usize) -> usize
-    requires follow { SectionsFollow rows.now }
-    requires within { index < length rows.now }
-    requires few { length rows.now ≤ max_items }
-    ensures later { index < result }
-    ensures bare { (i : ℕ) → (d : SectionRows) → index < i → i < result → i < length rows.now
-        → has_row (get_or rows.now i d) ≡ false }
-{
-    let begun = rows.begun(rows.row(index).end);
-    begun.saturating_sub(1).max(index + 1)
-}
-
-/// Returns the views of those sections of `range` of `file` that have a row. The file has the counts
-/// `counts`, and its sections the rows `rows`. Each view costs a bisection, and other sections cost
-/// nothing.
-pub(crate) fn shown_views<'a>(
-    view_state: &ViewState<'_>,
-    alloc: Global,
-    key: FileKey,
-    counts: &FileCounts,
-    rows: &SectionStack,
-    range: SectionRange,
-    file: &'a File<'a>,
-) -> Result<Items<SectionView<'a>>, AllocError>
-    requires counted { counts.now ≡ file_counts file.now }
-    requires size { file_size file.now ≤ max_items }
-    requires follow { SectionsFollow rows.now }
-    requires lengths { length rows.now ≡ length file.now.sections }
-    requires within { range.end ≤ length file.now.sections }
-    ensures { IfOk result (λ views. lent_sections views
-        ≡ views_with_rows (elements_in range rows.now) (elements_in range (section_views_of
-        view_state.now (totals_of file.now.sections) key 0 0 0 file.now.sections))) }
-{
-    let mut views = Vec::new(alloc);
-    let mut index = range.start;
-    'sections: while index < range.end {
-        if has_row(&rows.row(index)) {
-            views.push(view_at(view_state, key, counts, index, file))?;
-        }
-        index = next_index(rows, index).min(range.end);
     }
     Ok(Items::from(views))
 }

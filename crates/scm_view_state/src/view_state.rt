@@ -87,7 +87,7 @@ impl<'state> ViewState<'state> {
     }
 
     /// Returns the toggle box of `key` with the mark `mark`.
-    pub(crate) fn toggle_box(&self, key: SelectionKey, mark: Tristate) -> TristateBox<ComponentId>
+    pub fn toggle_box(&self, key: SelectionKey, mark: Tristate) -> TristateBox<ComponentId>
         ensures { result ≡ toggle_box_of self.now key mark }
     {
         TristateBox {
@@ -98,7 +98,7 @@ impl<'state> ViewState<'state> {
     }
 
     /// Returns the expand box of `key` with the fold `fold`. It is never read-only.
-    pub(crate) fn expand_box(&self, key: SelectionKey, fold: Tristate) -> TristateBox<ComponentId>
+    pub fn expand_box(&self, key: SelectionKey, fold: Tristate) -> TristateBox<ComponentId>
         ensures { result ≡ expand_box_of self.now key fold }
     {
         TristateBox {

@@ -145,7 +145,7 @@ impl<Id: Copy> TristateBox<Id> {
     }
 
     /// Returns the symbol with its brackets: pointed if read-only, round if focused, else square.
-    fn text(&self) -> &'static str
+    pub fn text(&self) -> &'static str
         ensures { result.now ≡ box_text self.now }
     {
         let (pointed, round, square) = bracketed(self.use_unicode, self.icon_style, &self.tristate);

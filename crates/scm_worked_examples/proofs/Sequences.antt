@@ -63,6 +63,15 @@ control_and_page_down : stream_events false (27 ∷ codes "[6;5~") ≡ pressed c
 unfolding streams
 control_and_page_down = refl
 
+home_and_end : stream_events false ((27 ∷ codes "[H") ++ (27 ∷ codes "OF") ++ (27 ∷ codes "[1~") ++ (27 ∷ codes "[4~"))
+    ≡ pressed none key.Home ∷ pressed none key.End ∷ pressed none key.Home ∷ pressed none key.End ∷ []
+unfolding streams
+home_and_end = refl
+
+control_and_home : stream_events false ((27 ∷ codes "[1;5H") ++ (27 ∷ codes "[8;5~")) ≡ pressed control key.Home ∷ pressed control key.End ∷ []
+unfolding streams
+control_and_home = refl
+
 letters : stream_events false (codes "aA ?") ≡ pressed none (key.Char 97) ∷ pressed shift (key.Char 65) ∷ pressed none (key.Char 32) ∷ pressed none (key.Char 63) ∷ []
 unfolding streams
 letters = refl
@@ -94,6 +103,10 @@ application_mode_with_control = refl
 rxvt_arrows : stream_events false ((27 ∷ codes "[d") ++ (27 ∷ codes "Oa")) ≡ pressed shift key.Left ∷ pressed control key.Up ∷ []
 unfolding streams
 rxvt_arrows = refl
+
+rxvt_home_and_end : stream_events false ((27 ∷ codes "[7~") ++ (27 ∷ codes "[8~") ++ (27 ∷ codes "[7^")) ≡ pressed none key.Home ∷ pressed none key.End ∷ pressed control key.Home ∷ []
+unfolding streams
+rxvt_home_and_end = refl
 
 rxvt_page_up : stream_events false (27 ∷ codes "[5^") ≡ pressed control key.PageUp ∷ []
 unfolding streams

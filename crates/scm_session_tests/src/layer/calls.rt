@@ -12,13 +12,18 @@ use scm_record::{
 use std::alloc::Global;
 use std::test::Fail;
 
-/// Returns the event of pressing the key of `character`.
-fn pressed(character: char) -> TerminalEvent {
+/// Returns the event of pressing the key `code`.
+fn pressed_code(code: KeyCode) -> TerminalEvent {
     TerminalEvent::Key(KeyEvent {
-        code: KeyCode::Char(character),
+        code,
         modifiers: KeyModifiers::NONE,
         kind: KeyEventKind::Press,
     })
+}
+
+/// Returns the event of pressing the key of `character`.
+fn pressed(character: char) -> TerminalEvent {
+    pressed_code(KeyCode::Char(character))
 }
 
 #[test]
@@ -27,6 +32,10 @@ fn keys_are_known_without_a_session(rt: HostRuntime) -> Result<(), Fail> {
     assert!(rt; matches!(again, Action::Again(Way::Down)));
     let first = action_of(Mode::Ranging, &[], pressed('g'));
     assert!(rt; matches!(first, Action::Go(Place::First)));
+    let end = action_of(Mode::Free, &[], pressed_code(KeyCode::End));
+    assert!(rt; matches!(end, Action::Go(Place::Last)));
+    let unheard = action_of(Mode::Asking, &[], pressed_code(KeyCode::Home));
+    assert!(rt; matches!(unheard, Action::Ignore));
     let typed = action_of(Mode::Asking, &[], pressed('n'));
     assert!(rt; matches!(typed, Action::Edit(Typing::Add('n'))));
     Ok(())

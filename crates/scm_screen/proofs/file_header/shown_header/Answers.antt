@@ -13,10 +13,10 @@ pub returns-clause-view : goal.returns-clause-view
 returns-clause-view c counts folds =
     let s = c.args.shown.now in
     let k = c.args.key in
-    let toggle = c.toggle_box.ensures ∙ ap (λ m. toggle_box_of s (keys.File k) m) c.mark_by-mark.ensures in
-    let fold = c.fold_box.ensures ∙ ap (λ m. expand_box_of s (keys.File k) m) c.file_fold-fold.ensures in
+    let toggle = c.toggle_box.ensures ∙ ap (λ m. toggle_box_of s (keys.File k) m) c.tristate_by-mark.ensures in
+    let fold = c.expand_box.ensures ∙ ap (λ m. expand_box_of s (keys.File k) m) c.counted_fold-fold.ensures in
     let made : ◌≡◌ {A = Heading}
-    (heading c.toggle_box.result c.fold_box.result (path_text (lent_text c.old_path.result) c.as_str.result.now))
+    (heading c.toggle_box.result c.expand_box.result (path_text (lent_text c.old_path.result) c.as_str.result.now))
     (counted_heading s k c.args.counts.now c.args.folded c.args.file.now) =
     λ i. heading (toggle i) (fold i) (path_text (c.old_path.ensures i) (c.as_str.ensures i)) in
     ap (λ (h : Heading). FileRow (HeaderRow k h)) (made ∙ heading-counted s k c.args.file.now c.args.counts.now c.args.folded counts folds)

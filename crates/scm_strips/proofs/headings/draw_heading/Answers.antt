@@ -22,8 +22,8 @@ returns-clause-ok c =
     (λ r. put r (pos low) (box_text c.args.toggle_box.now) low (title_column a))
     (λ r. say_texts r (pos (a.left + (c.args.indent + 4))) (c.args.title.now ∷ []) low (title_column a))
     _ _ _ _ _ c.requires.row
-    (rw (end, c.box_text.ensures) at c.in_ok-draw_fold.ensures.ok)
+    (rw (end, c.text.ensures) at c.in_ok-draw_fold.ensures.ok)
     (rw high at c.draw_blank.ensures.new)
-    (rw (high, c.box_text-2.ensures) at c.in_ok-draw_piece.ensures.ok)
+    (rw (high, c.text-2.ensures) at c.in_ok-draw_piece.ensures.ok)
     (rw (at, high) at p))
     c.say.ensures.ok

@@ -14,6 +14,6 @@ returns-clause-ok c =
     (put_in a 4 (box_text c.args.toggle_box.now))
     (say_in a 8 (line_texts (sign_text c.args.change_type) c.args.line.now))
     _ _ _ c.requires.row
-    (rw (end, c.box_text.ensures) at c.in_ok-draw_piece.ensures.ok)
+    (rw (end, c.text.ensures) at c.in_ok-draw_piece.ensures.ok)
     (rw (end, c.sign_text.ensures) at p))
     c.say_line.ensures.ok

@@ -10,5 +10,5 @@ returns-clause-ok c =
     let end = c.end_column-high.ensures.value in
     on-ok c.say.result
     (λ p. drawn-two c.args.row (put_in a 2 (box_text c.args.toggle_box.now)) (say_in a 6 (c.args.text.now ∷ [])) _ _ _ c.requires.row
-    (rw (end, c.box_text.ensures) at c.in_ok-draw_piece.ensures.ok) (rw end at p))
+    (rw (end, c.text.ensures) at c.in_ok-draw_piece.ensures.ok) (rw end at p))
     c.say.ensures.ok

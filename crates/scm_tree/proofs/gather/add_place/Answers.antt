@@ -7,7 +7,7 @@ use Rattle.scm_tree.proofs.gather.add_place.Goals as goal
 
 pub returns-then-is_before-clause-added : goal.returns-then-is_before-clause-added
 returns-then-is_before-clause-added c =
-    subst (λ (xs : List Place). IsAdded c.args.done.now.items c.args.last c.args.place xs c.args.place) (sym c.in_ok-push.ensures.items)
+    subst (λ (xs : List Place). IsAdded c.args.done.now.items c.args.last c.args.place xs c.args.place) (sym c.in_ok-add.ensures)
     (added_after c.args.done.now.items c.args.last c.args.place c.requires.in_order (sym c.is_before.ensures ∙ c.if-is_before.true))
 
 pub returns-clause-added : goal.returns-clause-added

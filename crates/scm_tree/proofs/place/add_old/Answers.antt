@@ -10,7 +10,7 @@ loop-i-init c = subst (λ (xs : List Place). AreListed [] [] [] xs) (sym c.requi
 pub loop-i-preserved : goal.loop-i-preserved
 loop-i-preserved c =
     let h : c.loop-i.i < length c.args.old.now = omega arith in
-    subst (λ (xs : List Place). AreListed (take (c.loop-i.i + 1) c.args.old.now) [] [] xs) (sym {A = List Place} c.in_ok-push.ensures.items)
+    subst (λ (xs : List Place). AreListed (take (c.loop-i.i + 1) c.args.old.now) [] [] xs) (sym {A = List Place} c.in_ok-add.ensures)
     (listed_old c.args.old.now [] [] c.loop-i.places.items c.loop-i.i c.old_place.result c.loop-i.invariant h c.old_place.ensures)
 
 pub returns : goal.returns

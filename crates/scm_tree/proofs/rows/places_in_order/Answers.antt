@@ -19,4 +19,4 @@ returns-in_err-done-clause-fault c =
     rw (error.1, error.2)
     (places_fault c.args.old.now c.args.new.now c.args.marks.now c.sort_places.new.places.items _
     (listed_moved c.args.old.now c.args.new.now c.args.marks.now c.in_ok-places.places.items c.sort_places.new.places.items c.in_ok-places.ensures c.sort_places.ensures.moved)
-    (subst (λ (ps : List Place). IsPlaceFault ps c.in_err-done.field-0.0) c.as_slice.ensures.value c.in_err-done.ensures.fault))
+    (subst (λ (ps : List Place). IsPlaceFault ps c.in_err-done.field-0.0) c.as_slice.ensures.value c.in_err-done.ensures))

@@ -3,8 +3,7 @@ use Rattle.std.specs.Prelude.{map}
 use Rattle.std.proofs.lemmas.List.{map-append, take_all}
 use Rattle.scm_view.specs.ViewState.{section_views_of, totals_of}
 use Rattle.scm_view_state.specs.Views.{lent_section, lent_sections}
-use Rattle.scm_view_state.proofs.CoverLemmas.{sections-length}
-use Rattle.scm_view_state.proofs.SectionPartLemmas.{more-taken}
+use Rattle.scm_view_state.proofs.ViewLemmas.{more-taken, sections-length}
 use Rattle.scm_view_state.proofs.section_views.counted_views.Goals as goal
 
 pub view_at-requires-clause-within : goal.view_at-requires-clause-within

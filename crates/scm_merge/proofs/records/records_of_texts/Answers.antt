@@ -1,0 +1,11 @@
+use Rattle.std.proofs.Common.{subst}
+use Rattle.scm_merge.specs.declared.texts.Texts.{Texts}
+use Rattle.scm_merge.specs.Records.{IsMergeOfTexts}
+use Rattle.scm_merge.proofs.records.records_of_texts.Goals as goal
+
+pub returns : goal.returns
+returns c = λ b o t e. record {
+  file = c.in_ok-file.file;
+  is_merge = subst (λ (t : Texts). IsMergeOfTexts t c.in_ok-file.file) e c.in_ok-file.ensures;
+  records_are = c.in_ok-records.ensures;
+}
