@@ -20,7 +20,7 @@ PLACE, UNINSTALL = (os.path.join(trying.ROOT, "tools", name) for name in ("place
 def call(*words, **more):
     """Returns the status of a call of these scripts, and all that it wrote."""
     how = {"stdout": subprocess.PIPE, "stderr": subprocess.STDOUT, "env": {**os.environ, "DESTDIR": ""}}
-    done = subprocess.run([sys.executable, *words], **{**how, **more})
+    done = subprocess.run(words, **{**how, **more})
     return done.returncode, done.stdout.decode()
 
 
