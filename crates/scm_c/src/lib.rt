@@ -104,7 +104,7 @@ pub extern "C" fn gabro_type(alloc: Global, session: &mut CSession, bytes: &[u8]
     ensures kept { 0 < result → session.new.pointer.value ≡ session.old.pointer.value }
 {
     let mut inner = take(alloc, session);
-    let code = calls::type_bytes(&mut inner, bytes);
+    let code = calls::type_bytes(alloc, &mut inner, bytes);
     give_back(alloc, session, inner);
     code
 }
@@ -127,7 +127,7 @@ pub extern "C" fn gabro_type_to_key(
     ensures unwritten { 0 < result → (taken.new ≡ taken.old) × (key.new ≡ key.old) }
 {
     let mut inner = take(alloc, session);
-    let code = calls::type_to_key(&mut inner, bytes, taken, key);
+    let code = calls::type_to_key(alloc, &mut inner, bytes, taken, key);
     give_back(alloc, session, inner);
     code
 }

@@ -1,5 +1,5 @@
 -- The events of words that are handed in as one batch.
-use Rattle.std.proofs.Common.{◌≡◌, ℕ, List, true, Option, Some, None, IfSome, Result, Ok, Err, IfOk, IfErr, refl, subst}
+use Rattle.std.proofs.Common.{◌≡◌, ℕ, List, true, Option, Some, None, Result, Ok, Err, IfOk, IfErr, subst}
 use Rattle.scm_errors.specs.declared.error.RecordError.{RecordError}
 use Rattle.scm_input.specs.declared.events.Event.{Event}
 use Rattle.scm_record.specs.Live.{Live}
@@ -10,7 +10,7 @@ use Rattle.scm_open_session.specs.declared.open_session.Stage.{Stage}
 use Rattle.scm_open_session.specs.declared.open_session.Stage.TheVariants.{Waiting}
 use Rattle.scm_open_session.specs.declared.running.Running.{Running}
 use Rattle.scm_open_session.specs.declared.running.Running.TheVariants as running
-use Rattle.scm_open_session.specs.Stages.{ChangesStage, or_ended, stage_after, stage_of_view}
+use Rattle.scm_open_session.specs.Stages.{ChangesStage, stage_after, stage_of_view}
 use Rattle.scm_front_paint.specs.declared.view.ViewTurn.{ViewTurn}
 use Rattle.scm_front_paint.specs.Seen.{Seen}
 use Rattle.scm_open_session.specs.Layered.{OrRefused, ViewPressesAll}
@@ -44,13 +44,11 @@ pub presses_all : (list : List Event) (l : Live) (r : Result Turn RecordError) (
     → IfOk r (λ turn. BatchLeads l list turn) → IfErr r (λ e. BatchFails l list e) → PressesAll list (Waiting s) new
 presses_all list l r s new e f h k = rw (e, f) (presses-by list l r h k)
 
-view-presses-by : (list : List Event) (v : Seen) (r : Result ViewTurn RecordError) (o : Option Stage) → IfSome o (λ x. x ≡ stage_of_view r)
-    → IfOk r (λ turn. ViewPressesAll v list turn) → IfErr r (λ e. OrRefused (BatchFails v.front.beneath list) e) → PressesAll list (Waiting (running.Layered v)) (or_ended o)
-view-presses-by list v (Ok turn) (Some x) e h k = rw e (PressesAll.layer_turned turn h)
-view-presses-by list v (Err error) (Some x) e h k = rw e (PressesAll.layer_failed k)
-view-presses-by list v r None e h k = PressesAll.layer_failed (OrRefused.refused refl)
+view-presses-by : (list : List Event) (v : Seen) (r : Result ViewTurn RecordError) → IfOk r (λ turn. ViewPressesAll v list turn)
+    → IfErr r (λ e. OrRefused (BatchFails v.front.beneath list) e) → PressesAll list (Waiting (running.Layered v)) (stage_of_view r)
+view-presses-by list v (Ok turn) h k = PressesAll.layer_turned turn h
+view-presses-by list v (Err error) h k = PressesAll.layer_failed k
 
-pub view_presses_all : (list : List Event) (v w : Seen) (r : Result ViewTurn RecordError) (o : Option Stage) (s : Running) (new : Stage) → s ≡ running.Layered v → w ≡ v
-    → IfSome o (λ x. x ≡ stage_of_view r) → new ≡ or_ended o → IfOk r (λ turn. ViewPressesAll w list turn) → IfErr r (λ e. OrRefused (BatchFails w.front.beneath list) e) → PressesAll list (Waiting s) new
-view_presses_all list v w r o s new e same is f h k =
-    rw (e, f) (subst (λ (x : Seen). PressesAll list (Waiting (running.Layered x)) (or_ended o)) same (view-presses-by list w r o is h k))
+pub view_presses_all : (list : List Event) (v : Seen) (r : Result ViewTurn RecordError) (s : Running) (new : Stage) → s ≡ running.Layered v → new ≡ stage_of_view r
+    → IfOk r (λ turn. ViewPressesAll v list turn) → IfErr r (λ e. OrRefused (BatchFails v.front.beneath list) e) → PressesAll list (Waiting s) new
+view_presses_all list v r s new e f h k = rw (e, f) (view-presses-by list v r h k)

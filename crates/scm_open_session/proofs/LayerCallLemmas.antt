@@ -1,5 +1,5 @@
 -- How a session begins with a layer, and how its looks and its keys change.
-use Rattle.std.proofs.Common.{◌≡◌, ℕ, min, ◌&&◌, Bool, true, List, [], false, IsTrue, option_and_then, Option, Some, None, Result, Ok, Err, IfSome, IfOk, IfErr, refl, sym, ap, ◌∙◌, subst}
+use Rattle.std.proofs.Common.{◌≡◌, ℕ, min, ◌&&◌, Bool, true, List, [], false, IsTrue, option_and_then, Option, Some, None, Result, Ok, Err, IfOk, IfErr, refl, sym, ap, ◌∙◌, subst}
 use Rattle.std.specs.Prelude.{if◌then◌else◌}
 use Rattle.std.specs.Str.{is_utf8}
 use Rattle.scm_errors.specs.declared.error.RecordError.{RecordError}
@@ -30,7 +30,7 @@ use Rattle.scm_open_session.specs.OwnKeys.{SetsKeys}
 use Rattle.scm_open_session.specs.Results.{code_where}
 use Rattle.scm_c_values.specs.Codes.{IsCode, code_of_message, done_code, is_message}
 use Rattle.scm_open_session.specs.Painters.{AreNew, HaveTheme}
-use Rattle.scm_open_session.specs.Stages.{ChangesStage, or_ended, stage_of_view}
+use Rattle.scm_open_session.specs.Stages.{ChangesStage, stage_of_view}
 
 -- beginnings
 
@@ -42,9 +42,9 @@ view_starts width height state given w h v a e f g is =
     (subst (λ (s : RecordState). IsNewView s (min width 1000) (min height 1000) v) e
     (subst (λ (k : ℕ). IsNewView given (min width 1000) k v) g (subst (λ (k : ℕ). IsNewView given k h v) f is)))
 
-pub view_starts_not : (width height : ℕ) (state : RecordState) (code : ℕ) → IsTrue (is_accepted_state state) → code ≡ 8
-    → StartsView width height (Building state) (Ended OutOfMemory) code
-view_starts_not width height state code a e = rw e (StartsView.no_memory a)
+pub view_starts_not : (width height : ℕ) (state : RecordState) (error : RecordError) → IsTrue (is_accepted_state state) → error ≡ OutOfMemory
+    → StartsView width height (Building state) (Ended error) 8
+view_starts_not width height state error a e = rw e (StartsView.no_memory a)
 
 pub view_starts_at : (width height : ℕ) (old new : Stage) (state : RecordState) (k : Stage) (code : ℕ) → old ≡ Building state → new ≡ k
     → StartsView width height (Building state) k code → StartsView width height old new code
@@ -122,16 +122,14 @@ pub has_start : (given : Option Folds) (folds : Folds) (first : SelectionKey) (o
     → ChangesStage (SetsStart folds first) old new → HasStart given first old new
 has_start given folds first old new e goes = rw e goes
 
-sets-by : (folds : Folds) (first : SelectionKey) (v : Seen) (r : Result ViewTurn RecordError) (o : Option Stage) → IfSome o (λ x. x ≡ stage_of_view r)
-    → IfOk r (λ turn. ViewSets folds first v turn) → IfErr r (λ e. e ≡ OutOfMemory) → SetsStart folds first (Waiting (running.Layered v)) (or_ended o)
-sets-by folds first v (Ok turn) (Some x) e h k = rw e (SetsStart.turned turn h)
-sets-by folds first v (Err error) (Some x) e h k = rw (e, k) SetsStart.failed
-sets-by folds first v r None e h k = SetsStart.failed
+sets-by : (folds : Folds) (first : SelectionKey) (v : Seen) (r : Result ViewTurn RecordError) → IfOk r (λ turn. ViewSets folds first v turn)
+    → IfErr r (λ e. e ≡ OutOfMemory) → SetsStart folds first (Waiting (running.Layered v)) (stage_of_view r)
+sets-by folds first v (Ok turn) h k = SetsStart.turned turn h
+sets-by folds first v (Err error) h k = rw k SetsStart.failed
 
-pub sets : (folds : Folds) (first : SelectionKey) (v w : Seen) (r : Result ViewTurn RecordError) (o : Option Stage) (s : Running) (new : Stage) → s ≡ running.Layered v → w ≡ v
-    → IfSome o (λ x. x ≡ stage_of_view r) → new ≡ or_ended o → IfOk r (λ turn. ViewSets folds first w turn) → IfErr r (λ e. e ≡ OutOfMemory) → SetsStart folds first (Waiting s) new
-sets folds first v w r o s new e same is f h k =
-    rw (e, f) (subst (λ (x : Seen). SetsStart folds first (Waiting (running.Layered x)) (or_ended o)) same (sets-by folds first w r o is h k))
+pub sets : (folds : Folds) (first : SelectionKey) (v : Seen) (r : Result ViewTurn RecordError) (s : Running) (new : Stage) → s ≡ running.Layered v → new ≡ stage_of_view r
+    → IfOk r (λ turn. ViewSets folds first v turn) → IfErr r (λ e. e ≡ OutOfMemory) → SetsStart folds first (Waiting s) new
+sets folds first v r s new e f h k = rw (e, f) (sets-by folds first v r h k)
 
 -- keys
 

@@ -9,17 +9,13 @@ use Rattle.scm_open_session.specs.declared.running.Running.{Running}
 use Rattle.scm_open_session.specs.declared.running.Running.TheVariants as running
 use Rattle.scm_open_session.specs.Results.{WritesOrFails, is_status_row_of, symbol_of_running, text_of_running}
 
-module _ (session : Running) (painters : Painters) (layer read : Seen) (accept : List ℕ) (is : session ≡ running.Layered layer) (same : read ≡ layer)
-    (said : accept ≡ painters.accept) where
-  pub text-of-layer : text_of_view read accept ≡ text_of_running session painters
-  text-of-layer =
-      ap (λ (v : Seen). text_of_view v accept) same ∙ ap (λ (bytes : List ℕ). text_of_view layer bytes) said
-      ∙ sym (ap (λ (s : Running). text_of_running s painters) is)
+module _ (session : Running) (painters : Painters) (v : Seen) (accept : List ℕ) (is : session ≡ running.Layered v) (said : accept ≡ painters.accept) where
+  pub text-of-layer : text_of_view v accept ≡ text_of_running session painters
+  text-of-layer = ap (λ (bytes : List ℕ). text_of_view v bytes) said ∙ sym (ap (λ (s : Running). text_of_running s painters) is)
 
   pub symbol-of-layer : (row column : ℕ) (old new : List ℕ) (told : ℕ)
-      → WritesOrFails (row == rows_shown read.front.beneath) (symbol_of_view read accept row column) old new told
+      → WritesOrFails (row == rows_shown v.front.beneath) (symbol_of_view v accept row column) old new told
       → WritesOrFails (is_status_row_of session row) (symbol_of_running session painters row column) old new told
   symbol-of-layer row column old new told w =
       subst (λ (s : Running). WritesOrFails (is_status_row_of s row) (symbol_of_running s painters row column) old new told) (sym is)
-      (subst (λ (v : Seen). WritesOrFails (row == rows_shown v.front.beneath) (symbol_of_view v painters.accept row column) old new told) same
-      (subst (λ (bytes : List ℕ). WritesOrFails (row == rows_shown read.front.beneath) (symbol_of_view read bytes row column) old new told) said w))
+      (subst (λ (bytes : List ℕ). WritesOrFails (row == rows_shown v.front.beneath) (symbol_of_view v bytes row column) old new told) said w)

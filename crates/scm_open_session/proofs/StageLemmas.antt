@@ -1,5 +1,5 @@
 -- How calls change a session.
-use Rattle.std.proofs.Common.{◌≡◌, ℕ, List, Option, Some, None, Result, Ok, Err, IfSome, IfOk, IfErr, refl, sym, ap, ◌∙◌, subst}
+use Rattle.std.proofs.Common.{◌≡◌, ℕ, List, Option, Some, None, Result, Ok, Err, IfOk, IfErr, sym, ap, ◌∙◌, subst}
 use Rattle.scm_errors.specs.declared.error.RecordError.{RecordError}
 use Rattle.scm_input.specs.declared.events.Event.{Event}
 use Rattle.scm_input.specs.declared.inputs.TerminalKind.{TerminalKind}
@@ -19,7 +19,7 @@ use Rattle.scm_open_session.specs.declared.running.MessageEdit.{MessageEdit}
 use Rattle.scm_open_session.specs.declared.running.MessageEdit.TheVariants as edits
 use Rattle.scm_open_session.specs.declared.running.Running.{Running}
 use Rattle.scm_open_session.specs.declared.running.Running.TheVariants as running
-use Rattle.scm_open_session.specs.Stages.{Presses, Says, Resizes, Types, Idles, ChangesStage, HandsIn, IsOpenAt, ChangesDecoder, changes_stage, changes_decoder, open_at, or_ended, stage_after, stage_of_view}
+use Rattle.scm_open_session.specs.Stages.{Presses, Says, Resizes, Types, Idles, ChangesStage, HandsIn, IsOpenAt, ChangesDecoder, changes_stage, changes_decoder, open_at, stage_after, stage_of_view}
 use Rattle.scm_open_session.specs.FrontKeys.{ChangesToKey, TypesToKey}
 
 presses-by : (event : Event) (l : Live) (r : Result Turn RecordError) → IfOk r (λ turn. EventLeads l event turn) → IfErr r (λ e. EventFails l event e)
@@ -31,16 +31,14 @@ pub presses : (event : Event) (l : Live) (r : Result Turn RecordError) (s : Runn
     → IfOk r (λ turn. EventLeads l event turn) → IfErr r (λ e. EventFails l event e) → Presses event (Waiting s) new
 presses event l r s new e f h k = rw (e, f) (presses-by event l r h k)
 
-view-presses-by : (event : Event) (v : Seen) (r : Result ViewTurn RecordError) (o : Option Stage) → IfSome o (λ x. x ≡ stage_of_view r)
-    → IfOk r (λ turn. ViewPresses v event turn) → IfErr r (λ e. OrRefused (EventFails v.front.beneath event) e) → Presses event (Waiting (running.Layered v)) (or_ended o)
-view-presses-by event v (Ok turn) (Some x) e h k = rw e (Presses.layer_turned turn h)
-view-presses-by event v (Err error) (Some x) e h k = rw e (Presses.layer_failed k)
-view-presses-by event v r None e h k = Presses.layer_failed (OrRefused.refused refl)
+view-presses-by : (event : Event) (v : Seen) (r : Result ViewTurn RecordError) → IfOk r (λ turn. ViewPresses v event turn)
+    → IfErr r (λ e. OrRefused (EventFails v.front.beneath event) e) → Presses event (Waiting (running.Layered v)) (stage_of_view r)
+view-presses-by event v (Ok turn) h k = Presses.layer_turned turn h
+view-presses-by event v (Err error) h k = Presses.layer_failed k
 
-pub view-presses : (event : Event) (v w : Seen) (r : Result ViewTurn RecordError) (o : Option Stage) (s : Running) (new : Stage) → s ≡ running.Layered v → w ≡ v
-    → IfSome o (λ x. x ≡ stage_of_view r) → new ≡ or_ended o → IfOk r (λ turn. ViewPresses w event turn) → IfErr r (λ e. OrRefused (EventFails w.front.beneath event) e) → Presses event (Waiting s) new
-view-presses event v w r o s new e same is f h k =
-    rw (e, f) (subst (λ (x : Seen). Presses event (Waiting (running.Layered x)) (or_ended o)) same (view-presses-by event w r o is h k))
+pub view-presses : (event : Event) (v : Seen) (r : Result ViewTurn RecordError) (s : Running) (new : Stage) → s ≡ running.Layered v → new ≡ stage_of_view r
+    → IfOk r (λ turn. ViewPresses v event turn) → IfErr r (λ e. OrRefused (EventFails v.front.beneath event) e) → Presses event (Waiting s) new
+view-presses event v r s new e f h k = rw (e, f) (view-presses-by event v r h k)
 
 says-by : (text : List ℕ) (a : LiveEdit) (r : Result Turn RecordError) → IfOk r (λ turn. MessageLeads a text turn) → IfErr r (λ e. MessageFails a text e)
     → Says text (Editing (edits.Plain a)) (stage_after r)
@@ -51,16 +49,14 @@ pub says : (text : List ℕ) (a : LiveEdit) (r : Result Turn RecordError) (s : M
     → IfOk r (λ turn. MessageLeads a text turn) → IfErr r (λ e. MessageFails a text e) → Says text (Editing s) new
 says text a r s new e f h k = rw (e, f) (says-by text a r h k)
 
-view-says-by : (text : List ℕ) (v : SeenEditing) (r : Result ViewTurn RecordError) (o : Option Stage) → IfSome o (λ x. x ≡ stage_of_view r)
-    → IfOk r (λ turn. ViewSays v text turn) → IfErr r (λ e. ViewSayFails v text e) → Says text (Editing (edits.Layered v)) (or_ended o)
-view-says-by text v (Ok turn) (Some x) e h k = rw e (Says.layer_turned turn h)
-view-says-by text v (Err error) (Some x) e h k = rw e (Says.layer_failed k)
-view-says-by text v r None e h k = Says.layer_failed (ViewSayFails.say_refused refl)
+view-says-by : (text : List ℕ) (v : SeenEditing) (r : Result ViewTurn RecordError) → IfOk r (λ turn. ViewSays v text turn) → IfErr r (λ e. ViewSayFails v text e)
+    → Says text (Editing (edits.Layered v)) (stage_of_view r)
+view-says-by text v (Ok turn) h k = Says.layer_turned turn h
+view-says-by text v (Err error) h k = Says.layer_failed k
 
-pub view-says : (text : List ℕ) (v w : SeenEditing) (r : Result ViewTurn RecordError) (o : Option Stage) (s : MessageEdit) (new : Stage) → s ≡ edits.Layered v → w ≡ v
-    → IfSome o (λ x. x ≡ stage_of_view r) → new ≡ or_ended o → IfOk r (λ turn. ViewSays w text turn) → IfErr r (λ e. ViewSayFails w text e) → Says text (Editing s) new
-view-says text v w r o s new e same is f h k =
-    rw (e, f) (subst (λ (x : SeenEditing). Says text (Editing (edits.Layered x)) (or_ended o)) same (view-says-by text w r o is h k))
+pub view-says : (text : List ℕ) (v : SeenEditing) (r : Result ViewTurn RecordError) (s : MessageEdit) (new : Stage) → s ≡ edits.Layered v → new ≡ stage_of_view r
+    → IfOk r (λ turn. ViewSays v text turn) → IfErr r (λ e. ViewSayFails v text e) → Says text (Editing s) new
+view-says text v r s new e f h k = rw (e, f) (view-says-by text v r h k)
 
 pub resizes : (kind : TerminalKind) (l m : Live) (old new : Running) → old ≡ running.Plain l → new ≡ running.Plain m → m ≡ on_screen l kind
     → Resizes kind (Waiting old) (Waiting new)
@@ -81,16 +77,15 @@ pub types : (bytes : List ℕ) (d e : Decoder) (l : Live) (r : Result Turn Recor
     → IfOk r (λ turn. BytesLead l d e bytes turn) → IfErr r (λ x. BytesFail l d e bytes x) → Types bytes d e (Waiting s) new
 types bytes d e l r s new f g h k = rw (f, g) (types-by bytes d e l r h k)
 
-view-types-by : (bytes : List ℕ) (c d : Decoder) (v : Seen) (r : Result ViewTurn RecordError) (o : Option Stage) → IfSome o (λ x. x ≡ stage_of_view r)
-    → IfOk r (λ turn. ViewBytes v c d bytes turn) → IfErr r (λ e. ViewBytesFail v c d bytes e) → Types bytes c d (Waiting (running.Layered v)) (or_ended o)
-view-types-by bytes c d v (Ok turn) (Some x) e h k = rw e (Types.layer_turned turn h)
-view-types-by bytes c d v (Err error) (Some x) e h k = rw e (Types.layer_failed k)
-view-types-by bytes c d v r None e h k = Types.layer_failed (ViewBytesFail.bytes_refused refl)
+view-types-by : (bytes : List ℕ) (c d : Decoder) (v : Seen) (r : Result ViewTurn RecordError)
+    → IfOk r (λ turn. ViewBytes v c d bytes turn) → IfErr r (λ e. ViewBytesFail v c d bytes e) → Types bytes c d (Waiting (running.Layered v)) (stage_of_view r)
+view-types-by bytes c d v (Ok turn) h k = Types.layer_turned turn h
+view-types-by bytes c d v (Err error) h k = Types.layer_failed k
 
-pub view-types : (bytes : List ℕ) (c d : Decoder) (v w : Seen) (r : Result ViewTurn RecordError) (o : Option Stage) (s : Running) (new : Stage) → s ≡ running.Layered v → w ≡ v
-    → IfSome o (λ x. x ≡ stage_of_view r) → new ≡ or_ended o → IfOk r (λ turn. ViewBytes w c d bytes turn) → IfErr r (λ e. ViewBytesFail w c d bytes e) → Types bytes c d (Waiting s) new
-view-types bytes c d v w r o s new e same is f h k =
-    rw (e, f) (subst (λ (x : Seen). Types bytes c d (Waiting (running.Layered x)) (or_ended o)) same (view-types-by bytes c d w r o is h k))
+pub view-types : (bytes : List ℕ) (c d : Decoder) (v : Seen) (r : Result ViewTurn RecordError) (s : Running) (new : Stage)
+    → s ≡ running.Layered v → new ≡ stage_of_view r
+    → IfOk r (λ turn. ViewBytes v c d bytes turn) → IfErr r (λ e. ViewBytesFail v c d bytes e) → Types bytes c d (Waiting s) new
+view-types bytes c d v r s new f g h k = rw (f, g) (view-types-by bytes c d v r h k)
 
 idles-by : (d e : Decoder) (l : Live) (r : Result Turn RecordError)
     → IfOk r (λ turn. SilenceLeads l d e turn) → IfErr r (λ x. SilenceFails l d e x) → Idles d e (Waiting (running.Plain l)) (stage_after r)
@@ -102,16 +97,15 @@ pub idles : (d e : Decoder) (l : Live) (r : Result Turn RecordError) (s : Runnin
     → IfOk r (λ turn. SilenceLeads l d e turn) → IfErr r (λ x. SilenceFails l d e x) → Idles d e (Waiting s) new
 idles d e l r s new f g h k = rw (f, g) (idles-by d e l r h k)
 
-view-idles-by : (c d : Decoder) (v : Seen) (r : Result ViewTurn RecordError) (o : Option Stage) → IfSome o (λ x. x ≡ stage_of_view r)
-    → IfOk r (λ turn. ViewSilence v c d turn) → IfErr r (λ e. ViewSilenceFails v c d e) → Idles c d (Waiting (running.Layered v)) (or_ended o)
-view-idles-by c d v (Ok turn) (Some x) e h k = rw e (Idles.layer_turned turn h)
-view-idles-by c d v (Err error) (Some x) e h k = rw e (Idles.layer_failed k)
-view-idles-by c d v r None e h k = Idles.layer_failed (ViewSilenceFails.silence_refused refl)
+view-idles-by : (c d : Decoder) (v : Seen) (r : Result ViewTurn RecordError)
+    → IfOk r (λ turn. ViewSilence v c d turn) → IfErr r (λ e. ViewSilenceFails v c d e) → Idles c d (Waiting (running.Layered v)) (stage_of_view r)
+view-idles-by c d v (Ok turn) h k = Idles.layer_turned turn h
+view-idles-by c d v (Err error) h k = Idles.layer_failed k
 
-pub view-idles : (c d : Decoder) (v w : Seen) (r : Result ViewTurn RecordError) (o : Option Stage) (s : Running) (new : Stage) → s ≡ running.Layered v → w ≡ v
-    → IfSome o (λ x. x ≡ stage_of_view r) → new ≡ or_ended o → IfOk r (λ turn. ViewSilence w c d turn) → IfErr r (λ e. ViewSilenceFails w c d e) → Idles c d (Waiting s) new
-view-idles c d v w r o s new e same is f h k =
-    rw (e, f) (subst (λ (x : Seen). Idles c d (Waiting (running.Layered x)) (or_ended o)) same (view-idles-by c d w r o is h k))
+pub view-idles : (c d : Decoder) (v : Seen) (r : Result ViewTurn RecordError) (s : Running) (new : Stage)
+    → s ≡ running.Layered v → new ≡ stage_of_view r
+    → IfOk r (λ turn. ViewSilence v c d turn) → IfErr r (λ e. ViewSilenceFails v c d e) → Idles c d (Waiting s) new
+view-idles c d v r s new f g h k = rw (f, g) (view-idles-by c d v r h k)
 
 -- the stage of a session changes as that of the value that it owns
 pub stage-changes : (Goes : Stage → Stage → Type 0) (old new : Option OpenSession) (h before k : OpenSession)

@@ -1,7 +1,6 @@
 -- What a session waits for (its stage), and how calls change it.
 use Rattle.std.specs.Prelude.{◌≡◌, ℕ, ◌+◌, List, [], Option, Some, None, Result, Ok, Err, IsTrue, Bool, true, false, option_and_then}
 use Rattle.scm_errors.specs.declared.error.RecordError.{RecordError}
-use Rattle.scm_errors.specs.declared.error.RecordError.TheVariants as errors
 use Rattle.scm_types.specs.declared.state.RecordState.{RecordState}
 use Rattle.scm_types.specs.Limits.{is_accepted_state}
 use Rattle.scm_input.specs.declared.events.Event.{Event}
@@ -93,11 +92,6 @@ stage_of_view (Ok (views.Waiting v)) = Waiting (running.Layered v)
 stage_of_view (Ok (views.Editing v)) = Editing (edits.Layered v)
 stage_of_view (Ok (views.Accepted state)) = Accepted state
 stage_of_view (Err error) = Ended error
-
--- The stage, or that of a session that ended since an allocation failed.
-abbrev pub or_ended : Option Stage → Stage
-or_ended None = Ended errors.OutOfMemory
-or_ended (Some stage) = stage
 
 -- An event changes the stage as the contract of `LiveSession::handle` says.
 pub data Presses (event : Event) : Stage → Stage → Type 0 where

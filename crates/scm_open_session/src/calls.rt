@@ -59,14 +59,14 @@ pub fn end(session: &Session) -> u32
 }
 
 /// Handles `bytes`, which a terminal sent. Returns the code of the call.
-pub fn type_bytes(session: &mut Session, bytes: &[u8]) -> u32
+pub fn type_bytes(alloc: Global, session: &mut Session, bytes: &[u8]) -> u32
     ensures code { result ≡ code_of_call (box_value session.old) }
     ensures typed { result ≡ 0
         → ChangesDecoder (Types bytes.now) (box_value session.old) (box_value session.new) }
     ensures kept { 0 < result → box_value session.new ≡ box_value session.old }
 {
     match session {
-        Some(inner) => done_or_not_now(inner.hear(bytes)),
+        Some(inner) => done_or_not_now(inner.hear(alloc, bytes)),
         None => codes::CLOSED,
     }
 }
@@ -74,7 +74,13 @@ pub fn type_bytes(session: &mut Session, bytes: &[u8]) -> u32
 /// Handles `bytes`, which a terminal sent, up to the first key that the table lacks. Writes the number
 /// of bytes that it took to `taken`, and the code of that key to `key`, 0 without one. Returns the code
 /// of the call.
-pub fn type_to_key(session: &mut Session, bytes: &[u8], taken: &mut usize, key: &mut u32) -> u32
+pub fn type_to_key(
+    alloc: Global,
+    session: &mut Session,
+    bytes: &[u8],
+    taken: &mut usize,
+    key: &mut u32,
+) -> u32
     ensures code { result ≡ code_of_call (box_value session.old) }
     ensures typed { result ≡ 0 → ChangesToKey bytes.now
         (box_value session.old) (box_value session.new) taken.new key.new }
@@ -82,7 +88,7 @@ pub fn type_to_key(session: &mut Session, bytes: &[u8], taken: &mut usize, key: 
     ensures unwritten { 0 < result → (taken.new ≡ taken.old) × (key.new ≡ key.old) }
 {
     match session {
-        Some(inner) => match inner.hear_to_key(bytes) {
+        Some(inner) => match inner.hear_to_key(alloc, bytes) {
             Some((sent, found)) => {
                 *taken = sent;
                 *key = found;

@@ -32,9 +32,7 @@ fn running_cells(alloc: Global, session: &Running, painters: &Painters) -> Optio
 {
     match session {
         Running::Plain(session) => plain_cells(alloc, session),
-        Running::Layered(layer) => painters
-            .layered
-            .cells(layer.read(), painters.accept.as_str()),
+        Running::Layered(view) => painters.layered.cells(view, painters.accept.as_str()).ok(),
     }
 }
 

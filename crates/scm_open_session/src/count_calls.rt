@@ -43,7 +43,7 @@ fn after_counted_batch(session: Running, events: &[Event]) -> (Stage, Option<usi
             let (stage, handled) = after_plain_batch(session, events);
             (stage, Some(handled))
         }
-        Running::Layered(layer) => (Stage::Waiting(Running::Layered(layer)), None),
+        Running::Layered(view) => (Stage::Waiting(Running::Layered(view)), None),
     }
 }
 
@@ -127,7 +127,7 @@ fn after_counted_message(edit: MessageEdit, text: String) -> (Stage, Option<usiz
             let (stage, handled) = after_plain_message(editing, text);
             (stage, Some(handled))
         }
-        MessageEdit::Layered(layer) => (Stage::Editing(MessageEdit::Layered(layer)), None),
+        MessageEdit::Layered(view) => (Stage::Editing(MessageEdit::Layered(view)), None),
     }
 }
 

@@ -10,7 +10,6 @@ ghost use Rattle.scm_open_session.specs.Painters.{HaveLabel, HaveTheme, HaveWord
 ghost use Rattle.scm_c_values.specs.Codes.{IsCode, code_of_json, done_code};
 ghost use Rattle.std.specs.Str.{is_utf8};
 
-use crate::boxed::BoxedView;
 use crate::open_session::{OpenSession, Stage};
 use crate::running::{Running, after_start, set_keys};
 use scm_c_values::codes;
@@ -55,29 +54,6 @@ fn new_view(
     View::new(front, width, height)
 }
 
-/// Returns a new view of `state` in a box.
-///
-/// # Errors
-/// `NO_MEMORY`: an allocation failed.
-fn new_layer(
-    alloc: Global,
-    state: RecordState<'static>,
-    width: u16,
-    height: u16,
-) -> Result<BoxedView, u32>
-    requires { IsTrue (is_accepted_state state) }
-    ensures ok { IfOk result (λ layer. IsNewView state.entry width height layer) }
-    ensures err { IfErr result (λ code. code ≡ 8) }
-{
-    let Ok(view) = new_view(alloc, state, width, height) else {
-        return Err(codes::NO_MEMORY);
-    };
-    match BoxedView::new(alloc, view) {
-        Some(layer) => Ok(layer),
-        None => Err(codes::NO_MEMORY),
-    }
-}
-
 /// Returns the stage and the code of a session that begins with the state of `builder` and a layer, on a
 /// terminal of `width` columns and `height` rows.
 fn start_view(alloc: Global, builder: StateBuilder, width: u16, height: u16) -> (Stage, u32)
@@ -86,9 +62,9 @@ fn start_view(alloc: Global, builder: StateBuilder, width: u16, height: u16) -> 
     if !builder.is_accepted() {
         return (Stage::Building(builder), codes::NOT_ACCEPTED);
     }
-    match new_layer(alloc, builder.into_state(), width.min(MAX), height.min(MAX)) {
-        Ok(layer) => (Stage::Waiting(Running::Layered(layer)), codes::DONE),
-        Err(code) => (Stage::Ended(RecordError::OutOfMemory), code),
+    match new_view(alloc, builder.into_state(), width.min(MAX), height.min(MAX)) {
+        Ok(view) => (Stage::Waiting(Running::Layered(view)), codes::DONE),
+        Err(error) => (Stage::Ended(error), codes::NO_MEMORY),
     }
 }
 
@@ -161,8 +137,10 @@ impl OpenSession {
         ensures refused { IfErr result (λ code. 0 < code) }
     {
         let state = state_of(alloc, json)?;
-        let layer = new_layer(alloc, state, width.min(MAX), height.min(MAX))?;
-        let stage = Stage::Waiting(Running::Layered(layer));
+        let Ok(view) = new_view(alloc, state, width.min(MAX), height.min(MAX)) else {
+            return Err(codes::NO_MEMORY);
+        };
+        let stage = Stage::Waiting(Running::Layered(view));
         match OpenSession::at_stage(alloc, stage) {
             Some(inner) => Ok(inner),
             None => Err(codes::NO_MEMORY),

@@ -2,7 +2,6 @@
 //! and references; the library for C, `scm_c`, has the pointers.
 #![tactic(auto)]
 
-pub mod boxed;
 pub mod calls;
 pub mod cell_calls;
 pub mod count_calls;

@@ -157,13 +157,13 @@ fn pressed_all(stage: Stage, events: &[Event]) -> (Stage, bool)
 }
 
 /// Returns the stage after `bytes` from a terminal, and whether the session waited for an event.
-fn heard(stage: Stage, decoder: &mut Decoder, bytes: &[u8]) -> (Stage, bool)
+fn heard(alloc: Global, stage: Stage, decoder: &mut Decoder, bytes: &[u8]) -> (Stage, bool)
     ensures is_waiting { result.1 ≡ is_waiting stage }
     ensures typed { IsTrue result.1 → Types bytes.now decoder.old decoder.new stage result.0 }
     ensures kept { result.1 ≡ false → (result.0 ≡ stage) × (decoder.new ≡ decoder.old) }
 {
     match stage {
-        Stage::Waiting(session) => (after_bytes(session, decoder, bytes), true),
+        Stage::Waiting(session) => (after_bytes(alloc, session, decoder, bytes), true),
         other => (other, false),
     }
 }
@@ -256,11 +256,10 @@ impl OpenSession {
         ensures unheard { IfSome result (λ inner. HasHeard inner.value.decoder false []) }
         ensures unpainted { IfSome result (λ inner. AreNew inner.value.painter) }
     {
-        let painter = Painters::new(alloc)?;
         let inner = OpenSession {
             stage,
             decoder: Decoder::new(),
-            painter,
+            painter: Painters::new(alloc),
         };
         Box::new(alloc, inner).ok()
     }
@@ -469,14 +468,14 @@ impl OpenSession {
 
     /// Handles `bytes` from a terminal if the session waits for an event, and returns whether it
     /// does.
-    pub fn hear(&mut self, bytes: &[u8]) -> bool
+    pub fn hear(&mut self, alloc: Global, bytes: &[u8]) -> bool
         ensures is_waiting { result ≡ is_waiting self.old.stage }
         ensures typed { IsTrue result
             → Types bytes.now self.old.decoder self.new.decoder self.old.stage self.new.stage }
         ensures painter { self.new.painter ≡ self.old.painter }
         ensures kept { result ≡ false → self.new ≡ self.old }
     {
-        let (stage, is_done) = heard(self.take_stage(), &mut self.decoder, bytes);
+        let (stage, is_done) = heard(alloc, self.take_stage(), &mut self.decoder, bytes);
         self.stage = stage;
         is_done
     }
@@ -485,14 +484,14 @@ impl OpenSession {
     /// waits for an event. Returns how many bytes it took, and the code of that key, 0 without one. If
     /// the session waits for no event then, the other bytes are dropped, and there is no such key. While
     /// the layer asks for a text, it hears all keys, and the code is 0.
-    pub fn hear_to_key(&mut self, bytes: &[u8]) -> Option<(usize, u32)>
+    pub fn hear_to_key(&mut self, alloc: Global, bytes: &[u8]) -> Option<(usize, u32)>
         ensures waits { is_some result ≡ is_waiting self.old.stage }
         ensures typed { IfSome result
             (λ told. TypesToKey bytes.now self.old self.new told.0 told.1) }
         ensures kept { IfNone result (self.new ≡ self.old) }
     {
         let (taken, key) = stop(self.decoder, bytes);
-        if !self.hear(&bytes[..taken]) {
+        if !self.hear(alloc, &bytes[..taken]) {
             return None;
         }
         let told = told_length(self.is_waiting(), taken, bytes.len());

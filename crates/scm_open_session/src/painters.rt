@@ -1,12 +1,11 @@
 //! What a session is painted with: its painters, and the words of what accepting does.
 ghost use Rattle.std.specs.Prelude.{◌≡◌, IfNone, IfSome, IsTrue, false, string_bytes};
-ghost use Rattle.scm_open_session.specs.Painters.{AreNew, Forget, HaveLabel, HaveTheme, HaveWords};
+ghost use Rattle.scm_open_session.specs.Painters.{AreNew, Forget, HaveLabel, HaveTheme, HaveWords, IsLabelled};
 ghost use Rattle.scm_open_session.specs.Paint.{ShowsPlain, ShowsRunning, ShowsView};
 
-use crate::boxed::BoxedPainter;
 use crate::running::Running;
 use scm_c_values::updates::{update_of, update_of_session};
-use scm_front_paint::{Label, Theme, View};
+use scm_front_paint::{FrontPainter, Label, Theme, View};
 use scm_record::{LiveSession, OwnedText, Painter};
 use std::alloc::Global;
 
@@ -16,33 +15,40 @@ pub struct Painters {
     /// The painter of a session without a layer, which knows what the terminal shows.
     pub plain: Painter,
     /// The painter of a session with a layer, which knows what the terminal shows, and the labels of sections.
-    pub layered: BoxedPainter,
+    pub layered: FrontPainter,
     /// The colours of a layer.
     pub theme: Theme,
     /// What the status row of a layer says that accepting does.
     pub accept: OwnedText,
 }
 
+/// Shows `label` in the paints of `painter`, and returns whether it does. If an allocation failed, this is a
+/// no-op.
+fn try_label(painter: &mut FrontPainter, label: Label) -> bool
+    ensures done { IsTrue result → IsLabelled label painter.old painter.new }
+    ensures kept { result ≡ false → painter.new ≡ painter.old }
+{
+    painter.label(label).is_ok()
+}
+
 impl Painters {
     /// Returns the painters of a new session: dark, without labels, and without words of what accepting does.
-    /// Returns `None` if an allocation failed.
-    pub fn new(alloc: Global) -> Option<Painters>
-        ensures { IfSome result (λ painters. AreNew painters) }
+    pub fn new(alloc: Global) -> Painters
+        ensures { AreNew result }
     {
-        let layered = BoxedPainter::new(alloc, Theme::Dark)?;
-        Some(Painters {
+        Painters {
             plain: Painter::new(alloc),
-            layered,
+            layered: FrontPainter::new(alloc, Theme::Dark),
             theme: Theme::Dark,
             accept: OwnedText::from(String::new(alloc)),
-        })
+        }
     }
 
     /// Paints a layer in the colours of `theme` from now on. The next update of a layer has every row.
     pub fn set_theme(&mut self, theme: Theme)
         ensures { HaveTheme theme self.old self.new }
     {
-        self.layered.restart(theme);
+        self.layered.set_theme(theme);
         self.theme = theme;
     }
 
@@ -59,7 +65,7 @@ impl Painters {
         ensures done { IsTrue result → HaveLabel label self.old self.new }
         ensures kept { result ≡ false → self.new ≡ self.old }
     {
-        self.layered.label(label)
+        try_label(&mut self.layered, label)
     }
 
     /// Forgets what was painted, so that the next update has every row.
@@ -67,7 +73,7 @@ impl Painters {
         ensures { Forget self.old self.new }
     {
         self.plain.forget();
-        self.layered.restart(self.theme);
+        self.layered.set_theme(self.theme);
     }
 
     /// Returns the update that makes the terminal show `session`, if it shows what was painted last.
@@ -91,7 +97,7 @@ impl Painters {
         ensures labels { self.new.layered.labels ≡ self.old.layered.labels }
         ensures accept { self.new.accept ≡ self.old.accept }
     {
-        let bytes = self.layered.paint(view, self.accept.as_str())?;
+        let bytes = self.layered.paint(view, self.accept.as_str()).ok()?;
         update_of(alloc, &bytes)
     }
 
@@ -106,7 +112,7 @@ impl Painters {
     {
         match session {
             Running::Plain(session) => self.plain_update(alloc, session),
-            Running::Layered(layer) => self.view_update(alloc, layer.read()),
+            Running::Layered(view) => self.view_update(alloc, view),
         }
     }
 

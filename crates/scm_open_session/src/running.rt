@@ -6,17 +6,17 @@ ghost use Rattle.scm_record.specs.declared.live.Turn.TheVariants as turns;
 ghost use Rattle.scm_front.specs.Logging.{IsLogged};
 ghost use Rattle.scm_open_session.specs.Batches.{PressesAll};
 ghost use Rattle.scm_open_session.specs.LayerCalls.{SetsStart};
+ghost use Rattle.scm_open_session.specs.Layered.{ViewResizes};
 ghost use Rattle.scm_open_session.specs.OwnKeys.{SetsKeys};
 ghost use Rattle.scm_open_session.specs.Running.{edit_of, is_asking, is_edit_layered, is_layered, live_of, offset_of};
-ghost use Rattle.scm_open_session.specs.Stages.{Idles, Presses, Resizes, Says, Types, or_ended, stage_after, stage_of_view};
+ghost use Rattle.scm_open_session.specs.Stages.{Idles, Presses, Resizes, Says, Types, stage_after, stage_of_view};
 ghost use Rattle.scm_c_values.specs.Screens.{screen_of};
 
-use crate::boxed::{BoxedEdit, BoxedView};
 use crate::layer::{press, press_all, set_start};
 use crate::open_session::Stage;
 use scm_c_values::screens::screen;
 use scm_front::{AcceptedState, Folds, Logging, OwnKey};
-use scm_front_paint::ViewTurn;
+use scm_front_paint::{View, ViewEditing, ViewTurn};
 use scm_record::{
     Decoder, Editing, Event, Items, LiveSession, RecordError, SelectionKey, TerminalKind, Turn,
 };
@@ -28,7 +28,7 @@ pub enum Running {
     /// A session without a layer.
     Plain(LiveSession<'static>),
     /// A session with a layer over it.
-    Layered(BoxedView),
+    Layered(View<'static>),
 }
 
 /// A session that waits for the message of a commit.
@@ -37,7 +37,7 @@ pub enum MessageEdit {
     /// A session without a layer.
     Plain(Editing<'static>),
     /// A session with a layer over it.
-    Layered(BoxedEdit),
+    Layered(ViewEditing<'static>),
 }
 
 /// Returns the stage after a call with the result `answer`.
@@ -52,31 +52,15 @@ pub(crate) fn stage_of(answer: Result<Turn<'static>, RecordError>) -> Stage
     }
 }
 
-/// Returns the stage after a call of a view with the result `answer`. Returns `None` if an allocation failed.
-fn stage_of_view(alloc: Global, answer: Result<ViewTurn<'static>, RecordError>) -> Option<Stage>
-    ensures { IfSome result (λ stage. stage ≡ stage_of_view answer.entry) }
+/// Returns the stage after a call of a view with the result `answer`.
+fn stage_of_view(answer: Result<ViewTurn<'static>, RecordError>) -> Stage
+    ensures { result ≡ stage_of_view answer.entry }
 {
     match answer {
-        Ok(ViewTurn::Waiting(view)) => {
-            let layer = BoxedView::new(alloc, view)?;
-            Some(Stage::Waiting(Running::Layered(layer)))
-        }
-        Ok(ViewTurn::Editing(editing)) => {
-            let layer = BoxedEdit::new(alloc, editing)?;
-            Some(Stage::Editing(MessageEdit::Layered(layer)))
-        }
-        Ok(ViewTurn::Accepted(state)) => Some(Stage::Accepted(state)),
-        Err(error) => Some(Stage::Ended(error)),
-    }
-}
-
-/// Returns `stage`, or that of a session that ended since an allocation failed.
-fn or_ended(stage: Option<Stage>) -> Stage
-    ensures { result ≡ or_ended stage }
-{
-    match stage {
-        Some(stage) => stage,
-        None => Stage::Ended(RecordError::OutOfMemory),
+        Ok(ViewTurn::Waiting(view)) => Stage::Waiting(Running::Layered(view)),
+        Ok(ViewTurn::Editing(editing)) => Stage::Editing(MessageEdit::Layered(editing)),
+        Ok(ViewTurn::Accepted(state)) => Stage::Accepted(state),
+        Err(error) => Stage::Ended(error),
     }
 }
 
@@ -87,7 +71,7 @@ impl Running {
     {
         match self {
             Running::Plain(session) => session,
-            Running::Layered(layer) => layer.read().front().beneath(),
+            Running::Layered(view) => view.front().beneath(),
         }
     }
 
@@ -97,7 +81,7 @@ impl Running {
     {
         match self {
             Running::Plain(_) => 0,
-            Running::Layered(layer) => layer.read().offset(),
+            Running::Layered(view) => view.offset(),
         }
     }
 
@@ -119,7 +103,7 @@ impl Running {
     {
         match self {
             Running::Plain(_) => false,
-            Running::Layered(layer) => layer.log(),
+            Running::Layered(view) => view.log(),
         }
     }
 
@@ -130,7 +114,7 @@ impl Running {
     {
         match self {
             Running::Plain(_) => None,
-            Running::Layered(layer) => Some(layer.read().front().logging()),
+            Running::Layered(view) => Some(view.front().logging()),
         }
     }
 
@@ -140,7 +124,7 @@ impl Running {
     {
         match self {
             Running::Plain(_) => false,
-            Running::Layered(layer) => layer.read().front().query().is_asking,
+            Running::Layered(view) => view.front().query().is_asking,
         }
     }
 }
@@ -152,7 +136,7 @@ impl MessageEdit {
     {
         match self {
             MessageEdit::Plain(editing) => editing,
-            MessageEdit::Layered(layer) => layer.read().beneath().beneath(),
+            MessageEdit::Layered(view) => view.beneath().beneath(),
         }
     }
 
@@ -163,7 +147,7 @@ impl MessageEdit {
     {
         match self {
             MessageEdit::Plain(_) => None,
-            MessageEdit::Layered(layer) => Some(layer.read().beneath().logging()),
+            MessageEdit::Layered(view) => Some(view.beneath().logging()),
         }
     }
 
@@ -184,10 +168,7 @@ pub fn after_event(session: Running, event: Event) -> Stage
 {
     match session {
         Running::Plain(session) => stage_of(session.handle(event)),
-        Running::Layered(layer) => {
-            let alloc = layer.alloc();
-            or_ended(stage_of_view(alloc, press(layer.into_view(), event)))
-        }
+        Running::Layered(view) => stage_of_view(press(view, event)),
     }
 }
 
@@ -197,23 +178,17 @@ pub fn after_batch(session: Running, events: &[Event]) -> Stage
 {
     match session {
         Running::Plain(session) => stage_of(session.handle_all(events)),
-        Running::Layered(layer) => {
-            let alloc = layer.alloc();
-            or_ended(stage_of_view(alloc, press_all(layer.into_view(), events)))
-        }
+        Running::Layered(view) => stage_of_view(press_all(view, events)),
     }
 }
 
 /// Returns the stage of `session` after `bytes` from a terminal.
-pub fn after_bytes(session: Running, decoder: &mut Decoder, bytes: &[u8]) -> Stage
+pub fn after_bytes(alloc: Global, session: Running, decoder: &mut Decoder, bytes: &[u8]) -> Stage
     ensures { Types bytes.now decoder.old decoder.new (Waiting session) result }
 {
     match session {
         Running::Plain(session) => stage_of(session.typed(decoder, bytes)),
-        Running::Layered(layer) => {
-            let alloc = layer.alloc();
-            or_ended(stage_of_view(alloc, layer.into_view().typed(alloc, decoder, bytes)))
-        }
+        Running::Layered(view) => stage_of_view(view.typed(alloc, decoder, bytes)),
     }
 }
 
@@ -223,10 +198,7 @@ pub fn after_silence(session: Running, decoder: &mut Decoder) -> Stage
 {
     match session {
         Running::Plain(session) => stage_of(session.idle(decoder)),
-        Running::Layered(layer) => {
-            let alloc = layer.alloc();
-            or_ended(stage_of_view(alloc, layer.into_view().idle(decoder)))
-        }
+        Running::Layered(view) => stage_of_view(view.idle(decoder)),
     }
 }
 
@@ -236,10 +208,7 @@ pub fn after_message(edit: MessageEdit, text: String) -> Stage
 {
     match edit {
         MessageEdit::Plain(editing) => stage_of(editing.answer(text)),
-        MessageEdit::Layered(layer) => {
-            let alloc = layer.alloc();
-            or_ended(stage_of_view(alloc, layer.into_view().answer(text)))
-        }
+        MessageEdit::Layered(view) => stage_of_view(view.answer(text)),
     }
 }
 
@@ -252,6 +221,15 @@ fn try_resize_plain(session: &mut LiveSession<'static>, kind: TerminalKind) -> b
     session.resize(kind).is_ok()
 }
 
+/// Shows `view` on a terminal of `width` columns and `height` rows, and returns whether it did. If an
+/// allocation failed, this is a no-op.
+fn try_resize_view(view: &mut View<'static>, width: u16, height: u16) -> bool
+    ensures done { IsTrue result → ViewResizes (screen_of width height) view.old view.new }
+    ensures kept { result ≡ false → view.new ≡ view.old }
+{
+    view.resize(width.min(1000), height.min(1000)).is_ok()
+}
+
 /// Resizes the terminal of `session` to `width` columns and `height` rows, and returns whether it did. If
 /// an allocation failed, this is a no-op.
 pub fn try_resize(session: &mut Running, width: u16, height: u16) -> bool
@@ -261,7 +239,7 @@ pub fn try_resize(session: &mut Running, width: u16, height: u16) -> bool
 {
     match session {
         Running::Plain(session) => try_resize_plain(session, screen(width, height)),
-        Running::Layered(layer) => layer.resize(width, height),
+        Running::Layered(view) => try_resize_view(view, width, height),
     }
 }
 
@@ -273,11 +251,7 @@ pub fn after_start(session: Running, folds: Folds, first: SelectionKey) -> (Stag
 {
     match session {
         Running::Plain(session) => (Stage::Waiting(Running::Plain(session)), false),
-        Running::Layered(layer) => {
-            let alloc = layer.alloc();
-            let stage = stage_of_view(alloc, set_start(layer.into_view(), folds, first));
-            (or_ended(stage), true)
-        }
+        Running::Layered(view) => (stage_of_view(set_start(view, folds, first)), true),
     }
 }
 
@@ -289,8 +263,8 @@ pub fn set_keys(session: &mut Running, keys: Items<OwnKey>) -> bool
 {
     match session {
         Running::Plain(_) => false,
-        Running::Layered(layer) => {
-            layer.set_keys(keys);
+        Running::Layered(view) => {
+            view.set_keys(keys);
             true
         }
     }

@@ -21,7 +21,7 @@ pub(crate) fn running_text(alloc: Global, session: &Running, painters: &Painters
 {
     match session {
         Running::Plain(session) => session.grid().view().ok(),
-        Running::Layered(layer) => view_text(alloc, layer.read(), painters.accept.as_str()).ok(),
+        Running::Layered(view) => view_text(alloc, view, painters.accept.as_str()).ok(),
     }
 }
 
@@ -93,9 +93,9 @@ fn write_running_symbol(
         Running::Plain(session) => {
             write_symbol(session.grid().symbol(row as usize, column as usize), out)
         }
-        Running::Layered(layer) => {
+        Running::Layered(view) => {
             let accept = painters.accept.as_str();
-            write_view_symbol(alloc, layer.read(), accept, row, column, out)
+            write_view_symbol(alloc, view, accept, row, column, out)
         }
     }
 }

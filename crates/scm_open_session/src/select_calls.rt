@@ -32,8 +32,8 @@ fn selected(session: Running, key: SelectionKey) -> Stage
 {
     match session {
         Running::Plain(session) => selected_plain(session, key),
-        Running::Layered(layer) => {
-            let (stage, _) = after_start(Running::Layered(layer), Folds::AsIs, key);
+        Running::Layered(view) => {
+            let (stage, _) = after_start(Running::Layered(view), Folds::AsIs, key);
             stage
         }
     }

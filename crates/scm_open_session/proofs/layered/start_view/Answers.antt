@@ -8,8 +8,8 @@ returns-then-not-is_accepted c = StartsView.not_accepted (sym c.is_accepted.ensu
 
 pub returns-in-Ok : goal.returns-in-Ok
 returns-in-Ok c =
-    view_starts c.args.width c.args.height c.args.builder c.into_state.result _ _ c.in-Ok.layer (sym c.is_accepted.ensures ∙ c.if-not-is_accepted.false) c.into_state.ensures
+    view_starts c.args.width c.args.height c.args.builder c.into_state.result _ _ c.in-Ok.view (sym c.is_accepted.ensures ∙ c.if-not-is_accepted.false) c.into_state.ensures
     c.min.ensures c.min-2.ensures c.in-Ok.ensures.ok
 
 pub returns-in-Err : goal.returns-in-Err
-returns-in-Err c = view_starts_not c.args.width c.args.height c.args.builder c.in-Err.code (sym c.is_accepted.ensures ∙ c.if-not-is_accepted.false) c.in-Err.ensures.err
+returns-in-Err c = view_starts_not c.args.width c.args.height c.args.builder c.in-Err.error (sym c.is_accepted.ensures ∙ c.if-not-is_accepted.false) c.in-Err.ensures.err

@@ -7,5 +7,5 @@ returns-in-Plain c =
 
 pub returns-in-Layered : goal.returns-in-Layered
 returns-in-Layered c =
-    view_presses_all c.args.events.now c.in-Layered.layer c.into_view.result c.press_all.result c.stage_of_view.result c.args.session c.or_ended.result
-    c.in-Layered.is c.into_view.ensures c.stage_of_view.ensures c.or_ended.ensures c.press_all.ensures.ok c.press_all.ensures.err
+    view_presses_all c.args.events.now c.in-Layered.view c.press_all.result c.args.session c.stage_of_view.result
+    c.in-Layered.is c.stage_of_view.ensures c.press_all.ensures.ok c.press_all.ensures.err

@@ -8,5 +8,5 @@ returns-in-Plain c =
 
 pub returns-in-Layered : goal.returns-in-Layered
 returns-in-Layered c =
-    view-types c.args.bytes.now c.args.decoder.now c.typed-in-Layered.new.decoder c.in-Layered.layer c.into_view.result c.typed-in-Layered.result c.stage_of_view.result c.args.session c.or_ended.result
-    c.in-Layered.is c.into_view.ensures c.stage_of_view.ensures c.or_ended.ensures c.typed-in-Layered.ensures.ok c.typed-in-Layered.ensures.err
+    view-types c.args.bytes.now c.args.decoder.now c.typed-in-Layered.new.decoder c.in-Layered.view c.typed-in-Layered.result c.args.session c.stage_of_view.result
+    c.in-Layered.is c.stage_of_view.ensures c.typed-in-Layered.ensures.ok c.typed-in-Layered.ensures.err

@@ -7,5 +7,5 @@ returns-in-Plain c =
 
 pub returns-in-Layered : goal.returns-in-Layered
 returns-in-Layered c =
-    view-presses c.args.event c.in-Layered.layer c.into_view.result c.press.result c.stage_of_view.result c.args.session c.or_ended.result
-    c.in-Layered.is c.into_view.ensures c.stage_of_view.ensures c.or_ended.ensures c.press.ensures.ok c.press.ensures.err
+    view-presses c.args.event c.in-Layered.view c.press.result c.args.session c.stage_of_view.result
+    c.in-Layered.is c.stage_of_view.ensures c.press.ensures.ok c.press.ensures.err

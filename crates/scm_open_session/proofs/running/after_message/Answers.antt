@@ -8,5 +8,5 @@ returns-in-Plain c =
 
 pub returns-in-Layered : goal.returns-in-Layered
 returns-in-Layered c =
-    view-says (string_bytes c.args.text) c.in-Layered.layer c.into_view.result c.answer-in-Layered.result c.stage_of_view.result c.args.edit c.or_ended.result
-    c.in-Layered.is c.into_view.ensures c.stage_of_view.ensures c.or_ended.ensures c.answer-in-Layered.ensures.ok c.answer-in-Layered.ensures.err
+    view-says (string_bytes c.args.text) c.in-Layered.view c.answer-in-Layered.result c.args.edit c.stage_of_view.result
+    c.in-Layered.is c.stage_of_view.ensures c.answer-in-Layered.ensures.ok c.answer-in-Layered.ensures.err

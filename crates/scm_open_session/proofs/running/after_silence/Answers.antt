@@ -8,5 +8,5 @@ returns-in-Plain c =
 
 pub returns-in-Layered : goal.returns-in-Layered
 returns-in-Layered c =
-    view-idles c.args.decoder.now c.idle-in-Layered.new.decoder c.in-Layered.layer c.into_view.result c.idle-in-Layered.result c.stage_of_view.result c.args.session c.or_ended.result
-    c.in-Layered.is c.into_view.ensures c.stage_of_view.ensures c.or_ended.ensures c.idle-in-Layered.ensures.ok c.idle-in-Layered.ensures.err
+    view-idles c.args.decoder.now c.idle-in-Layered.new.decoder c.in-Layered.view c.idle-in-Layered.result c.args.session c.stage_of_view.result
+    c.in-Layered.is c.stage_of_view.ensures c.idle-in-Layered.ensures.ok c.idle-in-Layered.ensures.err

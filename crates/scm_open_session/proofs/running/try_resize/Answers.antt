@@ -15,5 +15,5 @@ returns-in-Plain-clause-done c = λ done.
 
 pub returns-in-Layered-clause-done : goal.returns-in-Layered-clause-done
 returns-in-Layered-clause-done c = λ done.
-    view-resizes (screen_of c.args.width c.args.height) c.in-Layered.layer c.resize.new.self c.args.session.now (running.Layered c.resize.new.self)
-    c.in-Layered.is refl (c.resize.ensures.done done)
+    view-resizes (screen_of c.args.width c.args.height) c.in-Layered.view c.try_resize_view.new.view c.args.session.now (running.Layered c.try_resize_view.new.view)
+    c.in-Layered.is refl (c.try_resize_view.ensures.done done)
