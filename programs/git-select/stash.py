@@ -43,6 +43,13 @@ def write_in(folder, name, mode, data):
             file.write(data)
 
 
+def word_for(stash):
+    """Returns a word that names the stash with this name: its first signs, up to a letter. git takes a word of digits for a place in the
+    list of stashes."""
+    words = (stash[:length] for length in range(10, len(stash) + 1))
+    return next((word for word in words if not word.isdigit()), stash + "^0")
+
+
 class Trial(Git):
     """A copy of a repository's index, with some files of its working tree, in `folder`. `scratch` has the store of objects that git
     writes to. `entries` are the paths, each with the mode and the bytes that the file has."""
@@ -128,4 +135,4 @@ class Stash(Restore):
 
         above = os.path.relpath(self.repository.top)
         where = "" if above == os.curdir else "-C %s " % printable(shlex.quote(above))
-        return "git stash show -p --binary %s | git %sapply" % (stash[:10], where)
+        return "git stash show -p --binary %s | git %sapply" % (word_for(stash), where)

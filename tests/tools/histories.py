@@ -1,4 +1,6 @@
 """git-select in commits and stashes, for tools/dev/try-tools: --amend, --fixup, --stash and --split."""
+import hashlib
+import itertools
 import os
 
 import changed
@@ -155,6 +157,39 @@ def the_way_back_that_is_said(place):
     return all(ends) and is_kept and repository.git("cat-file", "blob", name).encode() == new and repository.is_sound()
 
 
+def name_of(commit):
+    """Returns the name that git gives to a commit with these bytes."""
+    return hashlib.sha1(b"commit %d\0" % len(commit) + commit).hexdigest()
+
+
+def a_stash_whose_name_begins_with_digits(place):
+    """git takes a word of digits for a place in the list of stashes: so the command that is named has more of the name."""
+    new = thirty(line5=b" first", line25=b" second")
+    repository = Repository(place, {"a": thirty()}, {"a": new})
+
+    def stash(second):
+        date = "%d +0000" % second
+        keys = ["shift-F", "j", "space", "c"]
+        return repository.select("--stash", keys=keys, GIT_AUTHOR_DATE=date, GIT_COMMITTER_DATE=date)
+
+    begin = 1_700_000_000
+    stash(begin)
+    stashed, index = (repository.git("cat-file", "commit", name).encode() for name in ("refs/stash", "refs/stash^2"))
+
+    def name_at(second):
+        dates = b"%d" % begin, b"%d" % second
+        other = name_of(index.replace(*dates)).encode()
+        return name_of(stashed.replace(*dates).replace(name_of(index).encode(), other))
+
+    second = next(it for it in itertools.count(begin) if name_at(it)[:10].isdigit())
+    changed.write(repository.folder, {"a": new})
+    status, said = stash(second)
+    is_stashed = status == 0 and repository.git("rev-parse", "refs/stash") == name_at(second) + "\n"
+    command, = (line.removesuffix(" has it back") for line in said.splitlines() if line.endswith(" has it back"))
+    is_back = place.call("sh", "-c", command, folder=repository.folder) == (0, "") and repository.files()["a"] == new
+    return is_stashed and name_at(second)[:10] + " " not in command and is_back and repository.is_sound()
+
+
 def in_two_commits(place):
     """The last commit becomes two: what is chosen comes first, and the second has the files of the last one. Index and working tree
     stay, and so does the author."""
@@ -285,6 +320,6 @@ def a_question_about_nothing(place):
 
 ALL = (
     to_the_last_commit, as_a_fixup, in_a_stash, a_stash_that_cannot_be_taken, a_stash_beside_staged_lines,
-    the_way_back_that_is_said, in_two_commits, the_first_commit_in_two, a_renamed_file, what_a_renamed_file_is_called,
+    the_way_back_that_is_said, a_stash_whose_name_begins_with_digits, in_two_commits, the_first_commit_in_two, a_renamed_file, what_a_renamed_file_is_called,
     a_question_about_nothing,
 )
