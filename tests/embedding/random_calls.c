@@ -100,6 +100,8 @@ static uint64_t page_sum(uint64_t sum, size_t file, bool is_selected) {
     memset(out, GUARD, sizeof out);
     uint32_t code = gabro_pager_open(&session, file, is_selected, &pager);
     assert(code == GABRO_DONE && pager.is_open && pager.selected == is_selected && pager.file == file && pager.top == 0 && pager.left == 0);
+    code = gabro_pager_show(&session, &pager, 0, 0, 4);
+    assert(code == GABRO_DONE && pager.is_open && pager.selected == is_selected && pager.file == file && pager.top == 0 && pager.left == 0);
     code = gabro_pager_type(&session, &pager, "xyz", 3, 30, 4);
     assert(code == GABRO_DONE && pager.is_open && pager.selected == is_selected && pager.file == file && pager.top == 0 && pager.left == 0);
     code = gabro_pager_paint(&session, &pager, 30, 4, out, sizeof out, &length);

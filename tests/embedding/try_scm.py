@@ -390,6 +390,13 @@ def check_pager_keys():
             assert (pager.top, pager.left, pager.is_selected, pager.is_open) == (top, left, is_selected, is_open), typed
         assert pager.file == 0 and session.text() == before
         assert len(rows_of(session.pager(0).paint(0xFFFF, 0xFFFF))) == 1000
+        # on 7 rows a page has six, of which two are above the line; the last page begins at line 3
+        for line, top in ((0, 0), (2, 0), (3, 1), (4, 2), (8, 3), (9, 3), (scm.NO_INDEX, 3)):
+            pager.show(0, line, 7)
+            assert pager.top == top, line
+        # no such section: the end
+        pager.show(1, 0, 7)
+        assert pager.top == 3
     assert refused(scm.Session().pager, 0) in ("closed", "no_item")
 
 

@@ -505,6 +505,7 @@ static void show_pages(void) {
     gabro_pager pager = {7, 77, 7, true, true};
     done(gabro_state_new(&session, false), GABRO_BUILDING);
     refused(gabro_pager_open(&session, 0, false, &pager), GABRO_NO_ITEM);
+    refused(gabro_pager_show(&session, &pager, 0, 0, 2), GABRO_NO_ITEM);
     refused(gabro_pager_type(&session, &pager, "p", 1, 20, 2), GABRO_NO_ITEM);
     refused(gabro_pager_paint(&session, &pager, 20, 2, out, sizeof out, &length), GABRO_NO_ITEM);
     assert(pager.file == 7 && pager.top == 77 && pager.left == 7 && pager.selected && pager.is_open && length == 77 && strcmp(out, "............") == 0);
@@ -513,6 +514,8 @@ static void show_pages(void) {
     done(gabro_begin(&session, WIDTH, HEIGHT), GABRO_WAITING);
     refused(gabro_pager_open(&session, 0, true, &pager), GABRO_DONE);
     assert(is_page(&pager, 0, true));
+    refused(gabro_pager_show(&session, &pager, 0, 1, 2), GABRO_DONE);
+    assert(is_page(&pager, 1, true));
     refused(gabro_pager_type(&session, &pager, "jj", 2, 20, 2), GABRO_DONE);
     assert(is_page(&pager, 2, true));
     refused(gabro_pager_paint(&session, &pager, 20, 2, out, 4, &length), GABRO_DONE);

@@ -736,6 +736,10 @@ typedef struct gabro_pager {
 /* Opens `pager` at the top of file `file`, counted from 0: on its selected side if `selected`, or on the other one. */
 GABRO_USE_CODE uint32_t gabro_pager_open(const gabro_session *session, size_t file, bool selected, gabro_pager *pager);
 
+/* Brings line `line` of section `section` of its file, both counted from 0, onto a terminal of `height` rows: `pager` then begins a third of
+ * a page above it, or as near as the ends of the file are. A line that the side lacks counts as the next one that it has. */
+GABRO_USE_CODE uint32_t gabro_pager_show(const gabro_session *session, gabro_pager *pager, size_t section, size_t line, uint16_t height);
+
 /* Hands what a terminal of `width` columns and `height` rows sent, `length` bytes, to `pager`. The last row of the terminal is the
  * status row; of a larger terminal GABRO_MAX_COLUMNS and GABRO_MAX_ROWS count. Nothing more was sent for a while behind the bytes: so an
  * ESC at their end is a key of its own. Pasted text does nothing if both marks around it are among the bytes: hand in a paste as a whole,

@@ -560,13 +560,17 @@ static void tell_rest(const run *run) {
     }
 }
 
-/* Shows what accepting gives of the selected item's file, or of the first one if nothing is selected: the selected side if `selected`, or
- * the other one. While a dialog is open, or the state has no file, this is a no-op. */
+/* Shows what accepting gives of the selected item's file, where that item is, or of the first file if nothing is selected: the selected side
+ * if `selected`, or the other one. While a dialog is open, or the state has no file, this is a no-op. */
 static void open_pager(run *run, bool selected) {
     gabro_key key;
     if (gabro_dialog(run->session) == GABRO_NO_DIALOG && gabro_selected(run->session, &key) == GABRO_DONE) {
         size_t file = key.file == GABRO_NO_INDEX ? 0 : key.file;
         uint32_t code = gabro_pager_open(run->session, file, selected, &run->pager);
+        if (code == GABRO_DONE && key.section != GABRO_NO_INDEX) {
+            size_t line = key.line == GABRO_NO_INDEX ? 0 : key.line;
+            code = gabro_pager_show(run->session, &run->pager, key.section, line, run->height);
+        }
         (void)code; /* without a file the pager stays closed */
         run->paged = run->session;
     }

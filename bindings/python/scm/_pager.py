@@ -45,6 +45,10 @@ class Pager:
         """Whether it has not been closed."""
         return bool(self._at.is_open)
 
+    def show(self, section: int, line: int, height: int) -> None:
+        """Brings a line of a section of its file, both counted from 0, onto a terminal of `height` rows: a third of a page is above it."""
+        self._session._call("pager_show", ctypes.byref(self._at), section, line, height)
+
     def type(self, given: bytes, width: int, height: int) -> None:
         """Hands in what a terminal of `width` columns and `height` rows sent before a silence."""
         self._session._call("pager_type", ctypes.byref(self._at), given, len(given), width, height)

@@ -167,6 +167,7 @@ extern "C" {
     pub fn gabro_side(session: Asked, file: usize, selected: bool, out: Room, length: usize, side: *mut SideInfo) -> u32;
     pub fn gabro_side_bytes(session: Asked, file: usize, selected: bool, out: Room, length: usize, written: *mut usize) -> u32;
     pub fn gabro_pager_open(session: Asked, file: usize, selected: bool, pager: *mut Pager) -> u32;
+    pub fn gabro_pager_show(session: Asked, pager: *mut Pager, section: usize, line: usize, height: u16) -> u32;
     pub fn gabro_pager_type(session: Asked, pager: *mut Pager, bytes: Bytes, length: usize, width: u16, height: u16) -> u32;
     pub fn gabro_pager_paint(session: Asked, pager: *const Pager, width: u16, height: u16, out: Room, length: usize, written: *mut usize) -> u32;
     pub fn gabro_mark(session: Asked, key: *const Key, mark: *mut u32) -> u32;

@@ -8,6 +8,7 @@ use Rattle.scm_c_values.specs.Updates.{as_update}
 use Rattle.scm_pager.specs.declared.pager.Pager.{Pager}
 use Rattle.scm_pager.specs.Heard.{IsTyped}
 use Rattle.scm_pager.specs.Pages.{page_picture}
+use Rattle.scm_pager.specs.Places.{shown_at}
 
 -- file `i` of a state
 abbrev pub file_at : ℕ → RecordState → Option File
@@ -16,6 +17,11 @@ file_at i state = slice_get state.files i
 -- The columns or the rows of a page: of a larger terminal 1,000.
 abbrev pub most : ℕ → ℕ
 most length = min length 1000
+
+-- the pager with line `line` of section `index` of a file on a screen of `height` rows; without a file it stays
+abbrev pub shown_in : Option File → Pager → ℕ → ℕ → ℕ → Pager
+shown_in None p index line height = p
+shown_in (Some file) p index line height = shown_at p file index line (most height)
 
 -- The pager over a file after bytes that a silence follows. Without a file this is false.
 abbrev pub HearsInPager : Option File → Pager → List ℕ → ℕ → ℕ → Pager → Type 0

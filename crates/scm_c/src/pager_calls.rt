@@ -6,7 +6,7 @@ ghost use Rattle.scm_open_session.specs.Boxes.{box_value};
 ghost use Rattle.scm_open_session.specs.Questions.{asked_state};
 ghost use Rattle.scm_pager.specs.Heard.{IsTyped};
 ghost use Rattle.scm_pager.specs.Moves.{opened};
-ghost use Rattle.scm_c.specs.Pages.{HearsInPager, PaintsPage, ShowsPage, TellsPage, file_at, most};
+ghost use Rattle.scm_c.specs.Pages.{HearsInPager, PaintsPage, ShowsPage, TellsPage, file_at, most, shown_in};
 
 use crate::c_session::{CSession, give_back, take};
 use scm_c_values::buffers::write_text;
@@ -79,6 +79,56 @@ pub extern "C" fn gabro_pager_open(
 {
     let inner = take(alloc, session);
     let code = open_pager(&inner, file, selected, pager);
+    give_back(alloc, session, inner);
+    code
+}
+
+/// Moves `pager` so that line `line` of section `index` of its file is on a screen of `height` rows. Returns the
+/// code of the call.
+fn show_in_pager(
+    session: &Session,
+    pager: &mut Pager,
+    index: usize,
+    line: usize,
+    height: u16,
+) -> u32
+    ensures code { result
+        ≡ code_of_question (file_at pager.old.file) (asked_state (box_value session.now)) }
+    ensures shown { result ≡ 0 → pager.new
+        ≡ shown_in (answer_of (file_at pager.old.file) (asked_state (box_value session.now)))
+        pager.old index line height }
+    ensures kept { 0 < result → pager.new ≡ pager.old }
+{
+    match file_of(session, pager.file) {
+        Ok(file) => {
+            *pager = pager.show(file, index, line, most(height));
+            DONE
+        }
+        Err(code) => code,
+    }
+}
+
+/// Moves `pager` so that line `line` of section `index` of its file, both counted from 0, is on a screen of `height`
+/// rows. Returns the code of the call.
+#[unsafe(no_mangle)]
+pub extern "C" fn gabro_pager_show(
+    alloc: Global,
+    session: &mut CSession,
+    pager: &mut Pager,
+    index: usize,
+    line: usize,
+    height: u16,
+) -> u32
+    ensures code { result
+        ≡ code_of_question (file_at pager.old.file) (asked_state session.old.pointer.value) }
+    ensures shown { result ≡ 0 → pager.new
+        ≡ shown_in (answer_of (file_at pager.old.file) (asked_state session.old.pointer.value))
+        pager.old index line height }
+    ensures unshown { 0 < result → pager.new ≡ pager.old }
+    ensures kept { session.new.pointer.value ≡ session.old.pointer.value }
+{
+    let inner = take(alloc, session);
+    let code = show_in_pager(&inner, pager, index, line, height);
     give_back(alloc, session, inner);
     code
 }

@@ -1,5 +1,5 @@
 -- The number of lines of sections is the one that a window over them counts.
-use Rattle.std.proofs.Common.{◌≡◌, ℕ, ◌+◌, ◌≤◌, Bool, true, false, List, [], ◌∷◌, length, if◌then◌else◌, refl, ap, sym, ◌∙◌, arith}
+use Rattle.std.proofs.Common.{◌≡◌, ℕ, ◌+◌, Bool, true, false, List, [], ◌∷◌, length, if◌then◌else◌, refl, ap, sym, ◌∙◌, arith}
 use Rattle.scm_types.specs.declared.section.Section.{Section}
 use Rattle.scm_types.specs.declared.file.File.{File}
 use Rattle.scm_types.specs.Split.{is_binary}

@@ -12,3 +12,5 @@ pub mod PageLemmas
 pub mod HeardLemmas
 -- how many lines there are
 pub mod CountLemmas
+-- where a line stands
+pub mod PlaceLemmas

@@ -9,16 +9,16 @@ use Rattle.scm_pager.specs.WindowView.{Shown}
 use Rattle.scm_pager.specs.Windows.{after_all_lines, after_sections, capped_length, cleared, empty_window}
 use Rattle.scm_pager.proofs.WindowLemmas.{after-append, cleared-lines, new-count, new-rows}
 
-or-left : (a b : Bool) → (a || b) ≡ false → a ≡ false
+pub or-left : (a b : Bool) → (a || b) ≡ false → a ≡ false
 or-left true b e = e
 or-left false b e = refl
 
-or-right : (a b : Bool) → (a || b) ≡ false → b ≡ false
+pub or-right : (a b : Bool) → (a || b) ≡ false → b ≡ false
 or-right true b e = cc
 or-right false b e = e
 
 -- sections without binary contents all count
-tail-whole : (ss : List Section) → list_any is_binary ss ≡ false → tail_of ss ≡ ss
+pub tail-whole : (ss : List Section) → list_any is_binary ss ≡ false → tail_of ss ≡ ss
 tail-whole [] e = refl
 tail-whole (s ∷ ss) e = rw (or-left (is_binary s) (list_any is_binary ss) e, or-right (is_binary s) (list_any is_binary ss) e) refl
 

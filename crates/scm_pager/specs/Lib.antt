@@ -8,6 +8,8 @@ pub mod Windows
 pub mod Counts
 -- the key table
 pub mod Keys
+-- where a line stands on a side
+pub mod Places
 -- where keys take a pager
 pub mod Moves
 -- what a pager shows

@@ -9,7 +9,7 @@ use crate::lines::{is_replaced, takes};
 use scm_types::{File, Section, SectionChangedLine};
 
 /// Returns how many of `lines` the selected side, or the other one, has.
-fn changes_in(lines: &[SectionChangedLine<'_>], selected: bool) -> usize
+pub(crate) fn changes_in(lines: &[SectionChangedLine<'_>], selected: bool) -> usize
     ensures { result ≡ length (filter (takes selected) lines.now) }
 {
     lines.iter().filter(|line| takes(line, selected)).count()
@@ -40,7 +40,7 @@ fn count_after(count: usize, section: &Section<'_>, selected: bool) -> usize
 }
 
 /// Returns the number of lines of `sections`.
-fn counted(sections: &[Section<'_>], selected: bool) -> usize
+pub(crate) fn counted(sections: &[Section<'_>], selected: bool) -> usize
     ensures { result ≡ counted selected 0 sections.now }
 {
     let mut count = 0;

@@ -11,6 +11,7 @@ mod keys;
 pub mod laws;
 mod lines;
 mod pager;
+mod places;
 mod shown;
 mod typed;
 

@@ -2,9 +2,13 @@
 ghost use Rattle.std.specs.Prelude.{◌≡◌};
 ghost use Rattle.scm_pager.specs.Keys.{deed_of};
 ghost use Rattle.scm_pager.specs.Moves.{column_after, last_top, moved, opened, page, row_after};
+ghost use Rattle.scm_pager.specs.Places.{shown_at};
 
+use crate::counts::line_count;
 use crate::keys::{Deed, Step, Turn, deed_of};
+use crate::places::line_at;
 use scm_input::TerminalEvent;
+use scm_types::File;
 
 /// Where a pager stands. It has no memory of its own.
 #[repr(C)]
@@ -76,6 +80,21 @@ impl Pager {
             left: 0,
             selected,
             is_open: true,
+        }
+    }
+
+    /// Returns the pager with line `line` of section `index` of `file` on a screen of `height` rows, both counted from
+    /// 0. `file` is the one that it shows. A third of the page is above the line, unless it stands near an end of the
+    /// file.
+    pub fn show(self, file: &File<'_>, index: usize, line: usize, height: u16) -> Pager
+        ensures { result ≡ shown_at self file.now index line height }
+    {
+        let rows = page(height);
+        let place = line_at(file, self.selected, index, line);
+        let count = line_count(file, self.selected);
+        Pager {
+            top: place.saturating_sub(rows / 3).min(last_top(count, rows)),
+            ..self
         }
     }
 

@@ -64,6 +64,23 @@ impl Session {
         Ok(Pager { at })
     }
 
+    /// Brings line `line` of section `section` of its file, both counted from 0, onto a terminal of `height` rows: `pager` then begins a third
+    /// of a page above it, or as near as the ends of the file are. A line that the side lacks counts as the next one that it has.
+    ///
+    /// # Errors
+    ///
+    /// Those of [`pager`](Session::pager). `pager` is as it was then.
+    pub fn show_in_pager(
+        &self,
+        pager: &mut Pager,
+        section: usize,
+        line: usize,
+        height: u16,
+    ) -> Result<(), Error> {
+        // SAFETY: the pager is what the call reads and writes.
+        done(unsafe { ffi::gabro_pager_show(self.at(), &mut pager.at, section, line, height) })
+    }
+
     /// Hands `bytes`, which a terminal of `width` columns and `height` rows sent before a silence, to `pager`.
     ///
     /// # Errors
