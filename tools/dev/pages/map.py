@@ -1,11 +1,11 @@
 #!/usr/bin/env python3
 """map.py [--check] [ROOT]: makes docs/MAP.md of this tree or of another, which leads from each rule of docs/RULES.md to what carries it.
 
-tools/dev/pages/map.txt has the table. It gives names alone. This script finds the file of each name in the sources, and writes a link to it.
-With --check it writes nothing, and says whether docs/MAP.md is the page that it would write.
+tools/dev/pages/map.txt has the table. It gives names alone. This script finds the file of each name in the sources, and writes a link to it
+if the page shows the name's column. With --check it writes nothing, and says whether docs/MAP.md is the page that it would write.
 
 It fails with one line if a heading or a name is not there or is there twice, if a contract has no clause `ensures`, or if an entry
-has a column twice or one that the page lacks."""
+has a column twice or one that is none."""
 import pathlib
 import re
 import sys
@@ -13,21 +13,23 @@ import sys
 ARGUMENTS = [it for it in sys.argv[1:] if it != "--check"]
 ROOT = pathlib.Path(ARGUMENTS[0]).resolve() if ARGUMENTS else pathlib.Path(__file__).resolve().parents[3]
 TABLE, RULES, PAGE, ROWS = (ROOT / it for it in ("tools/dev/pages/map.txt", "docs/RULES.md", "docs/MAP.md", "crates/scm_play/src/rows.rt"))
-# each column of the page: its name in the table, its title, and what it names
+# each column of the table, with what it names
 COLUMNS = {
-    "definition": ("Definition", "definition"),
-    "contract": ("Contract", "function with a contract"),
-    "runs": ("Runs inside", "function"),
-    "lemma": ("Lemma", "lemma"),
-    "test": ("Test or example", "test or example"),
-    "edit": ("Refused edit", "edit"),
+    "definition": "definition",
+    "contract": "function with a contract",
+    "runs": "function",
+    "lemma": "lemma",
+    "test": "test or example",
+    "edit": "edit",
 }
+# the columns that the page shows
+SHOWN = "definition", "contract", "edit"
 HEAD = """# Map
 
 <!-- made by tools/dev/make-pages from tools/dev/pages/map.txt and the sources; edit the table, not this page -->
 
-Where each rule of [RULES.md](RULES.md) is defined (`specs/`), promised by a contract (`src/`), done if another function has the contract, proved by a lemma (`proofs/`), tried by a test, a computed
-example or a group of rows of scripts, and guarded by an edit that the prover refuses. A link leads to a file, in which you search for the name.
+Behind each rule of [RULES.md](RULES.md): its definitions, then the functions whose contracts promise it, then the edits that the prover refuses, or a dash. A link leads to a file, in which you search
+for the name. `tools/dev/pages/map.txt` also names the code, the lemmas and the tests.
 """
 DEFINITION = re.compile(r"^ *(?:pub )?(?:abbrev|unfoldable|record|data)(?: pub)? ([\w-]+)", re.M)
 # a lemma, or an example that the prover computes: a name with its type, on the same line or below
@@ -118,9 +120,9 @@ def name_link(column, name, names):
         return row_link(name.strip('"'))
     found = [it for it in names[column] if means(name, it[0])]
     if not found:
-        raise Wrong("no %s has the name %s" % (COLUMNS[column][1], name))
+        raise Wrong("no %s has the name %s" % (COLUMNS[column], name))
     if len(found) > 1:
-        raise Wrong("%s is the name of more than one %s: %s" % (name, COLUMNS[column][1], ", ".join("::".join(it[0]) for it in found)))
+        raise Wrong("%s is the name of more than one %s: %s" % (name, COLUMNS[column], ", ".join("::".join(it[0]) for it in found)))
     parts, path = found[0]
     is_method = column in ("contract", "runs") and len(parts) == 4
     return link("`%s`" % ("::".join(parts[2:]) if is_method else parts[-1]), path)
@@ -177,14 +179,13 @@ def page():
             part = [it for it in parts if heading in parts[it]]
             if len(part) != 1:
                 raise Wrong("docs/RULES.md has %d headings, and not one, with the words %s" % (len(part), heading))
-            cells = [cell(it, named.get(it), names) for it in COLUMNS]
+            cells = {it: cell(it, named.get(it), names) for it in COLUMNS}
         except Wrong as wrong:
             raise Wrong("%s:%d: %s" % (TABLE.relative_to(ROOT), number, wrong)) from None
-        row = "| [%s](RULES.md#%s) | %s |" % (rule, anchor(heading), " | ".join(cells))
+        row = "- [%s](RULES.md#%s): %s" % (rule, anchor(heading), "; ".join(cells[it] for it in SHOWN))
         tables[part[0]].append((parts[part[0]].index(heading), row))
-    head = "| Rule | %s |\n|%s" % (" | ".join(title for title, _ in COLUMNS.values()), "---|" * (1 + len(COLUMNS)))
     shown = [(it, [row for _, row in sorted(tables[it], key=lambda row: row[0])]) for it in parts if tables[it]]
-    return HEAD + "".join("\n## %s\n\n%s\n%s\n" % (part, head, "\n".join(rows)) for part, rows in shown)
+    return HEAD + "".join("\n## %s\n\n%s\n" % (part, "\n".join(rows)) for part, rows in shown)
 
 
 try:
