@@ -182,8 +182,10 @@ def page():
             cells = {it: cell(it, named.get(it), names) for it in COLUMNS}
         except Wrong as wrong:
             raise Wrong("%s:%d: %s" % (TABLE.relative_to(ROOT), number, wrong)) from None
-        row = "- [%s](RULES.md#%s): %s" % (rule, anchor(heading), "; ".join(cells[it] for it in SHOWN))
-        tables[part[0]].append((parts[part[0]].index(heading), row))
+        # what only tests carry is no row
+        if any(named.get(it) for it in SHOWN):
+            row = "- [%s](RULES.md#%s): %s" % (rule, anchor(heading), "; ".join(cells[it] for it in SHOWN))
+            tables[part[0]].append((parts[part[0]].index(heading), row))
     shown = [(it, [row for _, row in sorted(tables[it], key=lambda row: row[0])]) for it in parts if tables[it]]
     return HEAD + "".join("\n## %s\n\n%s\n" % (part, "\n".join(rows)) for part, rows in shown)
 
