@@ -66,25 +66,35 @@ def files_in(data, first):
     return messages, files
 
 
+def kept_of(changes, marks, messages):
+    """Returns the marks of changes: what has to be the same for them to be taken up is with them."""
+    files = [{"path": shown(it.path), "sides": sides_of(it), "marks": of_one} for it, of_one in zip(changes, marks)]
+    return {"messages": messages, "files": files}
+
+
 def kept_text(changes, marks, messages):
-    """Returns the marks of changes as they are kept: what has to be the same for them to be taken up is with them."""
+    """Returns the marks of changes as they are kept."""
     import json
 
-    files = [{"path": shown(it.path), "sides": sides_of(it), "marks": of_one} for it, of_one in zip(changes, marks)]
-    return json.dumps({"messages": messages, "files": files})
+    return json.dumps(kept_of(changes, marks, messages))
 
 
-def left_marks(path, changes):
-    """Returns the marks that a front end has left in a file, which was killed while the user chose, as they are kept. Returns None if it left
-    none, or if nothing is marked."""
+def left_in(path, changes):
+    """Returns the marks and the messages that a front end has left in a file, or None if it left none."""
     try:
         with open(path, "rb") as file:
             messages, files = files_in(file.read(), "kept")
         marks = [file["marks"].decode() for file in files]
     except (OSError, ValueError, LookupError):
         return None
-    is_whole = len(marks) == len(changes) and any("1" in of_one for of_one in marks)
-    return kept_text(changes, marks, messages) if is_whole else None
+    return (marks, messages) if len(marks) == len(changes) else None
+
+
+def left_marks(path, changes):
+    """Returns the marks that a front end has left in a file, which was killed while the user chose, as they are kept. Returns None if it left
+    none, or if nothing is marked."""
+    left = left_in(path, changes)
+    return kept_text(changes, *left) if left and any("1" in of_one for of_one in left[0]) else None
 
 
 @functools.lru_cache(maxsize=None)

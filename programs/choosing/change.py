@@ -58,9 +58,11 @@ class Unread(bytes):
 
 class Change:
     """The two sides of a file, old and new, with their bytes. `note` is what the user is told behind its path, beside what the front
-    end says of it, and `marks` the marks to begin with: a `1` or a `0` for each item, or nothing."""
+    end says of it, and `marks` the marks to begin with: a `1` or a `0` for each item, or nothing. `file` is the path of the file that the
+    front end opens in an editor, or nothing."""
 
     note = marks = ""
+    file = b""
     # the words behind that of a side in the records that have the mode at each of its paths
     modes = "mode",
     # the renamed file of which this is one path
@@ -93,7 +95,7 @@ class Change:
             versions = self.old.mode.encode(), len(old), old, self.new.mode.encode(), len(new), new
             made = OF_A_TEXT % (len(path), path, *versions)
             # most have no more
-            return made + self.more_records() if self.note or self.marks else made
+            return made + self.more_records() if self.note or self.marks or self.file else made
         made = record("path", path)
         for word, side, data in self.versions():
             if side.mode != ABSENT:
@@ -107,8 +109,8 @@ class Change:
         return made + self.more_records()
 
     def more_records(self):
-        """Returns the records of what is said and marked of it."""
-        return b"".join([record(word, text) for word, text in (("note", self.note), ("marks", self.marks)) if text])
+        """Returns the records of what is said and marked of it, and of its file."""
+        return b"".join([record(word, text) for word, text in (("note", self.note), ("marks", self.marks), ("file", self.file)) if text])
 
     def paths(self):
         """Returns the change of each of its paths by itself."""

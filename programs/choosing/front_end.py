@@ -2,7 +2,7 @@
 import os
 import signal
 
-from .accepted import Accepted, left_marks
+from .accepted import Accepted, kept_of, left_in, left_marks
 from .change import ABSENT, Choice
 from .faults import step
 from .git import run_in_terminal
@@ -16,7 +16,8 @@ HERE = os.path.dirname(os.path.realpath(__file__))
 # where it lies beside an installed program, and what builds it in a tree
 INSTALLED, BUILDS = os.path.join(HERE, "../../../bin/scm-select"), os.path.join(HERE, "../../tools/select")
 AT_ONCE = 1_000_000  # how many bytes are written at once
-STATUSES = ACCEPTED, GIVEN_UP, FAILED = 0, 1, 2  # a front end that failed has said why
+# a front end that failed has said why; one of which the user changed a file in an editor has left the marks
+STATUSES = ACCEPTED, GIVEN_UP, FAILED, FILE_CHANGED = 0, 1, 2, 3
 # keys: made by tools/dev/make-pages
 KEYS = """Keys:
   Down, j                   moves down, to the next item
@@ -79,19 +80,29 @@ def front_end():
         raise Stop("SELECT has no such form: %s" % error) from None
 
 
-def records_of(changes, messages, settings):
-    """Yields the records that hand in changes, with the messages of commits and the names of settings."""
+class FileChanged:
+    """Stands for a choice that ended since the user changed a file in an editor. `kept` has the marks as they were then."""
+
+    def __init__(self, kept):
+        self.kept = kept
+
+
+def records_of(changes, messages, settings, files_folder):
+    """Yields the records that hand in changes, with the messages of commits, the names of settings, and the folder of the files that can be
+    opened, if there are such."""
     yield from (record("message", message) for message in messages)
     yield from (record(name) for name in settings)
+    yield from [record("folder", os.fsencode(files_folder))] if files_folder else []
     yield from (change.records() for change in changes)
 
 
-def ask(changes, folder, task, messages=(), environment=None, settings=(), words=None):
-    """Has the user choose in the front end, whose title says the `task`. `settings` may have `read-only` and `mark-all`. If the front end is
-    killed, keeps the marks that it left, if the command `words` can take them up. Returns the front end's status, and the path of what it wrote."""
+def ask(changes, folder, task, messages=(), environment=None, settings=(), words=None, files_folder=None):
+    """Has the user choose in the front end, whose title says the `task`. `settings` may have `read-only` and `mark-all`. The user may open the
+    files of changes, which lie in `files_folder`, in an editor. If the front end is killed, keeps the marks that it left, if the command `words`
+    can take them up. Returns the front end's status, and the path of what it wrote."""
     handed, accepted = os.path.join(folder, "changes"), os.path.join(folder, "accepted")
     with open(handed, "wb", AT_ONCE) as file:
-        file.writelines(records_of(changes, messages, settings))
+        file.writelines(records_of(changes, messages, settings, files_folder))
     open(accepted, "w").close()
     more = {"SELECT_TITLE": "%s: %s" % (program(), task), **(environment or {})}
     status = status_in_terminal([*front_end(), "--changes", handed, accepted], {**os.environ, **more})
@@ -126,13 +137,25 @@ def words_on(status):
 
 
 def choose(changes, folder, given_up, task, messages=(), failed=None, **more):
-    """Has the user choose as `ask` does. Returns what was accepted. Stops with the words `given_up` if the user gives up, and with
-    `failed`, if that is given, if the front end failed."""
+    """Has the user choose as `ask` does. Returns what was accepted, or FileChanged. Stops with the words `given_up` if the user gives up, and
+    with `failed`, if that is given, if the front end failed."""
     with step("choosing"):
         status, accepted = ask(changes, folder, task, messages, **more)
+        if status == FILE_CHANGED:
+            return file_changed(accepted, changes)
         if status:
             raise Stop(failed or given_up if status == FAILED else given_up)
         return Accepted(accepted, changes, len(messages))
+
+
+def file_changed(path, changes):
+    """Returns what stands for a choice that ended since the user changed a file, with the marks that the front end left in the file `path`, and
+    says so."""
+    left = left_in(path, changes)
+    if left is None:
+        raise Stop("the front end did not write the marks of %d files" % len(changes))
+    say("a file was changed in the editor: the changes are shown anew")
+    return FileChanged(kept_of(changes, *left))
 
 
 def choices_in(accepted, side, now):

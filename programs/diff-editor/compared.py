@@ -179,6 +179,10 @@ class Folders:
             left_out[largest] = TOO_MUCH % format(MOST_IN_ALL, ",")
         return left_out
 
+    def files_folder(self):
+        """Returns the folder of the files that the user may open in an editor, or None: in RIGHT of git difftool they are links."""
+        return None if self.right.follow else self.right.top
+
     def instructions(self):
         """Returns what jj says of the files, or an empty text."""
         (mode, data), _ = self.target.read(INSTRUCTIONS)
@@ -264,6 +268,7 @@ class TwoFiles:
     makes LEFT for the call, and its mode says nothing."""
 
     def __init__(self, options, target):
+        self.right = options.right
         self.is_of_working_tree = IS_FOR_ONE_FILE and not options.output and not os.path.isabs(options.right)
         ((old_mode, old), for_old), ((new_mode, new), for_new) = file_at(options.left), file_at(options.right)
         if {ABSENT, LINK}.isdisjoint((old_mode, new_mode)):
@@ -282,6 +287,10 @@ class TwoFiles:
 
     def differing(self):
         return ({} if self.pair[0] == self.pair[1] else {self.name: self.pair}), {}
+
+    def files_folder(self):
+        """Returns the folder of RIGHT, unless the change has the name of LEFT."""
+        return None if self.pair[1][0] == ABSENT else os.path.dirname(os.path.abspath(self.right))
 
     def instructions(self):
         return ""

@@ -9,10 +9,10 @@ import time
 
 from choosing.accepted import kept_in, take_up
 from choosing.arguments import Arguments
-from choosing.change import ABSENT, LINK, Change, Read
+from choosing.change import ABSENT, LINK, Change, NO_FILES, Read
 from choosing.cut_off import cut_off
 from choosing.faults import ending
-from choosing.front_end import EPILOGUE, ask, choices_in, choose, keep, keep_lost
+from choosing.front_end import EPILOGUE, FILE_CHANGED, FileChanged, ask, choices_in, choose, file_changed, keep, keep_lost
 from choosing.program import leave, run
 from choosing.said import say, tell
 from choosing.signals import signals_wait
@@ -58,6 +58,9 @@ def read(sides):
         say("%s is left out: %s" % (shown(path), reason))
     with waits("reading %s .." % counted(len(pairs), "file"), begun):
         changes = [change_of(path, pair) for path, pair in pairs.items()]
+    for change in changes:
+        # the user may open its new version in an editor
+        change.file = b"" if change.new.mode in NO_FILES else os.fsencode(change.path)
     for change in filter(has_conflict, changes):
         say(conflict_note(change))
         change.note = "conflict markers"
@@ -122,16 +125,19 @@ def words_again(words):
     return ["gabrosty-diff-editor", *(printable(shlex.quote(word)) for word in left)]
 
 
-def chosen(changes, sides, options, folder):
-    """Has the user choose among `changes`, some of which may be marked. Returns what was accepted."""
-    kept = kept_in(options.marks) if options.marks else {"files": []}
+def chosen(changes, sides, options, folder, kept):
+    """Has the user choose among `changes`, with the marks that were kept: `kept`, or those that the user names. Returns what was accepted, or
+    FileChanged."""
+    is_kept = bool(kept or options.marks)
+    kept = kept or (kept_in(options.marks) if options.marks else {"files": []})
     for path in take_up(changes, kept):
         say("%s has changed: its marks are not taken up" % path)
     title = title_of(sides.instructions()) or "mark what %s is to have" % ("OUTPUT" if options.output else "RIGHT")
     failed = "the marks were those of %s: %s" % (shown(options.marks), NOTHING) if options.marks else None
     # the marks that were kept have those of --mark-all already
-    settings = ["mark-all"] if options.mark_all and not options.marks else []
-    return choose(changes, folder, NOTHING, title, failed=failed, settings=settings, words=words_again(sys.argv[1:]))
+    settings = ["mark-all"] if options.mark_all and not is_kept else []
+    more = {"settings": settings, "words": words_again(sys.argv[1:]), "files_folder": sides.files_folder()}
+    return choose(changes, folder, NOTHING, title, failed=failed, **more)
 
 
 def use(sides, accepted, options):
@@ -162,20 +168,34 @@ def edit(options, folder):
     target = target_of(options, are_folders)
     if options.mend:
         return mend(target, options.mend)
-    is_writing = not options.read_only and not options.dry_run
-    if is_writing:
+    if not options.read_only and not options.dry_run:
         check_writable(target)
+    found = show(options, are_folders, target, folder, None)
+    while isinstance(found, FileChanged):
+        found = show(options, are_folders, target_of(options, are_folders), folder, found.kept)
+    return found
+
+
+def show(options, are_folders, target, folder, kept):
+    """Shows what differs, with the marks `kept` of a choice that ended, if any, and puts in place what is chosen. Returns the status, or FileChanged."""
     sides = compared(options, target, are_folders)
     changes = read(sides)
-    if is_writing and sides.is_copied_back():
+    if not options.read_only and not options.dry_run and sides.is_copied_back():
         warn_of_added(changes)
     if not changes and (options.read_only or not options.output):
         say("there is nothing to choose")
         return 0
     if options.read_only:
-        settings = ["read-only", *(["mark-all"] if options.mark_all else [])]
-        return 0 if ask(changes, folder, "what RIGHT has changed", settings=settings)[0] in (0, 1) else 1
-    return use(sides, chosen(changes, sides, options, folder) if changes else None, options)
+        return show_alone(changes, sides, options, folder)
+    accepted = chosen(changes, sides, options, folder, kept) if changes else None
+    return accepted if isinstance(accepted, FileChanged) else use(sides, accepted, options)
+
+
+def show_alone(changes, sides, options, folder):
+    """Shows changes that cannot be marked. Returns the status, or FileChanged."""
+    settings = ["read-only", *(["mark-all"] if options.mark_all else [])]
+    status, left = ask(changes, folder, "what RIGHT has changed", settings=settings, files_folder=sides.files_folder())
+    return file_changed(left, changes) if status == FILE_CHANGED else 0 if status in (0, 1) else 1
 
 
 def main():

@@ -9,17 +9,19 @@ import time
 
 from choosing.accepted import kept_in, take_up
 from choosing.faults import ending, step
-from choosing.front_end import EPILOGUE, choices_in, choose, keep
+from choosing.front_end import EPILOGUE, FileChanged, choices_in, choose, keep
 from choosing.program import leave, run
 from choosing.said import say, tell
 from choosing.signals import signals_wait
 from choosing.waiting import counted, waits
 from choosing.words import HalfDone, Stop, shown
 from lock import Lock, check_free, is_left_at, words_on_copied
+from look import FILES
 from options import FINISH, UNDO, class_of, following, options_of, without_words
 from repository import Repository
 from scratch import Scratch
 from sides import read_changes
+from ways import WORKING_TREE
 
 # how a restore that was cut off is mended, and what is said of its files then
 MENDS = {FINISH: "written", UNDO: "as it was"}
@@ -34,12 +36,22 @@ def start_folder(repository):
 
 def read(way, begun):
     """Returns what is changed. Names what is left out. `begun` says since when the user waits."""
-    scratch = Scratch(way.repository, os.path.join(way.folder, "before"))
+    way.times_read += 1
+    scratch = Scratch(way.repository, os.path.join(way.folder, "before-%d" % way.times_read))
     with waits("looking for changes ..", begun):
         sides, notes = way.read(scratch)
     say_each(notes)
     with waits("reading %s .." % counted(len(sides), "file"), begun):
-        return read_changes(scratch, sides)
+        changes = read_changes(scratch, sides)
+    name_files(way, changes)
+    return changes
+
+
+def name_files(way, changes):
+    """Has changes name the files of the working tree that are their new versions: the user may open these in an editor."""
+    for change in changes if way.use.new_in == WORKING_TREE else ():
+        if change.new.mode in FILES:
+            change.file = os.fsencode(change.path)
 
 
 def take_up_marks(changes, kept):
@@ -182,17 +194,26 @@ def select_once(options, folder):
     with step("looking what can be done"):
         way = open_way(repository, options, folder)
     kept = kept_in(options.marks) if options.marks else {"messages": [], "files": []}
+    found = show(way, kept, folder, begun)
+    while isinstance(found, FileChanged):
+        found = show(way, found.kept, folder, time.monotonic())
+    return use(way, found) if found else 0
+
+
+def show(way, kept, folder, begun):
+    """Shows what is changed, with the marks that were kept. Returns what was accepted, or FileChanged, or None if nothing is changed."""
     changes = read(way, begun)
     if not changes:
         say(way.empty())
-        return 0
+        return None
     take_up_marks(changes, kept)
     task = "%s, c %s" % (counted(len(changes), "file"), way.task())
     messages = way.messages("".join(kept["messages"][:1]))
     say_each(way.before())
-    failed = "the marks were those of %s: nothing changed" % shown(options.marks) if options.marks else None
-    environment = {**looks(way), **way.environment()}
-    return use(way, choose(changes, folder, "nothing changed", task, messages, failed, environment=environment, words=way.words))
+    marks = way.options.marks
+    failed = "the marks were those of %s: nothing changed" % shown(marks) if marks else None
+    more = {"environment": {**looks(way), **way.environment()}, "words": way.words, "files_folder": os.path.abspath(way.repository.top)}
+    return choose(changes, folder, "nothing changed", task, messages, failed, **more)
 
 
 def main():

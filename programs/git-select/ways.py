@@ -52,6 +52,8 @@ class Way:
 
     # the paths of the files that are not read, once these are known
     unread = None
+    # how often the changes were read to be shown
+    times_read = 0
 
     def __init__(self, repository, options, start, folder):
         self.repository, self.options, self.start, self.folder = repository, options, start, folder
@@ -86,8 +88,9 @@ class Way:
         return []
 
     def environment(self):
-        """Returns the variables that the front end is given."""
-        return {}
+        """Returns the variables that the front end is given: the user's editor, as git has it."""
+        editor = self.repository.editor()
+        return {} if editor is None else {"VISUAL": editor}
 
     def prepare(self, choices, accepted):
         """Reads what `write` needs as it was before all is looked at again. Stops if what was accepted cannot be used."""

@@ -75,7 +75,7 @@ static bool begin_change(handed *handed, piece path) {
         handed->room = room;
     }
     change begun = {.path = path, .old_path = none, .note = none, .old = absent, .new = absent};
-    handed->changes[handed->count++] = (handed_change){.change = begun, .marks = none};
+    handed->changes[handed->count++] = (handed_change){.change = begun, .marks = none, .file = none};
     return true;
 }
 
@@ -84,7 +84,7 @@ static bool follow_part(handed_change *last, const record *record) {
     change *change = &last->change;
     struct { const char *word; piece *part; } parts[] = {
         {"old-path", &change->old_path}, {"note", &change->note}, {"old", &change->old.bytes}, {"new", &change->new.bytes},
-        {"old-words", &change->old.words}, {"new-words", &change->new.words}, {"marks", &last->marks},
+        {"old-words", &change->old.words}, {"new-words", &change->new.words}, {"marks", &last->marks}, {"file", &last->file},
     };
     if (is_word(record->word, "old-mode") || is_word(record->word, "new-mode")) {
         return read_number(record->bytes, EIGHT, *record->word.bytes == 'o' ? &change->old.mode : &change->new.mode);
@@ -99,6 +99,8 @@ static bool follow_part(handed_change *last, const record *record) {
     return false;
 }
 
+static bool is_whole_path(piece path) { return path.length > 0 && *path.bytes == '/'; }
+
 /* Follows a record. Returns why that failed, or NULL. */
 static const char *follow(handed *handed, const record *record) {
     if (is_word(record->word, "path")) {
@@ -110,6 +112,8 @@ static const char *follow(handed *handed, const record *record) {
         handed->is_read_only = true;
     } else if (is_word(record->word, "mark-all")) {
         handed->is_all_marked = true;
+    } else if (is_word(record->word, "folder") && is_whole_path(record->bytes)) {
+        handed->folder = record->bytes;
     } else if (handed->count == 0 || !follow_part(&handed->changes[handed->count - 1], record)) {
         return BAD_FORM;
     }

@@ -14,6 +14,7 @@ enum { SHOWN_TEXTS = 5 };
 typedef struct handed_change {
     change change;
     piece marks;
+    piece file; /* the path, below the folder that was handed in, of the file that `E` opens, or nothing */
     text shown[SHOWN_TEXTS];
 } handed_change;
 
@@ -21,6 +22,7 @@ typedef struct handed_change {
 typedef struct handed {
     bool is_read_only;
     bool is_all_marked;
+    piece folder; /* the whole path of the folder that the files of changes lie in, or nothing */
     piece messages[MOST_COMMITS];
     size_t commits;
     handed_change *changes;

@@ -8,6 +8,7 @@
 #include "kept.h"
 #include "keys.h"
 #include "layer.h"
+#include "opened.h"
 #include "program.h"
 #include "shown.h"
 #include "written.h"
@@ -56,6 +57,7 @@ typedef struct task {
     differing file;
     folders folders;
     handed handed;
+    opening opening;
 } task;
 
 /* How many bytes of a file take so long to be compared that the user is told. */
@@ -195,12 +197,16 @@ static void free_task(task *task) {
     free_difference(&task->file);
     free_folders(&task->folders);
     free_handed(&task->handed);
+    free(task->opening.kept.bytes);
     if (task->output) {
         close(task->target.folder);
     }
 }
 
 /* ---- The run, and what is written ---- */
+
+/* The status of a run that ended since the user changed a file with `E`. */
+enum { FILE_CHANGED = 3 };
 
 /* Opens the folder of the file to write to, before the user chooses: nothing that comes there meanwhile leads elsewhere. */
 static void find_output(task *task) { check(!task->output || find_target(task->output, &task->target), task->output, NULL); }
@@ -269,10 +275,11 @@ static void show_message(gabro_session *session, const task *task) {
     }
 }
 
-/* A run: how its marks are kept where the user rests, and what was chosen when it began. */
+/* A run: how its marks are kept where the user rests, what was chosen when it began, and how files are opened, if they are. */
 typedef struct watched {
     void (*keep)(void *marks, gabro_session *session);
     void *marks;
+    opening *opening;
     chosen chosen;
 } watched;
 
@@ -288,13 +295,19 @@ static void follow(void *context, gabro_session *session) {
     quit_if_unchanged(&watched->chosen, session);
 }
 
+static const char *open_watched(void *context, gabro_session *session, size_t file, size_t old_line, size_t new_line) {
+    const watched *watched = context;
+    return open_in_editor(watched->opening, session, file, old_line, new_line);
+}
+
 /* Runs the session on the terminal, while its marks are kept. With a layer, nothing is asked about what nobody changed. Returns whether the
  * terminal is still there. */
 static bool run_watched(gabro_session *session, const task *task, int terminal, watched *watched) {
     bool has_layer = task->layer.is_on;
     watched->chosen = has_layer ? begin_chosen(session) : (chosen){0};
     const char *keys = page_of_keys(&task->layer, PAGE_OF_KEYS(KEYS_OF_SECTIONS));
-    const gabro_hooks hooks = {.context = watched, .changed = has_layer ? follow : NULL, .rested = keep_watched, .keys = keys};
+    const gabro_hooks hooks = {.context = watched, .changed = has_layer ? follow : NULL, .rested = keep_watched, .keys = keys,
+                               .open = watched->opening ? open_watched : NULL};
     bool is_there = run_in_terminal(session, terminal, getenv("SELECT_TITLE"), &hooks);
     free(watched->chosen.first.bytes);
     return is_there;
@@ -311,13 +324,15 @@ static bool run_again(gabro_session *session, const task *task, int terminal) {
 }
 
 /* Runs the session on the terminal. Of changes that were handed in the marks are kept meanwhile. Returns whether the terminal is still there. */
-static bool run(gabro_session *session, const task *task, int terminal) {
+static bool run(gabro_session *session, task *task, int terminal) {
     if (task->form == TWO_FILES || task->form == TWO_FOLDERS) {
         return run_again(session, task, terminal);
     }
     bool is_kept = task->form == HANDED_IN && !task->is_as_json;
     keeper keeper = is_kept ? begin_keeping(&task->target, &task->handed) : (struct keeper){.file = -1};
-    watched watched = {.keep = keep_on, .marks = &keeper};
+    bool has_files = is_kept && task->handed.folder.length > 0;
+    task->opening = (opening){.handed = &task->handed, .terminal = terminal};
+    watched watched = {.keep = keep_on, .marks = &keeper, .opening = has_files ? &task->opening : NULL};
     bool is_there = run_watched(session, task, terminal, &watched);
     end_keeping(&keeper);
     return is_there;
@@ -331,6 +346,12 @@ static void label_renames(gabro_session *session, const task *task) {
     }
 }
 
+/* Writes the marks that were kept when the user had changed a file. Returns the status. */
+static int leave_changed(task *task) {
+    write_output(task, (piece){task->opening.kept.bytes, task->opening.kept.length});
+    return FILE_CHANGED;
+}
+
 /* Has the user choose, and writes what is accepted. Returns the status. */
 static int select_changes(gabro_session *session, task *task) {
     int terminal = open_terminal();
@@ -338,6 +359,9 @@ static int select_changes(gabro_session *session, task *task) {
     label_renames(session, task);
     show_message(session, task);
     bool is_there = run(session, task, terminal);
+    if (task->opening.is_changed && is_there) {
+        return leave_changed(task);
+    }
     if (gabro_stage(session) != GABRO_ACCEPTED) {
         return give_up(session, is_there);
     }

@@ -630,6 +630,13 @@ uint32_t gabro_owner(const gabro_session *session, uint16_t row, uint16_t column
  * Returns GABRO_DONE, GABRO_CLOSED, or GABRO_NOT_NOW if the session waits for no event. */
 GABRO_USE_CODE uint32_t gabro_selected(const gabro_session *session, gabro_key *key);
 
+/* Writes where the selected item stands: the index of its file, counted from 0, to `file`, and the number of its first line in the old and in
+ * the new version of that file, each counted from 1, to `old_line` and `new_line`. That is one more than the lines of the version before the
+ * item: so a line that a version has not stands where its next line is, and a file stands at 1.
+ *
+ * Returns GABRO_DONE, GABRO_CLOSED, or GABRO_NOT_NOW if nothing is selected, or the session waits for no event. */
+GABRO_USE_CODE uint32_t gabro_selected_line(const gabro_session *session, size_t *file, size_t *old_line, size_t *new_line);
+
 /* Writes the symbol that begins at `row`, `column` of the screen to `out`, clipped to `length` bytes.
  *
  * Returns the whole length in bytes. Returns 0 at the second column of a wide symbol, outside the screen, and while the session waits for
@@ -923,10 +930,10 @@ uint32_t gabro_version(void);
 /* Shows a session that has begun on the terminal `terminal`, an open file, and hands in what the user types, until the session
  * waits no more: `gabro_end` returns how it ended. Sets raw mode, takes the second screen, the mouse and marks around pasted text,
  * follows new sizes, and stops at ctrl-z. Tab presses the word "view", and ctrl-l draws every row. `p` shows what accepting gives of the
- * selected item's file, and `P` what it leaves, as a pager does. A message is edited by the program VISUAL, EDITOR or vi, in a folder of its
- * own in TMPDIR, or in /tmp if that names no folder by its whole path; if that fails, the user hears why, and the message stays.
- * The window's title is `title`, in ASCII without controls, or another one if it is NULL. A terminal of more than GABRO_MAX_COLUMNS
- * or GABRO_MAX_ROWS shows the screen at its top left.
+ * selected item's file, and `P` what it leaves, as a pager does. `E` opens that file in an editor, if the program does (gabro_hooks). A
+ * message is edited by the program VISUAL, EDITOR or vi, in a folder of its own in TMPDIR, or in /tmp if that names no folder by its whole
+ * path; if that fails, the user hears why, and the message stays. The window's title is `title`, in ASCII without controls, or another one
+ * if it is NULL. A terminal of more than GABRO_MAX_COLUMNS or GABRO_MAX_ROWS shows the screen at its top left.
  *
  * When it returns, the terminal and the handlers of signals are as before. Meanwhile it hears the signals SIGTSTP, SIGCONT,
  * SIGWINCH, SIGINT, SIGQUIT, SIGHUP and SIGTERM, and SIGXFSZ is ignored. Other signals of the program end no run, whatever their
@@ -952,6 +959,10 @@ typedef struct gabro_hooks {
     void (*pressed)(void *context, gabro_session *session, uint32_t key);
     /* The lines of a page of keys, in UTF-8. A `?` that closes the help shows it, as a pager does. NULL: no page. */
     const char *keys;
+    /* The user pressed `E`, to open file `file` in an editor at line `new_line`, which is line `old_line` of the old version (see
+     * gabro_selected_line). The terminal is as before the run, and the keys of signals do nothing to this process. Then every row is drawn.
+     * Returns NULL, or why no file was opened, which the user reads. NULL: `E` says that there is nothing to open. */
+    const char *(*open)(void *context, gabro_session *session, size_t file, size_t old_line, size_t new_line);
 } gabro_hooks;
 
 /* Does what `gabro_run` does, with `hooks`, which may be NULL. */

@@ -40,6 +40,8 @@ enum { MOST_OF_A_KEY = 64 };
 /* The marks around what is pasted. */
 static const char PASTE[] = "\x1b[200~", END_OF_PASTE[] = "\x1b[201~";
 enum { MARK = sizeof PASTE - 1 };
+/* What `E` says if there is no file that it opens. */
+static const char NOTHING_TO_OPEN[] = "nothing to open";
 /* The name of the page of keys, and the mode of a file that has one. */
 static const char KEYS[] = "Keys";
 enum { MODE = 0100644 };
@@ -57,6 +59,7 @@ typedef struct run {
     gabro_session keys;   /* a session of the page of keys alone, which is closed before that is shown first */
     gabro_session *paged; /* the session whose file the pager shows */
     text held;         /* what was typed into the pager and is not handed in yet */
+    const char *notice; /* what the last row says until something is typed, or NULL */
     bool is_pasting;   /* a paste into the pager goes on, also once that is closed */
     size_t matched;    /* how many bytes of the mark at its end have come */
     int error; /* an errno that ends the run, or 0 */
@@ -328,6 +331,14 @@ static uint32_t read_frame(run *run) {
     return run->pager.is_open ? read_all(write_page, run, &run->frame) : read_session(run->session, gabro_paint, &run->frame);
 }
 
+/* Says on the last row, reversed, what there is to say. The next update has every row. */
+static void write_notice(run *run) {
+    char row[GABRO_MAX_COLUMNS + 64];
+    int length = snprintf(row, sizeof row, "\x1b[?7l\x1b[%d;1H\x1b[0;7m%-*.*s\x1b[0m\x1b[?7h", run->height, run->width, run->width, run->notice);
+    write_terminal(run, row, (size_t)length);
+    gabro_repaint(run->session);
+}
+
 /* Draws what has changed. Returns whether the terminal shows it; if memory fails, the next turn tries again. */
 static bool draw(run *run) {
     if (is_resized || read_frame(run) != GABRO_DONE) {
@@ -337,6 +348,9 @@ static bool draw(run *run) {
         write_words(run, NO_CHANGE);
     } else {
         write_terminal(run, run->frame.bytes, run->frame.length);
+    }
+    if (run->notice) {
+        write_notice(run);
     }
     return true;
 }
@@ -483,11 +497,11 @@ static const char *edit_text(const run *run, const text *message, text *edited) 
     return is_edited ? NULL : is_filled ? "the editor failed" : strerror(error);
 }
 
-/* Says on the main screen that the message stays, and waits for Enter. */
-static void tell(run *run, const char *why) {
+/* Says something on the main screen, and why, and waits for Enter. */
+static void tell(run *run, const char *what, const char *why) {
     char byte = 0;
     bool is_silent, is_there = true;
-    write_words(run, "the message stays: ");
+    write_words(run, what);
     write_words(run, why);
     write_words(run, "\nPress Enter: ");
     while (byte != '\n' && !ended_by && is_there) {
@@ -514,7 +528,7 @@ static void answer(run *run, const text *message) {
     uint32_t code = why ? GABRO_NOT_NOW : gabro_answer(run->session, edited.bytes, edited.length);
     free(edited.bytes);
     if (code != GABRO_DONE) {
-        tell(run, why ? why : words_of(code));
+        tell(run, "the message stays: ", why ? why : words_of(code));
         code = gabro_answer(run->session, message->bytes, message->length);
     }
     if (code != GABRO_DONE) {
@@ -535,6 +549,37 @@ static void edit_message(run *run) {
         run->error = ENOMEM;
     }
     free(message.bytes);
+}
+
+/* ---- A file in an editor ---- */
+
+/* Has the program open file `file` on the main screen, and says why if it does not. */
+static void open_on_main_screen(run *run, size_t file, size_t old_line, size_t new_line) {
+    give_back(run);
+    handle(STOP, SIG_DFL);
+    ignore_keys_of_signals(true);
+    const char *why = run->hooks->open(run->hooks->context, run->session, file, old_line, new_line);
+    ignore_keys_of_signals(false);
+    if (why) {
+        tell(run, "not opened: ", why);
+    }
+    handle(STOP, on_signal);
+    is_continued = 1;
+}
+
+/* Has the program open the selected item's file. If there is none, or the program opens no files, says so on the last row. While a dialog is
+ * open, this is a no-op. */
+static void open_file(run *run) {
+    size_t file, old_line, new_line;
+    if (gabro_dialog(run->session) != GABRO_NO_DIALOG) {
+        return;
+    }
+    bool is_found = gabro_selected_line(run->session, &file, &old_line, &new_line) == GABRO_DONE;
+    if (is_found && run->hooks && run->hooks->open) {
+        open_on_main_screen(run, file, old_line, new_line);
+    } else {
+        run->notice = NOTHING_TO_OPEN;
+    }
 }
 
 /* ---- What is typed ---- */
@@ -670,8 +715,8 @@ static void hear_in_pager(run *run, const char *bytes, size_t count) {
     }
 }
 
-/* Handles a key of the run's own, by its code: Tab shows both commits, ctrl-l draws every row, ctrl-z stops, and p and P show what
- * accepting gives. */
+/* Handles a key of the run's own, by its code: Tab shows both commits, ctrl-l draws every row, ctrl-z stops, p and P show what accepting
+ * gives, and E opens a file. */
 static void press_own_key(run *run, uint32_t key) {
     if (key == TAB) {
         gabro_press(run->session, "view", 4);
@@ -681,6 +726,8 @@ static void press_own_key(run *run, uint32_t key) {
         stop(run);
     } else if (key == 'p' || key == 'P') {
         open_pager(run, key == 'p');
+    } else if (key == 'E') {
+        open_file(run);
     } else {
         tell_key(run, key);
     }
@@ -716,6 +763,7 @@ static size_t hear_to_key(run *run, const char *bytes, size_t count) {
  * one that opens the pager is for that. */
 static void hear(run *run, const char *bytes, size_t count) {
     size_t heard = pass_over_paste(run, bytes, count);
+    run->notice = NULL;
     while (heard < count && !run->pager.is_open && gabro_stage(run->session) == GABRO_WAITING) {
         heard += hear_to_key(run, bytes + heard, count - heard);
     }

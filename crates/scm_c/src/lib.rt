@@ -23,6 +23,7 @@ pub mod c_session;
 pub mod cell_calls;
 pub mod count_calls;
 pub mod layer_calls;
+pub mod line_calls;
 pub mod mark_calls;
 pub mod merge_calls;
 pub mod pager_calls;

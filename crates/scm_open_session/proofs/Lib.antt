@@ -28,3 +28,7 @@ pub mod MarkingLemmas
 pub mod StepLemmas
 -- the screen of a session as cells
 pub mod CellCallLemmas
+-- how many lines of a file stand before an item
+pub mod LineLemmas
+-- worked examples of the definitions
+mod Examples

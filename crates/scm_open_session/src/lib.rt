@@ -10,6 +10,8 @@ pub mod laws;
 pub mod layer;
 pub mod layer_calls;
 pub mod layered;
+pub mod line_calls;
+pub mod line_place;
 mod logging;
 pub mod mark_calls;
 pub mod open_session;
