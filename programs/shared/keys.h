@@ -68,6 +68,9 @@
     "                            changes, line by line; p or Esc goes back\n" \
     "  P                         shows it with the other changes; P or Esc goes\n" \
     "                            back\n" \
+    "  E                         opens the selected item's file in your editor, at\n" \
+    "                            its line, in a tool that shows files as they are\n" \
+    "                            on the disk\n" \
     "  ? ?                       shows all keys, also your own, in a tool with the\n" \
     "                            layer; ? or Esc goes back\n"
 

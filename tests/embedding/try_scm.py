@@ -124,6 +124,7 @@ def drive_a_layer():
         session.say_of_accepting("c stages")
         session.set_keys("x=undo ctrl-n=j")
         session.start("all_open", scm.Key(0, 0, 0, 0))
+        assert session.selected_line == scm.LinePlace(file=0, old_line=1, new_line=1)
         assert session.selected.line == 0 and b"c stages" in session.paint() and session.owner(9, 0)[0] == "nobody"
         session.type("v\x0e ")
         assert session.marks(0) == [True, True, False]
@@ -139,7 +140,7 @@ def drive_a_layer():
         while typed:
             taken, key = session.type_to_key(typed)
             typed, told = typed[taken:], [*told, key]
-        assert session.selected.line == 2 and [key for key in told if key] == [9]
+        assert session.selected.line == 2 and session.selected_line == (0, 1, 3) and [key for key in told if key] == [9]
         session.press("space", "c")
         assert session.end == "accepted" and session.marks(0) == [False, False, True] and refused(session.paint_in, "dark") == "not_now"
     with scm.Session.of_json(json.dumps(WANTED), 80, 24, has_layer=True) as session:

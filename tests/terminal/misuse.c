@@ -99,6 +99,14 @@ static uint32_t ask_selected(gabro_key *key) {
     return code;
 }
 
+/* Asks where the selected item is, and looks that a refused call wrote nothing. */
+static uint32_t ask_line(size_t *file, size_t *old_line, size_t *new_line) {
+    *file = *old_line = *new_line = 77;
+    uint32_t code = gabro_selected_line(&session, file, old_line, new_line);
+    assert(code == GABRO_DONE || (*file == 77 && *old_line == 77 && *new_line == 77));
+    return code;
+}
+
 static uint32_t answer(const char *message) { return gabro_answer(&session, message, strlen(message)); }
 
 static size_t handled; /* how many events the last call counted */
@@ -146,6 +154,8 @@ static void refuse_calls(uint32_t code) {
     gabro_key key;
     refused(type("j"), code);
     refused(ask_selected(&key), code);
+    size_t file, old_line, new_line;
+    refused(ask_line(&file, &old_line, &new_line), code);
     size_t taken = 77;
     uint32_t own_key = 77;
     refused(gabro_type_to_key(&session, "j", 1, &taken, &own_key), code);
@@ -1224,6 +1234,34 @@ static void refuse_runs(void) {
     close_run(&second);
 }
 
+/* Where the items of the second file of a state are in its old and its new version: each of them selected, and the state as it begins. */
+static void tell_places(void) {
+    static const char old[] = "a\nb\nc\n", new[] = "a\nx\ny\nc\nd\n";
+    static const struct {
+        size_t section, line, old_line, new_line;
+    } rows[] = {
+        {GABRO_NO_INDEX, GABRO_NO_INDEX, 1, 1}, {1, GABRO_NO_INDEX, 2, 2}, {1, 0, 2, 2}, {1, 1, 3, 2}, {1, 2, 3, 3}, {3, GABRO_NO_INDEX, 4, 5}, {3, 0, 4, 5},
+    };
+    size_t file, old_line, new_line;
+    done(gabro_state_new(&session, false), GABRO_BUILDING);
+    refused(ask_line(&file, &old_line, &new_line), GABRO_NOT_NOW);
+    done(gabro_begin(&session, WIDTH, HEIGHT), GABRO_WAITING);
+    refused(ask_line(&file, &old_line, &new_line), GABRO_NOT_NOW); /* nothing can be selected */
+    gabro_free(&session);
+    done(gabro_state_new(&session, false), GABRO_BUILDING);
+    done(gabro_state_texts(&session, "f", 1, "", 0, "a", 1, 0100644, "b", 1, 0100644), GABRO_BUILDING);
+    done(gabro_state_texts(&session, "g", 1, "", 0, old, sizeof old - 1, 0100644, new, sizeof new - 1, 0100644), GABRO_BUILDING);
+    done(gabro_begin(&session, WIDTH, HEIGHT), GABRO_WAITING);
+    for (size_t i = 0; i < sizeof rows / sizeof *rows; i++) {
+        gabro_key key = {0, 1, rows[i].section, rows[i].line};
+        done(gabro_select(&session, &key), GABRO_WAITING);
+        refused(ask_line(&file, &old_line, &new_line), GABRO_DONE);
+        assert(file == 1 && old_line == rows[i].old_line && new_line == rows[i].new_line);
+    }
+    gabro_free(&session);
+    before = look();
+}
+
 int main(void) {
     refuse_where_closed();
     refuse_states();
@@ -1236,6 +1274,7 @@ int main(void) {
     take_bytes();
     take_layer();
     tell_lines();
+    tell_places();
     show_pages();
     take_texts();
     cut_window();

@@ -630,9 +630,9 @@ uint32_t gabro_owner(const gabro_session *session, uint16_t row, uint16_t column
  * Returns GABRO_DONE, GABRO_CLOSED, or GABRO_NOT_NOW if the session waits for no event. */
 GABRO_USE_CODE uint32_t gabro_selected(const gabro_session *session, gabro_key *key);
 
-/* Writes where the selected item stands: the index of its file, counted from 0, to `file`, and the number of its first line in the old and in
+/* Writes where the selected item is: the index of its file, counted from 0, to `file`, and the number of its first line in the old and in
  * the new version of that file, each counted from 1, to `old_line` and `new_line`. That is one more than the lines of the version before the
- * item: so a line that a version has not stands where its next line is, and a file stands at 1.
+ * item: so a line that a version has not is where its next line is, and a file is at 1.
  *
  * Returns GABRO_DONE, GABRO_CLOSED, or GABRO_NOT_NOW if nothing is selected, or the session waits for no event. */
 GABRO_USE_CODE uint32_t gabro_selected_line(const gabro_session *session, size_t *file, size_t *old_line, size_t *new_line);

@@ -31,8 +31,10 @@ static const char TITLE[] = "\x1b]2;";
 static const char TAKE[] = " (? for help)\x1b\\\x1b[?1049h\x1b[?25l\x1b[?1000;1002;1006h\x1b[?2004h";
 static const char GIVE_BACK[] = "\x1b[?2026l\x1b[?7h\x1b[0m\x1b[?2004l\x1b[?1000;1002;1006l\x1b[?25h\x1b[?1049l\x1b[23;2t";
 static const char CLEAR[] = "\x1b[0m\x1b[2J";
-/* Is written where nothing has changed: so who types into the program sees that it was heard. */
-static const char NO_CHANGE[] = "\x1b[?2026h\x1b[?2026l";
+/* The begin and the end of an update. Both alone are written where nothing has changed: so who types into the program sees that it was
+ * heard. */
+static const char UPDATE[] = "\x1b[?2026h", END_OF_UPDATE[] = "\x1b[?2026l";
+enum { END = sizeof END_OF_UPDATE - 1 }; /* the length of each of them */
 
 enum { CONTROL_C = 3, TAB = 9, CONTROL_L = 12, CONTROL_Z = 26, ESC = 27, SILENCE = 50 /* milliseconds */, MOST_WAITS = 20 /* silences */ };
 /* No key of a terminal has as many bytes. */
@@ -331,7 +333,7 @@ static uint32_t read_frame(run *run) {
     return run->pager.is_open ? read_all(write_page, run, &run->frame) : read_session(run->session, gabro_paint, &run->frame);
 }
 
-/* Says on the last row, reversed, what there is to say. The next update has every row. */
+/* Says on the last row, reversed, what there is to say. Then the next update has every row. */
 static void write_notice(run *run) {
     char row[GABRO_MAX_COLUMNS + 64];
     int length = snprintf(row, sizeof row, "\x1b[?7l\x1b[%d;1H\x1b[0;7m%-*.*s\x1b[0m\x1b[?7h", run->height, run->width, run->width, run->notice);
@@ -344,14 +346,12 @@ static bool draw(run *run) {
     if (is_resized || read_frame(run) != GABRO_DONE) {
         return false;
     }
-    if (run->frame.length == 0) {
-        write_words(run, NO_CHANGE);
-    } else {
-        write_terminal(run, run->frame.bytes, run->frame.length);
-    }
+    bool is_empty = run->frame.length == 0, is_whole = !is_empty && !run->notice;
+    write_terminal(run, is_empty ? UPDATE : run->frame.bytes, is_empty ? END : run->frame.length - (is_whole ? 0 : END));
     if (run->notice) {
         write_notice(run);
     }
+    write_words(run, is_whole ? "" : END_OF_UPDATE);
     return true;
 }
 

@@ -25,7 +25,7 @@ from ._merge import MergeLine, marked_bytes, merge_texts, merged_bytes, open_con
 from ._pager import Pager
 from ._session import Session
 from ._values import (
-    ENDS, FOLDS, OWNERS, THEMES, Cell, Colour, Contents, Dialog, Folds, Item, Key, Mark, Path, Side, Stage, Text, Theme,
+    ENDS, FOLDS, OWNERS, THEMES, Cell, Colour, Contents, Dialog, Folds, Item, Key, LinePlace, Mark, Path, Side, Stage, Text, Theme,
 )
 
 __version__ = version()
@@ -37,8 +37,8 @@ UNCHECKED, PARTLY, CHECKED = Mark.UNCHECKED, Mark.PARTLY, Mark.CHECKED
 
 __all__ = [
     "ABSENT", "ACCEPTED", "BINARY", "BUILDING", "BY_ITEMS", "BY_LINES", "BY_ONE_ITEM", "CHECKED", "CODES", "Cell", "Colour",
-    "Contents", "Dialog", "EDITING", "ENDED", "ENDS", "Error", "FOLDS", "Folds", "InTree", "Item", "Key", "Mark", "MergeLine", "NONE",
-    "NO_INDEX", "OF_NEW", "OF_OLD", "OF_SIDE", "OWNERS", "PARTLY", "PATH_FAULTS", "Pager", "Path", "Session", "Shown", "Side", "Stage",
+    "Contents", "Dialog", "EDITING", "ENDED", "ENDS", "Error", "FOLDS", "Folds", "InTree", "Item", "Key", "LinePlace", "Mark", "MergeLine",
+    "NONE", "NO_INDEX", "OF_NEW", "OF_OLD", "OF_SIDE", "OWNERS", "PARTLY", "PATH_FAULTS", "Pager", "Path", "Session", "Shown", "Side", "Stage",
     "TEXT", "THEMES", "Text", "Theme", "UNCHANGED", "UNCHECKED", "WAITING", "__version__", "decide", "library", "marked_bytes",
     "merge_texts", "merged_bytes", "open_conflicts", "open_library", "path_fault", "tree_shown", "tree_side", "words",
 ]

@@ -11,7 +11,7 @@ from ._library import NO_INDEX, CellOfC, Error, Handle, KeyOfC, ScreenInfo, Side
 from ._merge import merge_texts
 from ._pager import Pager
 from ._values import (
-    ENDS, OWNERS, Cell, Colour, Contents, Dialog, Folds, Item, Key, Mark, Path, Side, Stage, Text, Theme, bytes_of, bytes_of_path, member_of,
+    ENDS, OWNERS, Cell, Colour, Contents, Dialog, Folds, Item, Key, LinePlace, Mark, Path, Side, Stage, Text, Theme, bytes_of, bytes_of_path, member_of,
     shown_path,
 )
 
@@ -249,6 +249,13 @@ class Session:
         key = KeyOfC()
         self._call("selected", ctypes.byref(key))
         return key_of(key)
+
+    @property
+    def selected_line(self) -> LinePlace:
+        """Where the selected item is in both versions of its file. Raises Error if nothing is selected."""
+        file, old_line, new_line = (ctypes.c_size_t() for _ in range(3))
+        self._call("selected_line", *map(ctypes.byref, (file, old_line, new_line)))
+        return LinePlace(file.value, old_line.value, new_line.value)
 
     def press(self, *words: Text) -> None:
         """Handles the events of words, one by one: with a frame behind each."""

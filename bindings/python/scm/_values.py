@@ -137,6 +137,15 @@ class Item(NamedTuple):
     parts: int
 
 
+class LinePlace(NamedTuple):
+    """Where an item is: its file in the state, counted from 0, and the number of its first line in the old version of the file and in
+    the new one, counted from 1. A line that a version has not is where its next line is."""
+
+    file: int
+    old_line: int
+    new_line: int
+
+
 class Side(NamedTuple):
     """One side of a file: the kind of its contents, its mode, and its text as bytes, or None."""
 

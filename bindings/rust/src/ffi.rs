@@ -161,6 +161,7 @@ extern "C" {
     pub fn gabro_repaint(session: Session) -> u32;
     pub fn gabro_owner(session: Asked, row: u16, column: u16, key: *mut Key) -> u32;
     pub fn gabro_selected(session: Asked, key: *mut Key) -> u32;
+    pub fn gabro_selected_line(session: Asked, file: *mut usize, old_line: *mut usize, new_line: *mut usize) -> u32;
     pub fn gabro_symbol(session: Asked, row: u16, column: u16, out: Room, length: usize) -> usize;
     pub fn gabro_text(session: Asked, out: Room, length: usize, written: *mut usize) -> u32;
     pub fn gabro_files(session: Asked, count: *mut usize) -> u32;

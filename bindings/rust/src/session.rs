@@ -319,6 +319,17 @@ const OWNERS: [Owner; 15] = [
     Owner::FileEdge,
 ];
 
+/// Where an item is: its file, and its first line in both versions of that file.
+#[derive(Clone, Copy, Debug, Default, Eq, Hash, PartialEq)]
+pub struct LinePlace {
+    /// The file in the state, counted from 0.
+    pub file: usize,
+    /// The number of the line in the old version, counted from 1. A line that the version has not is where its next line is.
+    pub old_line: usize,
+    /// The number of the line in the new version, counted from 1. A line that the version has not is where its next line is.
+    pub new_line: usize,
+}
+
 /// What an item is: its kind, and how many parts it has.
 #[derive(Clone, Copy, Debug, Eq, Hash, PartialEq)]
 pub struct Item {
@@ -965,6 +976,18 @@ impl Session {
         let mut key = ffi::Key::from(Key::default());
         done(unsafe { ffi::gabro_selected(self.at(), &mut key) })?;
         Ok(Key::from(key))
+    }
+
+    /// Returns where the selected item is: its file, and its first line in both versions of that file.
+    ///
+    /// # Errors
+    ///
+    /// `NotNow` if nothing is selected, or the session does not wait for an event.
+    pub fn selected_line(&self) -> Result<LinePlace, Error> {
+        let mut place = LinePlace::default();
+        let LinePlace { file, old_line, new_line } = &mut place;
+        done(unsafe { ffi::gabro_selected_line(self.at(), file, old_line, new_line) })?;
+        Ok(place)
     }
 
     /// Returns the symbol that begins at a place of the screen, also on the status row of a layer. It is empty at the second column of

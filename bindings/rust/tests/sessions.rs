@@ -248,6 +248,8 @@ fn a_user_at_a_terminal() {
         }
     );
     assert_eq!(session.marks(0), Ok(vec![true, true, true]));
+    let place = session.selected_line().unwrap();
+    assert_eq!((place.file, place.old_line, place.new_line), (0, 1, 1));
     assert_eq!(session.line(key(Some(2), Some(0))).unwrap(), "c\n");
     session.idle().unwrap();
     session.resize(60, 20).unwrap();

@@ -1,4 +1,4 @@
-//! The call that tells the line of a file at which the selected item stands. `include/gabrosty.h` documents it.
+//! The call that tells the line of a file at which the selected item is. `include/gabrosty.h` documents it.
 ghost use Rattle.std.specs.Prelude.{◌≡◌, ◌<◌, Some};
 ghost use Rattle.scm_open_session.specs.LineCalls.{code_of_selected_line, selected_place};
 

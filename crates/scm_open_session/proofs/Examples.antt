@@ -61,11 +61,11 @@ context_begins = refl
 changes_begin : of_section 1 ≡ at 3 3
 changes_begin = refl
 
--- a removed line stands where the next line of the new version stands
+-- in the new version a removed line is where the next line is
 second_removed_line : of_line 1 1 ≡ at 4 3
 second_removed_line = refl
 
--- an added line stands where the next line of the old version stands
+-- in the old version an added line is where the next line is
 added_line : of_line 1 2 ≡ at 5 3
 added_line = refl
 

@@ -42,7 +42,7 @@ pub mod Dialogs
 pub mod Selecting
 -- the calls of a program, one after another, and what they come to
 pub mod Steps
--- the line of a file at which an item stands
+-- the line of a file at which an item is
 pub mod LinePlaces
 -- the line of the selected item
 pub mod LineCalls

@@ -1,4 +1,4 @@
--- The line of a file at which the selected item stands, as calls tell it.
+-- The line of a file at which the selected item is, as calls tell it.
 use Rattle.std.specs.Prelude.{ℕ, Option, Some, None}
 use Rattle.scm_record.specs.Live.{Live}
 use Rattle.scm_open_session.specs.declared.line_place.LinePlace.{LinePlace}

@@ -1,4 +1,4 @@
--- The line of a file at which an item stands, in the old version of the file and in the new one.
+-- The line of a file at which an item is, in the old version of the file and in the new one.
 use Rattle.std.specs.Prelude.{ℕ, ◌+◌, suc, min, List, filter, length, take, Bool, true, false, not, Option, Some, None, option_map, unwrap_or, slice_get}
 use Rattle.std.specs.List.{sum_by}
 use Rattle.scm_types.specs.declared.file.File.{File}
@@ -58,7 +58,7 @@ place_in file section line state = option_map
     (λ (f : File). record { file = file; old_line = line_number false section line f; new_line = line_number true section line f })
     (slice_get state.files file)
 
--- The place of an item: that of its first line. The first line of a file stands before all its sections.
+-- The place of an item: that of its first line. That of a file is before all its sections.
 abbrev pub place_of : SelectionKey → RecordState → Option LinePlace
 place_of keys.None state = None
 place_of (keys.File key) state = place_in key.file_idx 0 0 state

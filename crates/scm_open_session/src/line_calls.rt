@@ -1,4 +1,4 @@
-//! The call that tells the line of a file at which the selected item stands.
+//! The call that tells the line of a file at which the selected item is.
 ghost use Rattle.std.specs.Prelude.{◌≡◌, ◌<◌, Some};
 ghost use Rattle.scm_open_session.specs.Boxes.{box_value};
 ghost use Rattle.scm_open_session.specs.LineCalls.{code_of_place, code_of_selected_line, place_at_stage, place_in_live, selected_place};

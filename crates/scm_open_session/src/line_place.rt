@@ -1,4 +1,4 @@
-//! The line of a file at which an item stands, in both versions of the file.
+//! The line of a file at which an item is, in both versions of the file.
 ghost use Rattle.std.specs.Prelude.{◌≡◌, ◌+◌, filter, length, option_map, suc, take, unwrap_or, slice_get};
 ghost use Rattle.std.specs.List.{sum_by};
 ghost use Rattle.scm_open_session.specs.LinePlaces.{capped, has_kind, has_line, line_number, lines_before, lines_before_line, lines_in, place_in, place_of};
@@ -81,7 +81,7 @@ fn lines_of(sections: &[Section<'_>], is_new: bool) -> usize
 }
 
 /// Returns the number of the line of the new version, or of the old one, at which line `line` of section `section` of
-/// `file` stands, or the greatest number.
+/// `file` is, or the greatest number.
 fn line_number(file: &File<'_>, section: usize, line: usize, is_new: bool) -> usize
     ensures { result ≡ line_number is_new section line file.now }
 {

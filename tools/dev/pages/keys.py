@@ -41,6 +41,7 @@ AT_TERMINAL = (
     (["ctrl-z"], "stops the program, which `fg` continues"),
     (["p"], "shows the selected item's file with the marked changes, line by line; `p` or `Esc` goes back"),
     (["P"], "shows it with the other changes; `P` or `Esc` goes back"),
+    (["E"], "opens the selected item's file in your editor, at its line, in a tool that shows files as they are on the disk"),
     (["? ?"], "shows all keys, also your own, in a tool with the layer; `?` or `Esc` goes back"),
 )
 # keys of the layer of `scm_front`, which lies over a session
