@@ -225,7 +225,7 @@ static bool run(gabro_session *session, task *task, int terminal) {
     const char *asked = getenv("SELECT_TITLE");
     bool is_on = task->layer.is_on;
     const char *keys = page_of_keys(&task->layer, PAGE_OF_KEYS(OPEN_CONFLICTS));
-    const gabro_hooks hooks = {task, is_on ? follow : NULL, keep_here, is_on ? press_key : NULL, keys};
+    const gabro_hooks hooks = {.context = task, .changed = is_on ? follow : NULL, .rested = keep_here, .pressed = is_on ? press_key : NULL, .keys = keys};
     check(append_words(&title, NAME ": ") && add_count(&title, task), "cannot go on", NULL);
     task->chosen = is_on && !task->has_run ? begin_chosen(session) : (chosen){0};
     task->has_run = true;

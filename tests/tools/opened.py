@@ -140,7 +140,7 @@ def in_the_diff_editor(place):
     words = ["gabrosty-diff-editor", left, right]
     status, _ = place.type(words, ["shift-F", "j", "j", "E", "q"], VISUAL=noting(place))
     is_given = status == 1 and words_given(place) == [(b"+1", os.fsencode(os.path.join(right, "a")))]
-    status, said = place.type(words, ["pagedown", "space", "E", "a", "c"], VISUAL="f() { echo added >> '%s/a'; }; f" % right)
+    status, said = place.type(words, ["pagedown", "space", "pageup", "E", "a", "c"], VISUAL="f() { echo added >> '%s/a'; }; f" % right)
     is_chosen = status == 0 and AGAIN in said and changed.read(right) == {"a": b"2\nadded\n", "b": b"1\n"}
     status, said = place.type([*words[:1], "--read-only", left, right], ["E", "q"], VISUAL=ADDS)
     is_shown = status == 0 and AGAIN in said and changed.read(right)["a"] == b"2\nadded\nadded\n"
