@@ -357,6 +357,7 @@ static int select_changes(gabro_session *session, task *task) {
     int terminal = open_terminal();
     prepare(session, &task->layer, terminal);
     label_renames(session, task);
+    check_code(name_sections(session, &task->layer), "the changes cannot be shown");
     show_message(session, task);
     bool is_there = run(session, task, terminal);
     if (task->opening.is_changed && is_there) {

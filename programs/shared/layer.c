@@ -42,7 +42,7 @@ const char *read_layer(layer *layer, const char **values) {
     static const char *const switches[] = {"on", "off", NULL}, *const themes[] = {"dark", "light", "sixteen", "none", NULL},
                       *const starts[] = {"as-is", "folded", "open", "fit", NULL};
     const char *no_colour = getenv("NO_COLOR"), *accept = getenv("SELECT_ACCEPT");
-    uint32_t is_off = 0;
+    uint32_t is_off = 0, is_unnamed = 0;
     layer->theme = no_colour && *no_colour ? GABRO_NO_COLOURS : GABRO_DARK;
     layer->folds = GABRO_AS_IT_IS;
     layer->accept = accept ? accept : "c accepts";
@@ -50,6 +50,7 @@ const char *read_layer(layer *layer, const char **values) {
         {"SELECT_LAYER", "on or off", switches, &is_off},
         {"SELECT_THEME", "dark, light, sixteen or none", themes, &layer->theme},
         {"SELECT_START", "as-is, folded, open or fit", starts, &layer->folds},
+        {"SELECT_HEADINGS", "on or off", switches, &is_unnamed},
     };
     for (size_t i = 0; i < sizeof choices / sizeof *choices; i++) {
         if (!read_choice(choices[i].name, choices[i].words, choices[i].number)) {
@@ -58,6 +59,7 @@ const char *read_layer(layer *layer, const char **values) {
         }
     }
     layer->is_on = !is_off;
+    layer->has_headings = !is_unnamed;
     *values = "text in UTF-8";
     return is_utf8(layer->accept) ? NULL : "SELECT_ACCEPT";
 }
@@ -93,6 +95,11 @@ uint32_t start_layer(gabro_session *session, const layer *layer, int terminal) {
         code = take_size(session, terminal);
     }
     return code == GABRO_DONE ? gabro_start(session, layer->folds, &nothing) : code;
+}
+
+uint32_t name_sections(gabro_session *session, const layer *layer) {
+    bool is_due = layer->is_on && layer->has_headings && gabro_stage(session) == GABRO_WAITING;
+    return is_due ? gabro_name_sections(session) : GABRO_DONE;
 }
 
 /* ---- Keys of the user's own ---- */

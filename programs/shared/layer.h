@@ -9,6 +9,7 @@ typedef struct layer {
     bool is_on;
     uint32_t theme;     /* GABRO_DARK to GABRO_NO_COLOURS */
     uint32_t folds;     /* GABRO_AS_IT_IS to GABRO_OPEN_IF_IT_FITS */
+    bool has_headings;  /* whether sections show the lines that they stand in, in a program that calls `name_sections` */
     const char *accept; /* what the status row says that accepting does */
 } layer;
 
@@ -25,6 +26,10 @@ uint32_t open_layer(gabro_session *session, const layer *layer, const text *json
 /* Gives a session that has begun the looks of its layer and the folds of its start, on the size of `terminal`. Returns the code of the
  * call that failed, or GABRO_DONE. */
 uint32_t start_layer(gabro_session *session, const layer *layer, int terminal);
+
+/* Has a session that waits with the layer show the line that each section stands in, unless the environment forbids it. Returns the code
+ * of the call, or GABRO_DONE. */
+uint32_t name_sections(gabro_session *session, const layer *layer);
 
 /* Returns the folder that the variable `name` names by its whole path, or NULL: another path would lead to where the program was started,
  * which may be a stranger's. */

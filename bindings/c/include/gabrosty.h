@@ -416,6 +416,16 @@ uint32_t gabro_accept_text(gabro_session *session, const char *text, size_t leng
  * more. May return GABRO_NO_MEMORY instead, if the text is short enough and UTF-8. */
 uint32_t gabro_label(gabro_session *session, size_t file, size_t section, const char *text, size_t length);
 
+/* Has the layer show behind the title of each section of changed lines the line that the section stands in, as git shows it behind `@@`:
+ * "Section 3/7  fn main() {". That is the last line of the old version, above the first changed line, that begins with a letter of
+ * ASCII, `_` or `$`: its first 80 bytes, in whole characters, without white space at the end. If there is none, the row stays. It is a
+ * label as that of `gabro_label`, which such a call replaces; a section that has a label keeps it. Call this once, behind the calls of
+ * `gabro_label`: then what comes later finds each label quickly, however many there are.
+ *
+ * Returns GABRO_DONE, GABRO_CLOSED, or GABRO_NOT_NOW if the session has no layer or waits for no event. Or returns GABRO_NO_MEMORY; then
+ * some sections show that line. */
+uint32_t gabro_name_sections(gabro_session *session);
+
 /* What is unfolded at the start. */
 enum {
     GABRO_AS_IT_IS = 0,  /* what is unfolded already */

@@ -82,7 +82,7 @@ CALLS = dict(call.split(":") for call in """
     state_mode:BN state_binary:BTNTN state_marks:NTN state_texts:TNTNTNNTNN begin:HH new:TNHH stage: end: dialog: type:TN type_to_key:TNPP idle: press:TN press_all:TN
     press_and_count:TNP answer_and_count:TNP decode:TNTNP decode_idle:TNP click:HH answer:TN resize:HH paint:TNP cells:PNTNP repaint: owner:HHP selected:P selected_line:PPP symbol:HHTN text:TNP files:P
     side:NBTNP side_bytes:NBTNP mark:PP marks:NTNP item:PPP path:NBTNP select:P line:PTNP message:NTNP run:IT free: begin_layer:HH new_layer:TNHH theme:U
-    accept_text:TN label:NNTN start:UP keys:TN log: logged:TNP pager_open:NBP pager_show:PNNH pager_type:PTNHH pager_paint:PHHTNP""".split())
+    accept_text:TN label:NNTN name_sections: start:UP keys:TN log: logged:TNP pager_open:NBP pager_show:PNNH pager_type:PTNHH pager_paint:PHHTNP""".split())
 TYPES = {"B": ctypes.c_bool, "T": ctypes.c_char_p, "N": ctypes.c_size_t, "H": ctypes.c_uint16, "U": ctypes.c_uint32, "I": ctypes.c_int, "P": ctypes.c_void_p}
 # the greatest number of each type of numbers; the least one is 0
 GREATEST = {"N": NO_INDEX, "H": 0xFFFF, "U": 0xFFFFFFFF, "I": 0x7FFFFFFF}

@@ -209,6 +209,11 @@ class Session:
         """Shows `text` on the row of a section in place of its number, mode or binary contents, or those again for an empty text."""
         self._call("label", file, section, *sized(text))
 
+    def name_sections(self) -> None:
+        """Shows behind the title of each section of changed lines the line that it stands in, as git shows it behind `@@`. A section
+        that has a label keeps it. Call this once, behind the calls of `label`."""
+        self._call("name_sections")
+
     def start(self, folds: Union[Folds, str] = Folds.AS_IT_IS, first: Optional[Key] = None) -> None:
         """Unfolds what `folds` says, or the name of it, and selects the item `first`."""
         key = Key(NO_INDEX, NO_INDEX, NO_INDEX, NO_INDEX) if first is None else first

@@ -136,6 +136,7 @@ extern "C" {
     pub fn gabro_new_layer(session: Session, json: Bytes, length: usize, width: u16, height: u16) -> u32;
     pub fn gabro_theme(session: Session, theme: u32) -> u32;
     pub fn gabro_accept_text(session: Session, text: Bytes, length: usize) -> u32;
+    pub fn gabro_name_sections(session: Session) -> u32;
     pub fn gabro_label(session: Session, file: usize, section: usize, text: Bytes, length: usize) -> u32;
     pub fn gabro_start(session: Session, folds: u32, first: *const Key) -> u32;
     pub fn gabro_keys(session: Session, text: Bytes, length: usize) -> u32;

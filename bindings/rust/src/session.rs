@@ -696,6 +696,16 @@ impl Session {
         done(unsafe { ffi::gabro_label(self.at(), file, section, text, length) })
     }
 
+    /// Shows behind the title of each section of changed lines the line that the section stands in, as git shows it behind `@@`. A
+    /// section that has a label keeps it. Call this once, behind the calls of `set_label`.
+    ///
+    /// # Errors
+    ///
+    /// `NotNow` if the session has no layer or waits for no event, or `NoMemory`: then some sections show it.
+    pub fn name_sections(&mut self) -> Result<(), Error> {
+        done(unsafe { ffi::gabro_name_sections(self.at()) })
+    }
+
     /// Unfolds what `folds` says, and selects the item that `first` names, if there is one.
     ///
     /// # Errors

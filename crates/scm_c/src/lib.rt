@@ -22,6 +22,7 @@ ghost use Rattle.scm_open_session.specs.FrontKeys.{ChangesToKey};
 pub mod c_session;
 pub mod cell_calls;
 pub mod count_calls;
+pub mod heading_calls;
 pub mod layer_calls;
 pub mod line_calls;
 pub mod mark_calls;

@@ -30,6 +30,11 @@ pub mod ShownLemmas
 -- labels of sections
 pub mod LabelLemmas
 pub mod LabelOrderLemmas
+-- the first bytes of a text, in whole characters
+pub mod CutTextLemmas
+-- the lines that sections stand in, and the labels that say them
+pub mod HeadingLemmas
+pub mod FoundLemmas
 -- headers, and the labels that they show
 pub mod HeaderLemmas
 -- the cells of a view

@@ -18,6 +18,8 @@ pub mod LineValue
 pub mod WordsView
 -- labels of sections, in place of their numbers
 pub mod Labels
+-- the lines that sections stand in, and the labels that say them
+pub mod Headings
 -- headers of a session's screen, and the labels that they show
 pub mod Headers
 -- the symbols of the code's source of a cut

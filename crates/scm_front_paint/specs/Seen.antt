@@ -1,5 +1,6 @@
 -- The values of views.
-use Rattle.std.specs.Prelude.{◌≡◌, ◌≤◌, ◌+◌}
+use Rattle.std.specs.Prelude.{◌≡◌, ◌≤◌, ◌+◌, List}
+use Rattle.scm_types.specs.declared.file.File.{File}
 use Rattle.scm_front.specs.declared.layer.Front.{Front}
 use Rattle.scm_front.specs.declared.layer.FrontEditing.{FrontEditing}
 use Rattle.scm_front_paint.specs.declared.pane.Pane.{Pane}
@@ -13,6 +14,10 @@ pub record Seen : Type 0 where
 -- a view by its two fields
 abbrev pub seen : Front → Pane → Seen
 seen front pane = record { front = front; pane = pane }
+
+-- the files of the state that is shown
+abbrev pub files_of : Seen → List File
+files_of v = v.front.beneath.session.shown.state.files
 
 -- the session is drawn on the screen for the terminal, which ends where a screen can end
 pub record IsSeen (v : Seen) : Type 0 where

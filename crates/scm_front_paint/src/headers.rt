@@ -9,7 +9,8 @@ ghost use Rattle.scm_front_paint.specs.declared.labels.Label.{Label};
 ghost use Rattle.scm_front_paint.specs.Headers.{AreRows, IsLabelledHeader, folded_by, header_on, label_on, labelled, last_owner, section_of_key, text_of_header, title_end, toggled_by};
 ghost use Rattle.scm_front_paint.specs.Labels.{is_of, is_title, text_of, with_label};
 
-use crate::labels::{Labels, label_grid};
+use crate::labels::label_grid;
+use crate::section_labels::SectionLabels;
 use crate::source::has_title;
 use crate::status::with_replacements;
 use crate::words::is_bare;
@@ -112,7 +113,7 @@ fn title_end(session: &LiveSession<'_>, row: usize) -> u16
 }
 
 /// Returns the text of the label of `section`, or an empty text if it has none.
-fn text_of_header(labels: &Labels, section: Option<SectionKey>) -> &str
+fn text_of_header(labels: &SectionLabels, section: Option<SectionKey>) -> &str
     ensures { result.now ≡ text_of_header labels.now section }
 {
     match section {
@@ -125,7 +126,7 @@ fn text_of_header(labels: &Labels, section: Option<SectionKey>) -> &str
 /// has one.
 fn label_on(
     alloc: Global,
-    labels: &Labels,
+    labels: &SectionLabels,
     session: &LiveSession<'_>,
     row: usize,
 ) -> Result<Option<Grid>, RecordError>
@@ -145,7 +146,7 @@ fn label_on(
 /// Returns the rows of the labels over the screen of `session`: none if there are no labels.
 pub(crate) fn label_rows(
     alloc: Global,
-    labels: &Labels,
+    labels: &SectionLabels,
     session: &LiveSession<'_>,
 ) -> Result<Vec<Option<Grid>>, RecordError>
     ensures ok { IfOk result (λ rows. AreRows labels.now session.now rows.items) }

@@ -1,5 +1,5 @@
 //! Labels of sections: texts that the rows of sections show in place of their own.
-ghost use Rattle.std.specs.Prelude.{◌≡◌, ◌<◌, ◌≤◌, ◌==◌, ◌++◌, ◌∷◌, [], true, false, length, IfErr, IfOk, IsTrue, OnErr, OnOk, position, slice_set};
+ghost use Rattle.std.specs.Prelude.{◌≡◌, ◌<◌, ◌≤◌, ◌==◌, ◌++◌, ◌∷◌, [], true, false, is_some, length, IfErr, IfOk, IsTrue, OnErr, OnOk, position, slice_set};
 ghost use Rattle.std.specs.List.Sorted.{IsPartitionPoint};
 ghost use Rattle.scm_errors.specs.declared.error.RecordError.TheVariants.{OutOfMemory};
 ghost use Rattle.scm_front_paint.specs.Labels.{AreOrdered, is_before, is_of, label_screen, text_of, with_label};
@@ -154,6 +154,29 @@ impl Labels {
         }
     }
 
+    /// Returns whether section `section` of file `file` has a label.
+    pub(crate) fn has(&self, file: usize, section: usize) -> bool
+        ensures { result ≡ is_some (position (is_of file section) self.now) }
+    {
+        self.position(file, section).is_some()
+    }
+
+    /// Puts `label` behind the others.
+    ///
+    /// # Errors
+    ///
+    /// - `OutOfMemory`: an allocation failed; the labels are unchanged.
+    pub(crate) fn push(&mut self, label: Label) -> Result<(), RecordError>
+        ensures ok { OnOk result (self.new ≡ self.old ++ label ∷ []) }
+        ensures unchanged { OnErr result (self.new ≡ self.old) }
+        ensures err { IfErr result (λ e. e ≡ OutOfMemory) }
+    {
+        let is_behind = is_behind(self.list.as_slice(), &label);
+        self.list.push(label)?;
+        self.is_ordered = self.is_ordered & is_behind;
+        Ok(())
+    }
+
     /// Puts `label` in place of that of the same section, or behind the others if there is none.
     ///
     /// # Errors
@@ -169,12 +192,7 @@ impl Labels {
                 replace_at(&mut self.list, index, label);
                 Ok(())
             }
-            None => {
-                let is_behind = is_behind(self.list.as_slice(), &label);
-                self.list.push(label)?;
-                self.is_ordered = self.is_ordered & is_behind;
-                Ok(())
-            }
+            None => self.push(label),
         }
     }
 }

@@ -6,14 +6,17 @@ ghost use Rattle.scm_record.specs.Frames.{columns_of};
 ghost use Rattle.scm_record.specs.Painted.{screen_of};
 ghost use Rattle.scm_front_paint.specs.Below.{PaintsView, is_of, known_to, no_pictures, pictures_of, rows_shown, width_of};
 ghost use Rattle.scm_front_paint.specs.Cut.{CutFails, IsCut};
+ghost use Rattle.scm_front_paint.specs.Headings.{AreNamed, AreSomeNamed};
 ghost use Rattle.scm_front_paint.specs.Labels.{symbols_over, with_label};
+ghost use Rattle.scm_front_paint.specs.Seen.{files_of};
 ghost use Rattle.scm_front_paint.specs.ShownView.{style_in};
 ghost use Rattle.scm_front_paint.specs.Sideways.{sideways_picture};
 ghost use Rattle.scm_front_paint.specs.Source.{symbols_in};
 
 use crate::cut::cut_of;
 use crate::headers::label_rows;
-use crate::labels::{Label, Labels};
+use crate::labels::Label;
+use crate::section_labels::SectionLabels;
 use crate::line_words::LineWords;
 use crate::shown::{Moved, Shown};
 use crate::source::Source;
@@ -153,7 +156,7 @@ pub struct FrontPainter {
     /// The colours of the terminal.
     pub(crate) theme: Theme,
     /// The labels of sections.
-    pub(crate) labels: Labels,
+    pub(crate) labels: SectionLabels,
     /// The painter of the session's rows.
     session: SessionPainter,
     /// The painter of the status row.
@@ -175,7 +178,7 @@ impl FrontPainter {
         FrontPainter {
             alloc,
             theme,
-            labels: Labels::new(alloc),
+            labels: SectionLabels::new(alloc),
             session: SessionPainter {
                 painter: Painter::new(alloc),
                 cut: None,
@@ -224,6 +227,26 @@ impl FrontPainter {
         ensures err { IfErr result (λ e. e ≡ OutOfMemory) }
     {
         self.labels.set(label)
+    }
+
+    /// Shows the heading above each section of changed lines of `view` behind the section's title from the next
+    /// `paint` on, if there is one: the line that the section stands in. A section that has a label keeps it.
+    ///
+    /// # Errors
+    ///
+    /// - `OutOfMemory`: an allocation failed; some sections show it.
+    pub fn name_sections(&mut self, view: &View<'_>) -> Result<(), RecordError>
+        ensures ok { OnOk result (AreNamed (files_of view.now)
+            self.old.labels self.new.labels) }
+        ensures some { OnErr result (AreSomeNamed (files_of view.now)
+            self.old.labels self.new.labels) }
+        ensures pictures { pictures_of self.new ≡ pictures_of self.old }
+        ensures size { self.new.size ≡ self.old.size }
+        ensures theme { self.new.theme ≡ self.old.theme }
+        ensures err { IfErr result (λ e. e ≡ OutOfMemory) }
+    {
+        let state = view.front().beneath().state();
+        self.labels.name(self.alloc, state.files.as_slice())
     }
 
     /// Returns the bytes that make a terminal show `view`: its session from a column on, with the labels of

@@ -20,6 +20,8 @@ pub mod DecodeLemmas
 pub mod KeyPieceLemmas
 -- calls of a layer
 pub mod LayerCallLemmas
+-- headings of sections that a layer shows
+pub mod HeadingLemmas
 -- the log of the calls beneath a layer
 pub mod LoggingLemmas
 -- the marks of a file, and the selection of an item, by calls

@@ -30,6 +30,8 @@ pub mod Counting
 pub mod Decoding
 -- calls of a layer: how a session begins with it, its theme, and the start
 pub mod LayerCalls
+-- headings of sections that a layer shows
+pub mod Headings
 -- keys of the user's own
 pub mod OwnKeys
 -- the log of the calls beneath a layer, as a script

@@ -6,6 +6,7 @@ pub mod calls;
 pub mod cell_calls;
 pub mod count_calls;
 pub mod dialog_calls;
+pub mod headings;
 pub mod laws;
 pub mod layer;
 pub mod layer_calls;

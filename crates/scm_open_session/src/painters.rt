@@ -1,5 +1,8 @@
 //! What a session is painted with: its painters, and the words of what accepting does.
 ghost use Rattle.std.specs.Prelude.{◌≡◌, IfNone, IfSome, IsTrue, false, string_bytes};
+ghost use Rattle.scm_front_paint.specs.Headings.{AreNamed, AreSomeNamed};
+ghost use Rattle.scm_front_paint.specs.Seen.{files_of};
+ghost use Rattle.scm_open_session.specs.Headings.{ChangesLabels, HaveLabels};
 ghost use Rattle.scm_open_session.specs.Painters.{AreNew, Forget, HaveLabel, HaveTheme, HaveWords, IsLabelled};
 ghost use Rattle.scm_open_session.specs.Paint.{ShowsPlain, ShowsRunning, ShowsView};
 
@@ -68,6 +71,17 @@ impl Painters {
         try_label(&mut self.layered, label)
     }
 
+    /// Shows the heading above each section of `view` from the next update on, and returns whether each section shows
+    /// it. If an allocation failed, some do.
+    pub fn name_sections(&mut self, view: &View<'static>) -> bool
+        ensures done { IsTrue result
+            → HaveLabels (AreNamed (files_of view.now)) self.old self.new }
+        ensures some { result ≡ false
+            → HaveLabels (AreSomeNamed (files_of view.now)) self.old self.new }
+    {
+        try_name_sections(&mut self.layered, view)
+    }
+
     /// Forgets what was painted, so that the next update has every row.
     pub fn forget(&mut self)
         ensures { Forget self.old self.new }
@@ -131,4 +145,15 @@ impl Painters {
             }
         }
     }
+}
+
+/// Shows the heading above each section of `view` in the paints of `painter`, and returns whether each section shows
+/// it. If an allocation failed, some do.
+fn try_name_sections(painter: &mut FrontPainter, view: &View<'static>) -> bool
+    ensures done { IsTrue result
+        → ChangesLabels (AreNamed (files_of view.now)) painter.old painter.new }
+    ensures some { result ≡ false
+        → ChangesLabels (AreSomeNamed (files_of view.now)) painter.old painter.new }
+{
+    painter.name_sections(view).is_ok()
 }
