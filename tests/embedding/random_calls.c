@@ -347,7 +347,7 @@ static uint32_t layer(void) {
     size_t length = random_text(text);
     uint32_t wanted = gabro_stage(&session) == GABRO_NONE ? GABRO_CLOSED : GABRO_DONE, which = random_below(5);
     gabro_key first = {0, random_below(3), random_below(4), random_below(4)};
-    switch (random_below(7)) {
+    switch (random_below(8)) {
     case 0:
         wanted = which > GABRO_NO_COLOURS ? GABRO_NO_NUMBER : wanted;
         return one_of(gabro_theme(&session, which), wanted, wanted == GABRO_DONE ? GABRO_NOT_NOW : wanted, wanted);
@@ -364,7 +364,10 @@ static uint32_t layer(void) {
     case 4:
         wanted = which == 3 ? GABRO_NO_KEY : wanted;
         return one_of(gabro_keys(&session, keys[which], strlen(keys[which])), wanted, wanted == GABRO_DONE ? GABRO_NOT_NOW : wanted, wanted);
-    case 5: return one_of(gabro_log(&session), wanted, wanted == GABRO_DONE ? GABRO_NOT_NOW : wanted, wanted);
+    case 5:
+        has_labels = true;
+        return one_of(gabro_name_sections(&session), wanted, wanted == GABRO_DONE ? GABRO_NOT_NOW : wanted, wanted);
+    case 6: return one_of(gabro_log(&session), wanted, wanted == GABRO_DONE ? GABRO_NOT_NOW : wanted, wanted);
     default: return read_log(wanted);
     }
 }

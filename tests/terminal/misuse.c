@@ -204,6 +204,7 @@ static void refuse_layer(uint32_t code) {
     refused(gabro_accept_text(&session, "\xff", 1), GABRO_NOT_TEXT);
     refused(gabro_label(&session, 0, 0, "ours", 4), code);
     refused(gabro_label(&session, 0, 0, "\xff", 1), GABRO_NOT_TEXT);
+    refused(gabro_name_sections(&session), code);
     refused(gabro_start(&session, GABRO_ALL_OPEN, &key), code);
     refused(gabro_start(&session, GABRO_OPEN_IF_IT_FITS + 1, &key), GABRO_NO_NUMBER);
     refused(gabro_keys(&session, "x=undo", 6), code);

@@ -35,6 +35,8 @@ pub mod CutTextLemmas
 -- the lines that sections stand in, and the labels that say them
 pub mod HeadingLemmas
 pub mod FoundLemmas
+-- headings of a file, computed
+pub mod HeadingExamples
 -- headers, and the labels that they show
 pub mod HeaderLemmas
 -- the cells of a view

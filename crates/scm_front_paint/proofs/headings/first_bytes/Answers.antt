@@ -1,6 +1,5 @@
-use Rattle.std.proofs.Common.{List, ℕ, sym, ap, ◌∙◌, arith}
-use Rattle.std.specs.Prelude.{nat_le, take, if◌then◌else◌}
-use Rattle.std.proofs.lemmas.Bool.Decides.{nat_tests}
+use Rattle.std.proofs.Common.{ℕ, sym, ap, ◌∙◌}
+use Rattle.std.specs.Prelude.{take}
 use Rattle.scm_front_paint.proofs.CutTextLemmas.{last-place, long-text}
 use Rattle.scm_front_paint.proofs.headings.first_bytes.Goals as goal
 
