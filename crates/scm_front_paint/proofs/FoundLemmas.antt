@@ -1,5 +1,5 @@
 -- Labels in two lists, and the label with the heading above a section.
-use Rattle.std.proofs.Common.{◌≡◌, ℕ, zero, suc, ◌+◌, ◌-◌, ◌<◌, ◌≤◌, ◌&&◌, ◌||◌, ◌⊎◌, inl, inr, Bool, true, false, nat_lt, nat_eq, List, [], ◌∷◌, ◌++◌, length, set, get_or, refl, sym, ap, ◌∙◌, arith, ⊎_elim, append_assoc, append-nil, Option, Some, None}
+use Rattle.std.proofs.Common.{◌≡◌, ℕ, zero, suc, ◌+◌, ◌-◌, ◌<◌, ◌≤◌, ◌&&◌, ◌||◌, ◌⊎◌, inl, inr, Bool, true, false, nat_lt, nat_eq, List, [], ◌∷◌, ◌++◌, length, set, refl, sym, ap, ◌∙◌, arith, ⊎_elim, append_assoc, append-nil, Option, Some, None}
 use Rattle.std.specs.Prelude.{◌==◌, not, count_by, find, is_some, position, slice_get, take, if◌then◌else◌}
 use Rattle.std.specs.List.{flat_map, position_or_len}
 use Rattle.std.specs.Option.{option_and_then, option_or, option_to_list}
@@ -14,7 +14,7 @@ use Rattle.scm_types.specs.Marks.{is_editable_section}
 use Rattle.scm_types.specs.declared.file.File.{File}
 use Rattle.scm_types.specs.declared.section.Section.{Section}
 use Rattle.scm_front_paint.specs.declared.labels.Label.{Label}
-use Rattle.scm_front_paint.specs.Headings.{AreNamed, AreSomeNamed, GainsSome, heading_label, heading_text, is_changed, label_for, label_in, labels_below, labels_from, labels_in, last_heading, named_label, number_below, old_lines}
+use Rattle.scm_front_paint.specs.Headings.{AreNamed, AreSomeNamed, GainsSome, heading_label, heading_text, is_changed, label_for, label_in, labels_below, labels_from, labels_in, last_heading, number_below, old_lines}
 use Rattle.scm_front_paint.specs.Labels.{is_of, put_at, text_in, text_of, with_label}
 use Rattle.scm_front_paint.proofs.HeadingLemmas.{heading-append}
 use Rattle.scm_front_paint.proofs.LabelLemmas.{none-found}

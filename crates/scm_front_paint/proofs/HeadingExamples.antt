@@ -3,7 +3,6 @@ use Rattle.std.proofs.Common.{◌≡◌, ℕ, true, false, List, [], ◌∷◌, 
 use lib.Utf8.{encode}
 use Rattle.std.specs.Prelude.{codes}
 use Rattle.std.specs.Str.{chars, trim_end}
-use Rattle.std.specs.Fmt.Cut.{floor_char_boundary}
 use Rattle.scm_types.specs.declared.line.ChangeType.TheVariants.{Added, Removed}
 use Rattle.scm_types.specs.declared.line.SectionChangedLine.{SectionChangedLine}
 use Rattle.scm_types.specs.declared.section.Section.{Section}

@@ -71,9 +71,11 @@ gains-none all old = ([], refl, sym (append-nil old))
 
 pub gains-more : (all rest old now next piece left : List Label) → Gains all rest old now → rest ≡ piece ++ left → next ≡ now ++ piece → Gains all left old next
 gains-more all rest old now next piece left g e f =
-    let part = g.0 in
-    (part ++ piece, g.1 ∙ ap (λ (ls : List Label). part ++ ls) e ∙ sym (append_assoc part piece left),
-    f ∙ ap (λ (ls : List Label). ls ++ piece) g.2 ∙ append_assoc old part piece)
+    let part = g.0 in (
+      part ++ piece,
+      g.1 ∙ ap (λ (ls : List Label). part ++ ls) e ∙ sym (append_assoc part piece left),
+      f ∙ ap (λ (ls : List Label). ls ++ piece) g.2 ∙ append_assoc old part piece,
+    )
 
 pub gains-all : (all rest old new : List Label) → Gains all rest old new → rest ≡ [] → new ≡ old ++ all
 gains-all all rest old new g e =
@@ -83,10 +85,11 @@ gains-all all rest old new g e =
 pub gains-some : (all rest old now next piece left : List Label) → Gains all rest old now → rest ≡ piece ++ left → GainsSome piece now next → GainsSome all old next
 gains-some all rest old now next piece left g e s =
     let more = s.1 in
-    let own = more.0 in
-    (s.0 ++ left,
-    gains-more all rest old now next own (s.0 ++ left) g
-    (e ∙ ap (λ (ls : List Label). ls ++ left) more.1 ∙ append_assoc own s.0 left) more.2)
+    let own = more.0 in (
+      s.0 ++ left,
+      gains-more all rest old now next own (s.0 ++ left) g
+          (e ∙ ap (λ (ls : List Label). ls ++ left) more.1 ∙ append_assoc own s.0 left) more.2,
+    )
 
 -- ---- the code's numbers
 

@@ -197,7 +197,10 @@ fn number_below(number: usize, section: &Section<'_>) -> usize
 fn count_editable(sections: &[Section<'_>]) -> usize
     ensures { result ≡ count_by is_editable_section sections.now }
 {
-    sections.iter().filter(|section| section.is_editable()).count()
+    sections
+        .iter()
+        .filter(|section| section.is_editable())
+        .count()
 }
 
 /// Puts the labels of the sections of file `file` behind `labels`.

@@ -15,11 +15,12 @@ loop-index-preserved c =
     let left = labels_below c.args.file total (l.index + 1) c.number_below-number.result c.heading_below-heading.result.now (drop (l.index + 1) sections) in
     let next : labels_below c.args.file total l.index l.number l.heading.now (drop l.index sections) ≡ piece ++ left =
     rw (c.number_below-number.ensures, c.heading_below-heading.ensures)
-    (rw (sym c.index-sections-index.is) at (labels-next c.args.file total l.index l.number l.heading.now sections l.index section c.loop-index-test.true)) in
-    (c.heading_below-heading.utf8,
-    gains-more (labels_in c.args.file sections) (labels_below c.args.file total l.index l.number l.heading.now (drop l.index sections)) c.args.labels.now l.labels
-    c.push_label.new.labels piece left l.invariant.1 next c.in_ok-push_label.ensures.ok,
-    rw c.number_below-number.ensures (within (is_editable_section section) l.number l.index l.invariant.2))
+    (rw (sym c.index-sections-index.is) at (labels-next c.args.file total l.index l.number l.heading.now sections l.index section c.loop-index-test.true)) in (
+      c.heading_below-heading.utf8,
+      gains-more (labels_in c.args.file sections) (labels_below c.args.file total l.index l.number l.heading.now (drop l.index sections)) c.args.labels.now l.labels
+          c.push_label.new.labels piece left l.invariant.1 next c.in_ok-push_label.ensures.ok,
+      rw c.number_below-number.ensures (within (is_editable_section section) l.number l.index l.invariant.2),
+    )
 
 pub returns-clause-ok : goal.returns-clause-ok
 returns-clause-ok c =
