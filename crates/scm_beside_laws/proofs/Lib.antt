@@ -1,0 +1,12 @@
+-- Sights of an area of the screen.
+pub mod SeenLemmas
+-- The picture of a document, row by row.
+pub mod RowPaintLemmas
+pub mod FilePaintLemmas
+pub mod DocumentPaintLemmas
+-- The columns that a document draws.
+pub mod DrawnWidthLemmas
+-- Rows of the screen keep their length.
+pub mod LengthLemmas
+-- The whole screen.
+pub mod BesideLemmas

@@ -1,0 +1,2 @@
+-- The window of two commits by drawing.
+pub mod Laws

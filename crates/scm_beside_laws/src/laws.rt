@@ -1,0 +1,12 @@
+//! Laws of two commits beside each other: theorems on definitions, for each session that is shown.
+ghost use Rattle.scm_beside_laws.specs.Laws.{AppsShowWindowsBeside};
+
+use scm_screen::laws::rows_show_layers;
+
+/// Proves that drawing an `AppView` of two commits beside each other on a cleared screen leaves the window: each row
+/// shows the layers of the first document, over them those of the second, and over both the menu bar and the dialogs.
+pub fn apps_show_windows_beside()
+    ensures { AppsShowWindowsBeside }
+{
+    rows_show_layers();
+}

@@ -1,0 +1,5 @@
+//! Laws of two commits beside each other: their window, which is defined by rows and columns, is what the components
+//! draw.
+#![tactic(auto)]
+
+pub mod laws;
