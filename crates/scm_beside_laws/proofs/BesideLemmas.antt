@@ -110,9 +110,9 @@ one-more : (n : ℕ) → (pos 0 +ℤ pos n) +ℤ pos 1 ≡ pos (n + 1)
 one-more n = omega (arith, ints)
 
 -- the second document begins behind the columns that the first one draws, and one more
-next-is : (v : CommitView) (w h s n : ℕ) → 10 ≤ n → n ≤ w → w ≤ 65535 → h ≤ 65535 → next_view v (sight w h s) (pos 0) n ≡ pos (drawn_width n (document_of v) + 1)
+begins-at : (v : CommitView) (w h s n : ℕ) → 10 ≤ n → n ≤ w → w ≤ 65535 → h ≤ 65535 → next_view v (sight w h s) (pos 0) n ≡ pos (drawn_width n (document_of v) + 1)
 unfolding commit_picture
-next-is v w h s n wide fits p q =
+begins-at v w h s n wide fits p q =
     let a = whole n in
     let last : end_column a ≤ w = omega (arith, fits) in
     let mask = mask-is w h s a last in
@@ -142,7 +142,7 @@ views-are shown w h s wide p q =
     let b : Area = record { left = drawn_width n d + 1; width = n } in
     let t = sight w h s in
     let first = view-is (commit_view_of shown 0) w h s (whole n) (omega (arith, size)) in
-    let next = next-is (commit_view_of shown 0) w h s n size.0 (omega (arith, size)) p q in
+    let next = begins-at (commit_view_of shown 0) w h s n size.0 (omega (arith, size)) p q in
     let other = view-is (commit_view_of shown 1) w h s b (second-last w n d size.1) in
     two-views (commit_view_of shown 0) (commit_view_of shown 1) n t
     ∙ ap (λ x. followed_by (part ids.AppFiles (view_picture (commit_view_of shown 0) t (pos 0) n)) (part ids.AppFiles (view_picture (commit_view_of shown 1) t x n))) next

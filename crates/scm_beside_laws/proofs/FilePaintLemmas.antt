@@ -73,14 +73,14 @@ none-over m top (f ∷ fs) h =
     let no : nat_lt top m ≡ false = grind (arith, h) in
     rw no (none-over m (top + length (file_rows f)) fs (omega (arith, h)))
 
-pinned-paints : (f : ShownFile) (s : Sight) (w : ℕ) (a : Area) (m : ℕ) (b : Bool) → 10 ≤ a.width → IsSeen s w a → mask_row s ≡ pos m → (z : ℤ) (row : Row) → has_row (reach s) z ≡ true
+pinned-made : (f : ShownFile) (s : Sight) (w : ℕ) (a : Area) (m : ℕ) (b : Bool) → 10 ≤ a.width → IsSeen s w a → mask_row s ≡ pos m → (z : ℤ) (row : Row) → has_row (reach s) z ≡ true
     → paint s.rect (if b then pinned_header f s (pos a.left) (mask_row s) else nothing).puts z row ≡ made_by (header_rows a (file_if b f)) (pos m) z row
 unfolding nothing line
-pinned-paints f s w a m true fits o e z row h =
+pinned-made f s w a m true fits o e z row h =
     rw e (one_row_paints s.rect (reach s) (pos m) _ _
     (header-paints f (reach s) (under (pinned_mask s (pos a.left) (pos m)) s) w a (pos m) fits (under-seen s w a (pos m) (Some 1) o) (reach-on_screen s)
     (λ k. one_row-reached (pos a.left) (pos m) (to_end s (pos a.left)) s (reach-on_screen s (pos m) k))) z row h)
-pinned-paints f s w a m false fits o e z row h = paint-none s.rect z row
+pinned-made f s w a m false fits o e z row h = paint-none s.rect z row
 
 -- ---- files
 
@@ -96,7 +96,7 @@ one_file-paints f s w a m top b q fits o e inner z row h =
     rw test
     (paint-append s.rect (shown_file_picture f t l (pos top)).puts (if b then pinned_header f s l (mask_row s) else nothing).puts z row
     ∙ ap (λ r. paint s.rect (if b then pinned_header f s l (mask_row s) else nothing).puts z r) whole
-    ∙ pinned-paints f s w a m b fits o e z (made_by (map (shows_row a) (file_rows f)) (pos top) z row) h)
+    ∙ pinned-made f s w a m b fits o e z (made_by (map (shows_row a) (file_rows f)) (pos top) z row) h)
 
 -- a file's rows, its pinned header and the files below, in the order in which they are drawn, and with the header over all rows
 in-turn : (a : Area) (b : Bool) (f : ShownFile) (o : Option ShownFile) (own rest : List (Row → Row)) (m y k z : ℤ) (row : Row) → (b ≡ true → o ≡ None) → (b ≡ true → m <ℤ k) → y +ℤ pos (length own) ≡ k
