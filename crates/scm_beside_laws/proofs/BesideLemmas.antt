@@ -52,7 +52,7 @@ use Rattle.scm_beside_laws.proofs.SeenLemmas.{ShowsArea, area_mask, area_sight, 
 -- ---- columns
 
 -- the width of each document
-abbrev half : ℕ → ℕ
+abbrev pub half : ℕ → ℕ
 half w = view_width Adjacent w
 
 pub half-wide : (w : ℕ) → 21 ≤ w → (10 ≤ half w) × (half w + half w + 1 ≤ w)
@@ -94,7 +94,7 @@ mask-is w h s a last =
 -- ---- what is drawn
 
 -- document d in area a
-abbrev drawn : ℕ → ℕ → ℕ → Area → Document → Picture ComponentId
+abbrev pub drawn : ℕ → ℕ → ℕ → Area → Document → Picture ComponentId
 drawn w h s a d = document_picture d (area_sight w h s a) (pos a.left) (pos 1)
 
 view-is : (v : CommitView) (w h s : ℕ) (a : Area) → end_column a ≤ w → view_picture v (sight w h s) (pos a.left) a.width ≡ drawn w h s a (document_of v)
@@ -122,15 +122,15 @@ begins-at v w h s n wide fits p q =
     ∙ one-more (drawn_width n (document_of v))
 
 -- both documents, and what lies over them
-abbrev both_drawn : ℕ → ℕ → ℕ → ViewState → Area → Picture ComponentId
+abbrev pub both_drawn : ℕ → ℕ → ℕ → ViewState → Area → Picture ComponentId
 both_drawn w h s shown b =
     followed_by (part ids.AppFiles (drawn w h s (whole (half w)) (document_at shown 0))) (part ids.AppFiles (drawn w h s b (document_at shown 1)))
 
-abbrev over_drawn : ℕ → ℕ → ℕ → ViewState → Picture ComponentId
+abbrev pub over_drawn : ℕ → ℕ → ℕ → ViewState → Picture ComponentId
 over_drawn w h s shown = overlays_picture w h s shown.open_menu shown.quit_dialog shown.is_help_open
 
 -- the area of the second document
-abbrev second : ℕ → ViewState → Area
+abbrev pub second : ℕ → ViewState → Area
 second w shown = second_area w (half w) (document_at shown 0)
 
 views-are : (shown : ViewState) (w h s : ℕ) → 21 ≤ w → w ≤ 65535 → h ≤ 65535
@@ -149,7 +149,7 @@ views-are shown w h s wide p q =
     ∙ ap₂ (λ (m k : Picture ComponentId). followed_by (part ids.AppFiles m) (part ids.AppFiles k)) first other
     ∙ ap (λ (c : Area). both_drawn w h s shown c) (sym (second-is w n d size.1))
 
-app-is : (shown : ViewState) (a : AppView) (w h s : ℕ) → IsBeside a shown w h
+pub app-is : (shown : ViewState) (a : AppView) (w h s : ℕ) → IsBeside a shown w h
     → app_picture a (sight w h s) (pos 0) (pos 0) ≡ followed_by (both_drawn w h s shown (second w shown)) (over_drawn w h s shown)
 unfolding app_picture
 app-is shown a w h s plain =
@@ -165,7 +165,7 @@ app-is shown a w h s plain =
 
 -- ---- rows below the menu bar
 
-second-seen : (shown : ViewState) (w h s : ℕ) → 21 ≤ w → w ≤ 65535 → h ≤ 65535 → ShowsArea (area_sight w h s (second w shown)) w h s (second w shown)
+pub second-seen : (shown : ViewState) (w h s : ℕ) → 21 ≤ w → w ≤ 65535 → h ≤ 65535 → ShowsArea (area_sight w h s (second w shown)) w h s (second w shown)
 second-seen shown w h s wide p q =
     let n = half w in
     let size = half-wide w wide in
@@ -196,7 +196,7 @@ both-paint shown w h s z row wide p q below above =
 
 -- ---- layers
 
-abbrev over_layers : ℕ → ℕ → ℕ → ViewState → List (Layer ComponentId)
+abbrev pub over_layers : ℕ → ℕ → ℕ → ViewState → List (Layer ComponentId)
 over_layers w h s shown = overlays w h s shown.open_menu shown.quit_dialog shown.is_help_open
 
 module _ (laws : RowsShowLayers) where

@@ -179,7 +179,7 @@ filled-paints commit message f fs t w h s a o inner z row seen =
 
 -- ---- documents of a session
 
-sections-inner : (k : FileKey) (n : ℕ) (ps : List ShownSection) → AreSectionsOf k n ps → AreInnerSections ps
+pub sections-inner : (k : FileKey) (n : ℕ) (ps : List ShownSection) → AreSectionsOf k n ps → AreInnerSections ps
 sections-inner k n [] h = tt
 sections-inner k n (p ∷ ps) h = (rows-inner p.key 0 p.rows h.2, sections-inner k _ ps h.3)
 

@@ -102,24 +102,24 @@ has-row x y n some = record { some = not_empty (row_rect x y n) some (omega arit
 
 -- ---- boxes of pictures
 
-box-blank : (s : Sight) (r : Rect) → box_rect (blank_picture {K = ComponentId} s r) ≡ join no_rect r
+pub box-blank : (s : Sight) (r : Rect) → box_rect (blank_picture {K = ComponentId} s r) ≡ join no_rect r
 unfolding box_rect blank_picture
 box-blank s r = around-one no_rect r
 
-box-empty : box_rect (nothing {K = ComponentId}) ≡ no_rect
+pub box-empty : box_rect (nothing {K = ComponentId}) ≡ no_rect
 unfolding box_rect nothing around
 box-empty = refl
 
-box-text : (s : Sight) (x y : ℤ) (t : List ℕ) → box_rect (span_picture {K = ComponentId} s x y t) ≡ join no_rect (row_rect x y (text_width t))
+pub box-text : (s : Sight) (x y : ℤ) (t : List ℕ) → box_rect (span_picture {K = ComponentId} s x y t) ≡ join no_rect (row_rect x y (text_width t))
 unfolding box_rect span_picture
 box-text s x y t = around-one no_rect _
 
-box-texts : (s : Sight) (x y : ℤ) (ts : List (List ℕ)) → box_rect (line_picture {K = ComponentId} s x y ts) ≡ join no_rect (row_rect x y (texts_width ts))
+pub box-texts : (s : Sight) (x y : ℤ) (ts : List (List ℕ)) → box_rect (line_picture {K = ComponentId} s x y ts) ≡ join no_rect (row_rect x y (texts_width ts))
 unfolding box_rect line_picture
 box-texts s x y ts = around-one no_rect _
 
 -- a checkbox or a fold box has three columns
-box-of : (b : IdBox) (s : Sight) (x y : ℤ) → box_rect (box_part b s x y) ≡ row_rect x y 3
+pub box-of : (b : IdBox) (s : Sight) (x y : ℤ) → box_rect (box_part b s x y) ≡ row_rect x y 3
 unfolding box_picture
 box-of b s x y =
     box-part b.id (box_picture b s x y) ∙ box-text s x y (box_text b) ∙ ap (λ n. join no_rect (row_rect x y n)) (box-width b) ∙ not-empty x y 3 (omega arith)

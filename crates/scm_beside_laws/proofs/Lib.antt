@@ -8,5 +8,12 @@ pub mod DocumentPaintLemmas
 pub mod DrawnWidthLemmas
 -- Rows of the screen keep their length.
 pub mod LengthLemmas
+-- The boxes of documents in an area.
+pub mod AreaBoxLemmas
+-- Who owns the columns of documents in an area.
+pub mod RowOwnerLemmas
+pub mod FileOwnerLemmas
+pub mod DocumentOwnerLemmas
 -- The whole screen.
 pub mod BesideLemmas
+pub mod BesideOwnerLemmas

@@ -1,13 +1,18 @@
--- The window of two commits beside each other is what the components draw: a theorem on definitions, for each session that is shown.
-use Rattle.std.specs.Prelude.{◌≡◌, ℕ, ◌≤◌, pos, replicate}
+-- The window of two commits beside each other is what the components draw: theorems on definitions, for each session that is shown.
+use Rattle.std.specs.Prelude.{◌≡◌, ℕ, ◌<◌, ◌≤◌, pos, Bool, replicate}
 use Rattle.scm_render.specs.Canvas.{paint_rows}
+use Rattle.scm_render.specs.Hits.{IsLawful, latest}
+use Rattle.scm_render.specs.Picture.{part}
+use Rattle.scm_widgets.specs.declared.ids.ComponentId.{ComponentId}
+use Rattle.scm_widgets.specs.declared.ids.ComponentId.TheVariants as ids
 use Rattle.scm_widgets.specs.Blanks.{blank_row}
+use Rattle.scm_widgets.specs.Clicks.{is_clickable}
 use Rattle.scm_widgets.specs.Screens.{screen, sight}
 use Rattle.scm_document.specs.declared.commit_view.CommitViewMode.TheVariants.{Adjacent}
 use Rattle.scm_view.specs.declared.app_view.AppView.{AppView}
 use Rattle.scm_view.specs.AppView.{ShowsSession, app_picture}
 use Rattle.scm_view.specs.ViewState.{ViewState}
-use Rattle.scm_screen.specs.Beside.{window_beside}
+use Rattle.scm_screen.specs.Beside.{owner_beside, window_beside}
 
 -- The view shows the session's two commits beside each other, on a screen of at least 21 columns and two rows. There each commit has ten
 -- columns or more.
@@ -19,9 +24,21 @@ pub record IsBeside (a : AppView) (shown : ViewState) (w h : ℕ) : Type 0 where
   pub width : w ≤ 65535
   pub height : h ≤ 65535
 
+-- ---- what is shown
+
 -- Painting on a cleared screen leaves the window.
 abbrev pub AppsShowWindowsBeside : Type 0
 AppsShowWindowsBeside =
     (shown : ViewState) (a : AppView) (w h s : ℕ) → IsBeside a shown w h
     → paint_rows (screen w h s) (app_picture a (sight w h s) (pos 0) (pos 0)).puts (pos s) (replicate h (blank_row w))
     ≡ window_beside w h s shown
+
+-- ---- clicks
+
+-- The latest clickable box at a place is that of its owner.
+abbrev pub ClicksFindOwnersBeside : Type 0
+ClicksFindOwnersBeside =
+    (same : ComponentId → ComponentId → Bool) → IsLawful same
+    → (shown : ViewState) (a : AppView) (w h s : ℕ) → IsBeside a shown w h → (y x : ℕ) → x < w
+    → latest same is_clickable (part ids.App (app_picture a (sight w h s) (pos 0) (pos 0))).boxes (pos y) (pos x)
+    ≡ owner_beside w h s shown y x

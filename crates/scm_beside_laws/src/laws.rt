@@ -1,5 +1,5 @@
 //! Laws of two commits beside each other: theorems on definitions, for each session that is shown.
-ghost use Rattle.scm_beside_laws.specs.Laws.{AppsShowWindowsBeside};
+ghost use Rattle.scm_beside_laws.specs.Laws.{AppsShowWindowsBeside, ClicksFindOwnersBeside};
 
 use scm_screen::laws::rows_show_layers;
 
@@ -10,3 +10,9 @@ pub fn apps_show_windows_beside()
 {
     rows_show_layers();
 }
+
+/// Proves of an `AppView` of two commits beside each other: the latest clickable box at a place is that of the owner
+/// that the layers name, on each row of the documents and each column of the screen.
+pub fn clicks_find_owners_beside()
+    ensures { ClicksFindOwnersBeside }
+{}
