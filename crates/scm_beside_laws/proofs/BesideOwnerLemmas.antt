@@ -50,7 +50,7 @@ part-file (ids.ToggleBox n) k e = refl
 part-file (ids.ExpandBox n) k e = refl
 part-file _ k e = absurd (cc e)
 
-of-body : (commit : ℕ) (i : ComponentId) → IsOfPart commit i → IsPart Body i
+pub of-body : (commit : ℕ) (i : ComponentId) → IsOfPart commit i → IsPart Body i
 of-body commit i (inl e) = ap part_of e
 of-body commit i (inr (inl (inl e))) = ap part_of e
 of-body commit i (inr (inl (inr e))) = ap part_of e
@@ -64,7 +64,7 @@ same-commit i j c d e p q =
 
 module _ (same : ComponentId → ComponentId → Bool) (law : IsLawful same) where
   -- a part of a file is none of another commit's
-  other-file : (c d : ℕ) → (c ≡ d → ⊥) → (i j : ComponentId) → IsFileFrom c 0 i → IsOfPart d j → same i j ≡ false
+  pub other-file : (c d : ℕ) → (c ≡ d → ⊥) → (i j : ComponentId) → IsFileFrom c 0 i → IsOfPart d j → same i j ≡ false
   other-file c d apart i j p (inl e) = differ same law i j (λ q. let some = p.file in cc (ap file_of (q ∙ e), some))
   other-file c d apart i j p (inr (inl (inl e))) = differ same law i j (λ q. let some = p.file in cc (ap file_of (q ∙ e), some))
   other-file c d apart i j p (inr (inl (inr e))) = differ same law i j (λ q. let some = p.file in cc (ap file_of (q ∙ e), some))
@@ -93,7 +93,7 @@ module _ (same : ComponentId → ComponentId → Bool) (law : IsLawful same) whe
 
   -- ---- both documents
 
-  both-ids : (w h s : ℕ) (shown : ViewState) → 21 ≤ w → w ≤ 65535 → h ≤ 65535 → Each (IsPart Body) (both_drawn w h s shown (second w shown)).boxes
+  pub both-ids : (w h s : ℕ) (shown : ViewState) → 21 ≤ w → w ≤ 65535 → h ≤ 65535 → Each (IsPart Body) (both_drawn w h s shown (second w shown)).boxes
   unfolding followed_by
   both-ids w h s shown wide p q =
       let a = whole (half w) in

@@ -89,7 +89,7 @@ words-none : (a : Area) (x : ℕ) → (area_strip a WordsRow).owner x ≡ None
 unfolding owner_in
 words-none a x = refl
 
-message-ids : (commit : ℕ) (message : Option (List ℕ)) (s : Sight) (x y : ℤ) → Each (IsOfMessage commit) (part ids.CommitMessageView (message_picture commit message s x y)).boxes
+pub message-ids : (commit : ℕ) (message : Option (List ℕ)) (s : Sight) (x y : ℤ) → Each (IsOfMessage commit) (part ids.CommitMessageView (message_picture commit message s x y)).boxes
 unfolding part
 message-ids commit message s x y = (inl refl, go message)
   where

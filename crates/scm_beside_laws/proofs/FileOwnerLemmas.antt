@@ -172,7 +172,7 @@ module _ (same : ComponentId → ComponentId → Bool) (law : IsLawful same) whe
 
 module _ (same : ComponentId → ComponentId → Bool) (law : IsLawful same) where
   -- the pinned header, if there is one, owns its strip
-  pinned-owns : (f : ShownFile) (b : Bool) (s : Sight) (w : ℕ) (a : Area) (m : ℕ) → 10 ≤ a.width → IsSeen s w a → IsHeadingOf f.key f.heading
+  pub pinned-owns : (f : ShownFile) (b : Bool) (s : Sight) (w : ℕ) (a : Area) (m : ℕ) → 10 ≤ a.width → IsSeen s w a → IsHeadingOf f.key f.heading
       → Owns same w (IsHeadOf f.key) (if b then pinned_header f s (pos a.left) (pos m) else nothing) (pos m) (cond b (area_header a f ∷ []) [])
   pinned-owns f true s w a m fits o e = header-owns same law f.key f.heading (under (pinned_mask s (pos a.left) (pos m)) s) w a (pos m) fits (under-seen s w a (pos m) (Some 1) o) e
   pinned-owns f false s w a m fits o e = draws_nothing same is_clickable (no_rows w) (IsHeadOf f.key) (pos m)

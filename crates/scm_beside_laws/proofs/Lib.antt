@@ -14,6 +14,9 @@ pub mod AreaBoxLemmas
 pub mod RowOwnerLemmas
 pub mod FileOwnerLemmas
 pub mod DocumentOwnerLemmas
+-- The rows of keys of documents in an area.
+pub mod KeyLemmas
 -- The whole screen.
 pub mod BesideLemmas
 pub mod BesideOwnerLemmas
+pub mod BesideKeyLemmas

@@ -1,8 +1,9 @@
 -- The window of two commits beside each other is what the components draw: theorems on definitions, for each session that is shown.
-use Rattle.std.specs.Prelude.{◌≡◌, ℕ, ◌<◌, ◌≤◌, pos, Bool, replicate}
+use Rattle.std.specs.Prelude.{◌≡◌, ℕ, ◌<◌, ◌≤◌, pos, Bool, option_map, replicate}
 use Rattle.scm_render.specs.Canvas.{paint_rows}
-use Rattle.scm_render.specs.Hits.{IsLawful, latest}
+use Rattle.scm_render.specs.Hits.{IsLawful, box_of, latest}
 use Rattle.scm_render.specs.Picture.{part}
+use Rattle.scm_types.specs.declared.keys.SelectionKey.{SelectionKey}
 use Rattle.scm_widgets.specs.declared.ids.ComponentId.{ComponentId}
 use Rattle.scm_widgets.specs.declared.ids.ComponentId.TheVariants as ids
 use Rattle.scm_widgets.specs.Blanks.{blank_row}
@@ -12,7 +13,8 @@ use Rattle.scm_document.specs.declared.commit_view.CommitViewMode.TheVariants.{A
 use Rattle.scm_view.specs.declared.app_view.AppView.{AppView}
 use Rattle.scm_view.specs.AppView.{ShowsSession, app_picture}
 use Rattle.scm_view.specs.ViewState.{ViewState}
-use Rattle.scm_screen.specs.Beside.{owner_beside, window_beside}
+use Rattle.scm_view.specs.Window.{rows_of_box}
+use Rattle.scm_screen.specs.Beside.{owner_beside, span_beside, window_beside}
 
 -- The view shows the session's two commits beside each other, on a screen of at least 21 columns and two rows. There each commit has ten
 -- columns or more.
@@ -42,3 +44,13 @@ ClicksFindOwnersBeside =
     → (shown : ViewState) (a : AppView) (w h s : ℕ) → IsBeside a shown w h → (y x : ℕ) → x < w
     → latest same is_clickable (part ids.App (app_picture a (sight w h s) (pos 0) (pos 0))).boxes (pos y) (pos x)
     ≡ owner_beside w h s shown y x
+
+-- ---- keys
+
+-- The box of each key covers the key's rows.
+abbrev pub KeysHaveRowsBeside : Type 0
+KeysHaveRowsBeside =
+    (same : ComponentId → ComponentId → Bool) → IsLawful same
+    → (shown : ViewState) (a : AppView) (w h s : ℕ) → IsBeside a shown w h → (k : SelectionKey)
+    → option_map rows_of_box (box_of same (ids.SelectableItem k) (part ids.App (app_picture a (sight w h s) (pos 0) (pos 0))).boxes)
+    ≡ span_beside w shown k

@@ -1,5 +1,5 @@
 //! Laws of two commits beside each other: theorems on definitions, for each session that is shown.
-ghost use Rattle.scm_beside_laws.specs.Laws.{AppsShowWindowsBeside, ClicksFindOwnersBeside};
+ghost use Rattle.scm_beside_laws.specs.Laws.{AppsShowWindowsBeside, ClicksFindOwnersBeside, KeysHaveRowsBeside};
 
 use scm_screen::laws::rows_show_layers;
 
@@ -15,4 +15,10 @@ pub fn apps_show_windows_beside()
 /// that the layers name, on each row of the documents and each column of the screen.
 pub fn clicks_find_owners_beside()
     ensures { ClicksFindOwnersBeside }
+{}
+
+/// Proves of an `AppView` of two commits beside each other: the box of each key covers the key's rows. A key without
+/// rows has no box.
+pub fn keys_have_rows_beside()
+    ensures { KeysHaveRowsBeside }
 {}
