@@ -201,7 +201,7 @@ words-first : (v : ℕ) → v < 29 → centred_gap v 29 50 ≡ 0
 words-first v h = omega (arith, h)
 
 -- the box of a text of 29 columns from column x on, with an ellipsis before column e if the text ends behind e
-words-box : (s : Sight) (x y : ℤ)
+pub words-box : (s : Sight) (x y : ℤ)
     → box_rect (text_picture {K = ComponentId} s x y (no_files_text ∷ []))
     ≡ join (row_rect x y 29) (if int_lt (end_x_of (reach s)) (x +ℤ pos 29) then row_rect (end_x_of (reach s) -ℤ pos 1) y 1 else no_rect)
 unfolding text_picture
@@ -264,7 +264,7 @@ words-width s w v m wide p o =
 abbrev made : ℕ → Option (List ℕ) → List ShownFile → Document
 made commit message files = record { commit = commit; message = message; files = files }
 
-no-message : (commit : ℕ) (s : Sight) (x y : ℤ) → box_rect (message_picture commit None s x y) ≡ no_rect
+pub no-message : (commit : ℕ) (s : Sight) (x y : ℤ) → box_rect (message_picture commit None s x y) ≡ no_rect
 unfolding message_picture
 no-message commit s x y = box-empty
 

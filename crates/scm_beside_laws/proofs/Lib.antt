@@ -16,7 +16,10 @@ pub mod FileOwnerLemmas
 pub mod DocumentOwnerLemmas
 -- The rows of keys of documents in an area.
 pub mod KeyLemmas
+-- The rows of documents in an area.
+pub mod RunLemmas
 -- The whole screen.
 pub mod BesideLemmas
 pub mod BesideOwnerLemmas
 pub mod BesideKeyLemmas
+pub mod BesideExtentLemmas

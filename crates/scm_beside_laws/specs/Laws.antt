@@ -13,8 +13,8 @@ use Rattle.scm_document.specs.declared.commit_view.CommitViewMode.TheVariants.{A
 use Rattle.scm_view.specs.declared.app_view.AppView.{AppView}
 use Rattle.scm_view.specs.AppView.{ShowsSession, app_picture}
 use Rattle.scm_view.specs.ViewState.{ViewState}
-use Rattle.scm_view.specs.Window.{rows_of_box}
-use Rattle.scm_screen.specs.Beside.{owner_beside, span_beside, window_beside}
+use Rattle.scm_view.specs.Window.{height_of_box, rows_of_box}
+use Rattle.scm_screen.specs.Beside.{extent_beside, owner_beside, span_beside, window_beside}
 
 -- The view shows the session's two commits beside each other, on a screen of at least 21 columns and two rows. There each commit has ten
 -- columns or more.
@@ -54,3 +54,12 @@ KeysHaveRowsBeside =
     → (shown : ViewState) (a : AppView) (w h s : ℕ) → IsBeside a shown w h → (k : SelectionKey)
     → option_map rows_of_box (box_of same (ids.SelectableItem k) (part ids.App (app_picture a (sight w h s) (pos 0) (pos 0))).boxes)
     ≡ span_beside w shown k
+
+-- ---- the extent
+
+-- The box of the whole screen is as high as the extent.
+abbrev pub AppsHaveExtentsBeside : Type 0
+AppsHaveExtentsBeside =
+    (same : ComponentId → ComponentId → Bool) → IsLawful same
+    → (shown : ViewState) (a : AppView) (w h s : ℕ) → IsBeside a shown w h
+    → height_of_box (box_of same ids.App (part ids.App (app_picture a (sight w h s) (pos 0) (pos 0))).boxes) ≡ extent_beside w h s shown

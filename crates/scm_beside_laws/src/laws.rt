@@ -1,5 +1,5 @@
 //! Laws of two commits beside each other: theorems on definitions, for each session that is shown.
-ghost use Rattle.scm_beside_laws.specs.Laws.{AppsShowWindowsBeside, ClicksFindOwnersBeside, KeysHaveRowsBeside};
+ghost use Rattle.scm_beside_laws.specs.Laws.{AppsHaveExtentsBeside, AppsShowWindowsBeside, ClicksFindOwnersBeside, KeysHaveRowsBeside};
 
 use scm_screen::laws::rows_show_layers;
 
@@ -21,4 +21,10 @@ pub fn clicks_find_owners_beside()
 /// rows has no box.
 pub fn keys_have_rows_beside()
     ensures { KeysHaveRowsBeside }
+{}
+
+/// Proves that the box of an `AppView` of two commits beside each other is as high as the least row range that holds
+/// both documents, the menu bar with its open menu, and the open dialogs.
+pub fn apps_have_extents_beside()
+    ensures { AppsHaveExtentsBeside }
 {}
