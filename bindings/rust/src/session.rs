@@ -995,7 +995,11 @@ impl Session {
     /// `NotNow` if nothing is selected, or the session does not wait for an event.
     pub fn selected_line(&self) -> Result<LinePlace, Error> {
         let mut place = LinePlace::default();
-        let LinePlace { file, old_line, new_line } = &mut place;
+        let LinePlace {
+            file,
+            old_line,
+            new_line,
+        } = &mut place;
         done(unsafe { ffi::gabro_selected_line(self.at(), file, old_line, new_line) })?;
         Ok(place)
     }
