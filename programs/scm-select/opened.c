@@ -15,6 +15,7 @@
 
 enum { LONGEST_NUMBER = 24 };
 
+static const char NO_NAME[] = "it is no file of the working tree";
 static const char NO_FILE[] = "there is no such file by now", NOT_READ[] = "it cannot be read", FAILED_EDITOR[] = "the editor failed";
 
 /* Reads the file at `path` below the open folder: no link on the way is followed. Returns false if it is no file, or cannot be read. */
@@ -29,14 +30,15 @@ static bool read_below(below *below, const char *path, text *bytes) {
     return file >= 0 && read_and_close(file, bytes);
 }
 
-/* Gives the editor the terminal as its standard files, and the signals as they are where no program hears them. */
-static void prepare_editor(int terminal) {
-    static const int signals[] = {SIGINT, SIGQUIT, SIGTSTP, SIGXFSZ};
-    for (size_t i = 0; i < sizeof signals / sizeof *signals; i++) {
-        signal(signals[i], SIG_DFL);
-    }
-    for (int file = 0; file <= STDERR_FILENO; file++) {
-        dup2(terminal, file);
+/* Gives the editor the signals as they are where no program hears them. The keys of signals, and a file that is too large, are ignored by a run
+ * alone. */
+static void forget_handlers(void) {
+    for (int number = 1; number < NSIG; number++) {
+        struct sigaction action;
+        bool is_of_run = number == SIGINT || number == SIGQUIT || number == SIGXFSZ;
+        if (sigaction(number, NULL, &action) == 0 && (is_of_run || action.sa_handler != SIG_IGN)) {
+            signal(number, SIG_DFL);
+        }
     }
 }
 
@@ -44,10 +46,18 @@ static void prepare_editor(int terminal) {
 static bool run_editor(int terminal, size_t line, const char *path) {
     char at[LONGEST_NUMBER];
     int status = EXIT_FAILURE;
+    sigset_t before;
     snprintf(at, sizeof at, "+%zu", line);
+    hold_signals(&before); /* no handler of this program comes in what is to be another one */
     pid_t editor = fork();
     if (editor == 0) {
-        prepare_editor(terminal);
+        forget_handlers();
+        for (int file = 0; file <= STDERR_FILENO; file++) {
+            dup2(terminal, file);
+        }
+    }
+    release_signals(&before);
+    if (editor == 0) {
         execl("/bin/sh", "sh", "-c", "eval \"${VISUAL:-${EDITOR:-vi}} \\\"\\$1\\\" \\\"\\$2\\\"\"", "sh", at, path, (char *)NULL);
         _exit(EXIT_FAILURE);
     }
@@ -91,8 +101,9 @@ const char *open_in_editor(void *context, gabro_session *session, size_t file, s
     bool is_changed = false;
     (void)old_line;
     int before = snprintf(whole, sizeof whole, "%.*s", (int)handed->folder.length, handed->folder.bytes);
-    if (path.length == 0 || before <= 0 || (size_t)before + path.length + 2 > sizeof whole) {
-        return "it is no file of the working tree";
+    bool is_named = path.length > 0 && gabro_path_fault(path.bytes, path.length) == GABRO_PATH_FINE;
+    if (!is_named || before <= 0 || (size_t)before + path.length + 2 > sizeof whole) {
+        return NO_NAME;
     }
     if (!open_top(&folder, whole)) {
         return NOT_READ;
