@@ -69,6 +69,10 @@ class Commit(Stage):
         except OSError as error:
             raise Stop("the file that commit.template names cannot be read: " + words_of(error)) from None
 
+    def environment(self):
+        editor = self.repository.editor()
+        return {} if editor is None else {"VISUAL": editor}
+
     def write(self, choices, scratch, accepted, lock):
         """Commits the index with `choices`, which the index then has. What git and the hooks say is noted."""
         self.repository.update(self.stored(self.all_of(choices), self.use.now), GIT_INDEX_FILE=lock.copy)
@@ -234,6 +238,8 @@ class Split(Stage):
         if begun is None or not can_be_shown(begun):
             raise Stop("the message of the last commit is too long to be shown, or no text")
         return [self.options.message or kept or begun, begun]
+
+    environment = Commit.environment
 
     def paths_there(self):
         return self.repository.paths_in(self.tree_before())

@@ -14,7 +14,7 @@ from index import Index
 NO_FILE = "it is neither a file nor a link"
 # what git takes for no in a setting
 FALSE = "false", "no", "off", "0", ""
-SETTINGS = r"^(core\.(filemode|safecrlf)|status\.showuntrackedfiles)$"
+SETTINGS = r"^(core\.(filemode|safecrlf|editor)|status\.showuntrackedfiles)$"
 IS_ANOTHER = "%s is another folder by now"
 # the words by which git takes no bare repository that GIT_DIR does not name: a clone may track the files of one. Git 2.38 knows them
 NAMED = "-c", "safe.bareRepository=explicit"
@@ -175,10 +175,19 @@ class Repository(Git):
             raise Stop(IS_ANOTHER % shown(self.top))
 
     @functools.cached_property
-    def settings(self):
-        """What the user has set of SETTINGS, in small letters, by the names. One without a value is `true`."""
+    def settings_as_set(self):
+        """What the user has set of SETTINGS, by the names. One without a value is `true`."""
         found = (line.partition("\n") for line in split_by_zeros(self.run("config", "-z", "--get-regexp", SETTINGS)[1]))
-        return {name: value.lower() if middle else "true" for name, middle, value in found}
+        return {name: value if middle else "true" for name, middle, value in found}
+
+    @functools.cached_property
+    def settings(self):
+        """The same in small letters."""
+        return {name: value.lower() for name, value in self.settings_as_set.items()}
+
+    def editor_for_git(self):
+        """Returns the editor that the user has set for git, or None: then it is that of all programs."""
+        return self.environment.get("GIT_EDITOR") or self.settings_as_set.get("core.editor")
 
     def check_writable(self):
         """Stops if it can be seen already that nothing could be written."""

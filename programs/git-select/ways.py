@@ -88,9 +88,9 @@ class Way:
         return []
 
     def environment(self):
-        """Returns the variables that the front end is given: the user's editor, as git has it."""
-        editor = self.repository.editor()
-        return {} if editor is None else {"VISUAL": editor}
+        """Returns the variables that the front end is given: the editor that opens files, if git has one of its own."""
+        editor = self.repository.editor_for_git()
+        return {"VISUAL": editor} if editor else {}
 
     def prepare(self, choices, accepted):
         """Reads what `write` needs as it was before all is looked at again. Stops if what was accepted cannot be used."""
