@@ -174,7 +174,7 @@ second-seen shown w h s wide p q =
     subst (λ (c : Area). ShowsArea (area_sight w h s c) w h s c) (sym (second-is w n d size.1)) (shows-area w h s b size.0 (second-last w n d size.1) p q)
 
 -- the first document, and the second one over it
-abbrev two_rows : ℕ → ℕ → ℕ → ViewState → ℕ → Row → Row
+abbrev pub two_rows : ℕ → ℕ → ℕ → ViewState → ℕ → Row → Row
 two_rows w h s shown z row =
     with_document (second w shown) h s (document_at shown 1) z (with_document (whole (half w)) h s (document_at shown 0) z row)
 
@@ -212,7 +212,7 @@ module _ (laws : RowsShowLayers) where
       ∙ sym (laws b h s z (document_at shown 1) (shown_by first z row))
       ∙ ap (with_document b h s (document_at shown 1) z) (sym (laws a h s z (document_at shown 0) row))
 
-  all-show : (w h s z : ℕ) (shown : ViewState) (row : Row) → shown.view_mode ≡ Adjacent
+  pub all-show : (w h s z : ℕ) (shown : ViewState) (row : Row) → shown.view_mode ≡ Adjacent
       → shown_by (over_layers w h s shown) z (two_rows w h s shown z row) ≡ shown_by (layers_beside w h s shown) z row
   all-show w h s z shown row mode =
       let documents = documents_layers h s (documents_in Adjacent w shown) in

@@ -20,6 +20,7 @@ pub mod KeyLemmas
 pub mod RunLemmas
 -- The whole screen.
 pub mod BesideLemmas
+pub mod BesidePaintLemmas
 pub mod BesideOwnerLemmas
 pub mod BesideKeyLemmas
 pub mod BesideExtentLemmas

@@ -1,5 +1,5 @@
 //! Laws of two commits beside each other: theorems on definitions, for each session that is shown.
-ghost use Rattle.scm_beside_laws.specs.Laws.{AppsHaveExtentsBeside, AppsShowWindowsBeside, ClicksFindOwnersBeside, KeysHaveRowsBeside};
+ghost use Rattle.scm_beside_laws.specs.Laws.{AppsHaveExtentsBeside, AppsShowWindowsBeside, ClicksFindOwnersBeside, KeysHaveRowsBeside, WindowsBesideArePainted};
 
 use scm_screen::laws::rows_show_layers;
 
@@ -7,6 +7,14 @@ use scm_screen::laws::rows_show_layers;
 /// shows the layers of the first document, over them those of the second, and over both the menu bar and the dialogs.
 pub fn apps_show_windows_beside()
     ensures { AppsShowWindowsBeside }
+{
+    rows_show_layers();
+}
+
+/// Proves that the window of two commits, at any size, is the first document painted on a blank screen, with the second
+/// document over it, and the menu bar and the open dialogs over both.
+pub fn windows_beside_are_painted()
+    ensures { WindowsBesideArePainted }
 {
     rows_show_layers();
 }
