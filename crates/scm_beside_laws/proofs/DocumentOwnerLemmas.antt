@@ -34,6 +34,7 @@ use Rattle.scm_strips.specs.Shows.{MarginRow, MessageRow, WordsRow}
 use Rattle.scm_view.proofs.DocumentOwnerLemmas.{IsOfMessage, no_files-none}
 use Rattle.scm_view.proofs.FileOwnerLemmas.{IsFileFrom, both-owners, file_of, none-owner, owner_at}
 use Rattle.scm_view.proofs.OwnerLemmas.{no-owner, text-none}
+use Rattle.scm_beside_laws.proofs.DocumentPaintLemmas.{made}
 use Rattle.scm_beside_laws.proofs.FileOwnerLemmas.{files-ids, files-own}
 use Rattle.scm_beside_laws.proofs.RowOwnerLemmas.{between-same, in_part}
 use Rattle.scm_beside_laws.proofs.SeenLemmas.{IsSeen}
@@ -132,10 +133,6 @@ module _ (same : ComponentId → ComponentId → Bool) (law : IsLawful same) whe
 
 -- ---- documents
 
--- a document by its parts
-abbrev made : ℕ → Option (List ℕ) → List ShownFile → Document
-made commit message files = record { commit = commit; message = message; files = files }
-
 -- a part of the document of a commit
 abbrev pub IsOfDocument : ℕ → ComponentId → Type 0
 IsOfDocument commit i = IsOfMessage commit i ⊎ IsFileFrom commit 0 i
@@ -151,7 +148,7 @@ OwnsDocument same w h m a d s =
     (rep : ComponentId → Bool) → IsLive d.commit rep → (z x : ℕ) → x < w
     → hit same is_clickable rep (document_picture d s (pos a.left) (pos 1)).boxes (pos z) (pos x) ≡ owned_by (area_document a h m 1 d ++ area_pinned_layer a m 1 d ∷ []) z x
 
-message-long : (a : Area) (commit : ℕ) (message : Option (List ℕ)) → length (area_message a commit message) ≡ message_height message
+pub message-long : (a : Area) (commit : ℕ) (message : Option (List ℕ)) → length (area_message a commit message) ≡ message_height message
 unfolding area_message
 message-long a commit None = refl
 message-long a commit (Some m) = refl

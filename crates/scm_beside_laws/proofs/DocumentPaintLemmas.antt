@@ -129,7 +129,7 @@ message-long commit (Some message) = refl
 -- ---- documents
 
 -- a document by its parts
-abbrev made : ℕ → Option (List ℕ) → List ShownFile → Document
+abbrev pub made : ℕ → Option (List ℕ) → List ShownFile → Document
 made commit message files = record { commit = commit; message = message; files = files }
 
 -- a message alone makes its rows

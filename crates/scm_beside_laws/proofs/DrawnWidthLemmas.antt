@@ -37,6 +37,7 @@ use Rattle.scm_document.specs.Texts.{no_files_text}
 use Rattle.scm_strips.specs.declared.area.Area.{Area}
 use Rattle.scm_strips.specs.Shows.{end_column}
 use Rattle.scm_screen.specs.Beside.{drawn_width}
+use Rattle.scm_beside_laws.proofs.DocumentPaintLemmas.{made}
 use Rattle.scm_beside_laws.proofs.SeenLemmas.{IsSeen, fold-at, under-seen}
 
 -- ---- rectangles that have some columns
@@ -259,10 +260,6 @@ words-width s w v m wide p o =
     ∙ words-cut v x y m wide column
 
 -- ---- documents
-
--- a document by its parts
-abbrev made : ℕ → Option (List ℕ) → List ShownFile → Document
-made commit message files = record { commit = commit; message = message; files = files }
 
 pub no-message : (commit : ℕ) (s : Sight) (x y : ℤ) → box_rect (message_picture commit None s x y) ≡ no_rect
 unfolding message_picture

@@ -78,7 +78,7 @@ context-boxes : (key : LineKey) (ts : List (List ℕ)) (s : Sight) (a : Area) (y
 unfolding row_picture followed_by covering
 context-boxes key ts s a y = refl
 
-some-rows : (f : ShownFile) → 0 < length (file_rows f)
+pub some-rows : (f : ShownFile) → 0 < length (file_rows f)
 unfolding file_rows
 some-rows f = omega arith
 

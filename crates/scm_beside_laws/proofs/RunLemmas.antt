@@ -34,9 +34,11 @@ use Rattle.scm_strips.specs.declared.area.Area.{Area}
 use Rattle.scm_strips.specs.AreaStrips.{area_document, area_file, area_files, area_filled, area_message}
 use Rattle.scm_strips.specs.Parts.{row_reach}
 use Rattle.scm_beside_laws.proofs.AreaBoxLemmas.{Lies, farthest, file-lies, header-lies, max-least}
-use Rattle.scm_beside_laws.proofs.DocumentPaintLemmas.{sections-inner}
+use Rattle.scm_beside_laws.proofs.DocumentOwnerLemmas.{message-long}
+use Rattle.scm_beside_laws.proofs.DocumentPaintLemmas.{made, sections-inner}
 use Rattle.scm_beside_laws.proofs.DrawnWidthLemmas.{box-blank, box-empty, no-message, words-box}
 use Rattle.scm_beside_laws.proofs.FileOwnerLemmas.{length-file}
+use Rattle.scm_beside_laws.proofs.KeyLemmas.{some-rows}
 use Rattle.scm_beside_laws.proofs.SeenLemmas.{IsSeen, under-seen}
 
 -- ---- runs of rows
@@ -132,10 +134,6 @@ message-runs commit message s w a top fits o =
 over-above : (m top : ℕ) (f : ShownFile) → is_over m top f ≡ true → top < m
 over-above m top f h = grind (arith, h)
 
-some-rows : (f : ShownFile) → 0 < length (file_rows f)
-unfolding file_rows
-some-rows f = omega arith
-
 pinned-inside : (f : ShownFile) (b : Bool) (s : Sight) (w : ℕ) (a : Area) (m top n : ℕ) → (b ≡ true → (top < m) × (m < top + n)) → 10 ≤ a.width → IsSeen s w a
     → Inside (box_rect (if b then pinned_header f s (pos a.left) (pos m) else nothing)) (pos top) (pos (top + n))
 pinned-inside f true s w a m top n within fits o =
@@ -216,15 +214,6 @@ length-files a m top (f ∷ fs) =
     length-append (area_file a (is_over m top f) f) (area_files a m (top + length (file_rows f)) fs)
     ∙ ap₂ (λ (i j : ℕ). i + j) (length-file a (is_over m top f) f) (length-files a m (top + length (file_rows f)) fs)
     ∙ sym (length-append (file_rows f) (files_rows fs))
-
-message-long : (a : Area) (commit : ℕ) (message : Option (List ℕ)) → length (area_message a commit message) ≡ message_height message
-unfolding area_message
-message-long a commit None = refl
-message-long a commit (Some m) = refl
-
--- a document by its parts
-abbrev made : ℕ → Option (List ℕ) → List ShownFile → Document
-made commit message files = record { commit = commit; message = message; files = files }
 
 -- the row below the last of a message and files
 last-row : (a : Area) (m top commit : ℕ) (message : Option (List ℕ)) (fs : List ShownFile) → top + (message_height message + length (files_rows fs)) ≡ end_of (area_filled a m top (made commit message fs))
