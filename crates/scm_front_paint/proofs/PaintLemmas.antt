@@ -138,6 +138,21 @@ module _ (style : ℕ → ℕ → Style) (labels : List (Option Screen)) (grid :
       paints-as cut.width (columns_of l.kind - x) old (picture moved cut) (sideways_picture x style (symbols_over labels (screen_of l))) bytes
       (is.width ∙ ap (λ (n : ℕ). n - x) g.width) (part-picture cut is) p
 
+  -- a cut of all its columns
+  first-is : x ≡ 0 → (r c : ℕ) → c < grid.width - x → style r c ≡ style r (x + c)
+  first-is e r c h = ap (λ (n : ℕ). style r n) (let same : c ≡ x + c = omega (arith, e) in same)
+
+  pub first-picture : x ≡ 0 → (cut : Screen) → IsCut cut (symbols_over labels grid) x → picture style cut ≡ sideways_picture x style (symbols_over labels (screen_of l))
+  first-picture e cut is =
+      cut-picture style style cut (symbols_over labels grid) x (first-is e) is ∙ same-sideways x style labels grid (screen_of l) g.width g.rows
+
+  pub first-paints : x ≡ 0 → (cut : Screen) → IsCut cut (symbols_over labels grid) x → (old : List (List StyledCell)) (bytes : List ℕ)
+      → Paints cut.width old (picture style cut) bytes
+      → Paints (columns_of l.kind - x) old (sideways_picture x style (symbols_over labels (screen_of l))) bytes
+  first-paints e cut is old bytes p =
+      paints-as cut.width (columns_of l.kind - x) old (picture style cut) (sideways_picture x style (symbols_over labels (screen_of l))) bytes
+      (is.width ∙ ap (λ (n : ℕ). n - x) g.width) (first-picture e cut is) p
+
 -- ---- a view
 
 paints-from : (width wide : ℕ) (old known next picture : List (List StyledCell)) (bytes : List ℕ) → width ≡ wide → old ≡ known → next ≡ picture

@@ -1,11 +1,11 @@
 //! A cut of a screen with its labels: a grid of the columns from a column on.
-ghost use Rattle.std.specs.Prelude.{◌≡◌, ℕ, ◌+◌, ◌-◌, ◌<◌, ◌≤◌, IfErr, IfOk, IsTrue, OnOk, length, option_map};
-ghost use Rattle.scm_cells.specs.Symbols.{symbol_at};
+ghost use Rattle.std.specs.Prelude.{◌≡◌, [], ℕ, ◌+◌, ◌-◌, ◌<◌, ◌≤◌, IfErr, IfOk, IsTrue, OnOk, length, option_map, slice_index_or};
+ghost use Rattle.scm_cells.specs.Symbols.{symbol_at, symbol_in};
 ghost use Rattle.scm_front_paint.specs.Cut.{CutFails, IsCut, IsCutRow, IsLead, KeepsOthers, cut_symbol};
 ghost use Rattle.scm_front_paint.specs.Source.{symbols_in};
 
 use crate::source::Source;
-use scm_cells::Grid;
+use scm_cells::{Column, Grid};
 use scm_errors::RecordError;
 use std::alloc::Global;
 
@@ -56,12 +56,69 @@ fn cut_symbol<'a>(
     source.symbol(row, x + column)
 }
 
+/// Returns whether `columns` and `others` have the same printable character of ASCII at `column`.
+fn has_same_letter(columns: &[Column], others: &[Column], column: usize) -> bool
+    ensures { IsTrue result → symbol_in columns.now column ≡ symbol_in others.now column }
+{
+    match (columns.get(column), others.get(column)) {
+        (Some(own), Some(other)) => match (own.ascii(), other.ascii()) {
+            (Some(byte), Some(same)) => byte == same,
+            (None, _) | (_, None) => false,
+        },
+        (None, _) | (_, None) => false,
+    }
+}
+
+/// Returns whether `cut` and `grid` have the same symbol at `row`, `column`. `columns` and `others` are those of the row.
+fn is_same_place(
+    cut: &Grid,
+    grid: &Grid,
+    columns: &[Column],
+    others: &[Column],
+    row: usize,
+    column: usize,
+) -> bool
+    requires columns { columns.now ≡ slice_index_or cut.now.rows row [] }
+    requires others { others.now ≡ slice_index_or grid.now.rows row [] }
+    ensures { IsTrue result
+        → symbol_at cut.now.rows row column ≡ symbol_at grid.now.rows row column }
+{
+    has_same_letter(columns, others, column)
+        || is_same(cut.symbol(row, column), grid.symbol(row, column))
+}
+
+/// Returns whether row `row` of `cut` has the symbols of that row of `grid`.
+fn is_same_row(cut: &Grid, grid: &Grid, row: usize) -> bool
+    ensures { IsTrue result → (c : ℕ) → c < grid.now.width
+        → symbol_at cut.now.rows row c ≡ symbol_at grid.now.rows row c }
+{
+    let columns = cut.columns(row);
+    let others = grid.columns(row);
+    for column in 0..grid.width() {
+        if !is_same_place(cut, grid, columns, others, row, column) {
+            return false;
+        }
+    }
+    true
+}
+
+/// Returns whether row `row` of `source` shows no label, and `cut` has all its columns: `x` and `lead` are 0.
+fn is_whole_row(cut: &Grid, source: &Source<'_>, x: usize, row: usize, lead: usize) -> bool
+    ensures { IsTrue result → (c : ℕ) → c < (symbols_in source.now).width - x
+        → symbol_at cut.now.rows row c ≡ cut_symbol (symbols_in source.now) x row lead c }
+{
+    x == 0 && lead == 0 && source.is_unlabelled(row) && is_same_row(cut, source.grid, row)
+}
+
 /// Returns whether row `row` of `cut` has the columns of that row of `source` from `x` on. The first `lead`
 /// of them are blank.
 fn is_cut_row(cut: &Grid, source: &Source<'_>, x: usize, row: usize, lead: usize) -> bool
     ensures { IsTrue result → (c : ℕ) → c < (symbols_in source.now).width - x
         → symbol_at cut.now.rows row c ≡ cut_symbol (symbols_in source.now) x row lead c }
 {
+    if is_whole_row(cut, source, x, row, lead) {
+        return true;
+    }
     let columns = source.width().saturating_sub(x);
     for column in 0..columns {
         let symbol = cut.symbol(row, column);

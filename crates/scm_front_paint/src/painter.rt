@@ -79,6 +79,58 @@ fn paint_part(
     painter.paint(cut, &moved)
 }
 
+/// Returns the bytes that paint `cut`, all columns of the session's screen with its labels: its first column is `x` = 0.
+/// The session finds its styles of a row at once.
+fn paint_labelled(
+    painter: &mut Painter,
+    shown: &Shown<'_, '_>,
+    cut: &Grid,
+    x: usize,
+    _source: &Source<'_>,
+) -> Result<String, RecordError>
+    requires width { _source.now.grid.now.width ≡ columns_of shown.now.session.now.kind }
+    requires rows { _source.now.grid.now.rows ≡ (screen_of shown.now.session.now).rows }
+    requires cut { IsCut cut.now (symbols_in _source.now) x }
+    requires zero { x ≡ 0 }
+    ensures ok { IfOk result (λ text. Paints (columns_of shown.now.session.now.kind - x)
+        painter.old (sideways_picture x (style_in shown.now)
+        (symbols_over _source.now.labels.now (screen_of shown.now.session.now)))
+        (string_bytes text)) }
+    ensures painted { OnOk result (painter.new
+        ≡ sideways_picture x (style_in shown.now)
+        (symbols_over _source.now.labels.now (screen_of shown.now.session.now))) }
+    ensures err { IfErr result (λ e. e ≡ OutOfMemory) }
+{
+    painter.paint(cut, shown)
+}
+
+/// Returns the bytes that paint `cut`, the columns of the session's screen with its labels from `x` on.
+fn paint_cut(
+    painter: &mut Painter,
+    shown: &Shown<'_, '_>,
+    cut: &Grid,
+    x: usize,
+    source: &Source<'_>,
+) -> Result<String, RecordError>
+    requires width { source.now.grid.now.width ≡ columns_of shown.now.session.now.kind }
+    requires rows { source.now.grid.now.rows ≡ (screen_of shown.now.session.now).rows }
+    requires cut { IsCut cut.now (symbols_in source.now) x }
+    ensures ok { IfOk result (λ text. Paints (columns_of shown.now.session.now.kind - x)
+        painter.old (sideways_picture x (style_in shown.now)
+        (symbols_over source.now.labels.now (screen_of shown.now.session.now)))
+        (string_bytes text)) }
+    ensures painted { OnOk result (painter.new
+        ≡ sideways_picture x (style_in shown.now)
+        (symbols_over source.now.labels.now (screen_of shown.now.session.now))) }
+    ensures err { IfErr result (λ e. e ≡ OutOfMemory) }
+{
+    if x == 0 {
+        paint_labelled(painter, shown, cut, x, source)
+    } else {
+        paint_part(painter, shown, cut, x, source)
+    }
+}
+
 /// What paints the session's rows, and a grid for their columns.
 #[derive(Drop)]
 struct SessionPainter {
@@ -114,7 +166,7 @@ fn paint_session(
     let source = Source { grid, labels };
     let last = session.cut.take();
     let cut = cut_of(alloc, last, &source, x)?;
-    let text = paint_part(&mut session.painter, shown, &cut, x, &source)?;
+    let text = paint_cut(&mut session.painter, shown, &cut, x, &source)?;
     session.cut = Some(cut);
     Ok(text)
 }

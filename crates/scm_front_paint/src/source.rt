@@ -1,5 +1,5 @@
 //! What a terminal shows of a session's screen: its symbols, with labels over its rows.
-ghost use Rattle.std.specs.Prelude.{◌≡◌, None, option_map, slice_index_or};
+ghost use Rattle.std.specs.Prelude.{◌≡◌, IsTrue, None, option_map, slice_index_or};
 ghost use Rattle.scm_cells.specs.Screen.{IsScreen};
 ghost use Rattle.scm_front_paint.specs.Labels.{has_title, is_title, symbol_under};
 ghost use Rattle.scm_front_paint.specs.Source.{symbols_in};
@@ -60,6 +60,13 @@ impl<'a> Source<'a> {
         ensures sizes { IsScreen self.now.grid.now }
     {
         self.grid.height()
+    }
+
+    /// Returns whether row `row` shows no label.
+    pub(crate) fn is_unlabelled(&self, row: usize) -> bool
+        ensures { IsTrue result → slice_index_or self.now.labels.now row None ≡ None }
+    {
+        label_at(self.labels, row).is_none()
     }
 
     /// Returns the symbol that begins at `row` and `column`, if one does.
