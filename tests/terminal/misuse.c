@@ -504,6 +504,34 @@ static void take_layer(void) {
     done(type("q"), GABRO_ENDED);
 }
 
+/* Sections show the line that they are in. Where memory for that fails, the call says so, and can be made again. A label stays. */
+static void name_sections(void) {
+    static const char old[] = "f() {\n  1\n}\n", now[] = "f() {\n  2\n}\n", named[] = "Section 1/1  f() {";
+    gabro_key none = {GABRO_NO_INDEX, GABRO_NO_INDEX, GABRO_NO_INDEX, GABRO_NO_INDEX};
+    char out[8192];
+    done(gabro_state_new(&session, false), GABRO_BUILDING);
+    done(gabro_state_texts(&session, "f", 1, "", 0, old, strlen(old), 0100644, now, strlen(now), 0100644), GABRO_BUILDING);
+    refused(gabro_name_sections(&session), GABRO_NOT_NOW);
+    done(gabro_begin_layer(&session, 40, 12), GABRO_WAITING);
+    done(gabro_start(&session, GABRO_ALL_OPEN, &none), GABRO_WAITING);
+    size_t length = paint(out, sizeof out);
+    assert(length < sizeof out && memmem(out, length, "Section 1/1", 11) && !memmem(out, length, named, strlen(named)));
+#ifdef __GLIBC__
+    is_refused = true;
+    uint32_t code = gabro_name_sections(&session);
+    is_refused = false;
+    refused(code, GABRO_NO_MEMORY);
+#endif
+    refused(gabro_name_sections(&session), GABRO_DONE);
+    length = paint(out, sizeof out);
+    assert(length < sizeof out && memmem(out, length, named, strlen(named)));
+    refused(gabro_label(&session, 0, 1, "ours", 4), GABRO_DONE);
+    refused(gabro_name_sections(&session), GABRO_DONE);
+    length = paint(out, sizeof out);
+    assert(length < sizeof out && memmem(out, length, "ours", 4) && !memmem(out, length, named, strlen(named)));
+    done(type("q"), GABRO_ENDED);
+}
+
 /* Whether a pager is open on the first file, with this line on its first row. */
 static bool is_page(const gabro_pager *pager, size_t top, bool selected) {
     return pager->is_open && pager->file == 0 && pager->top == top && pager->left == 0 && pager->selected == selected;
@@ -1274,6 +1302,7 @@ int main(void) {
     tell_owners();
     take_bytes();
     take_layer();
+    name_sections();
     tell_lines();
     tell_places();
     show_pages();
