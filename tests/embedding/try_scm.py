@@ -195,6 +195,23 @@ def label_sections():
         assert refused(session.label, 0, 1, b"\xff") == "not_text"
 
 
+def name_sections():
+    with scm.Session() as session:
+        session.add_file("f", 0o100644)
+        for lines in ("one:\n", " three\n"):
+            session.add_context(lines)
+            session.add_changes("two\n", True)
+        assert refused(session.name_sections) == "not_now"
+        session.begin_layer(40, 12)
+        session.start("all_open")
+        before, rows = session.paint(), session.text()
+        session.label(0, 3, "theirs")
+        session.name_sections()
+        after = session.paint()
+        assert b"one:" in before and b"Section 1/2  one:" not in before and b"Section 1/2  one:" in after and b"theirs" in after
+        assert b"Section 2/2" not in after and session.text() == rows
+
+
 def log_a_layer():
     with scm.Session() as session:
         session.add_commit("first\n")
@@ -761,6 +778,7 @@ def main():
     run_in_threads()
     drive_a_layer()
     label_sections()
+    name_sections()
     log_a_layer()
     with scm.Session() as session:
         assert session.stage == scm.BUILDING and len(session) == 0

@@ -120,6 +120,7 @@ fn a_layer_hears_the_terminal_first() {
     session.add_lines(ADDED, "one\ntwo\nthree\n").unwrap();
     assert_eq!(session.set_theme(Theme::Light), Err(Error::NotNow));
     assert_eq!(session.set_label(0, 0, "ours"), Err(Error::NotNow));
+    assert_eq!(session.name_sections(), Err(Error::NotNow));
     session.begin_layer(60, 10).unwrap();
     assert_eq!(session.begin_layer(60, 10), Err(Error::NotNow));
     assert_eq!(session.set_keys("x=undo x"), Err(Error::NoKey));
@@ -131,6 +132,7 @@ fn a_layer_hears_the_terminal_first() {
         ..key(Some(0), Some(0))
     };
     session.start(Folds::Open, first).unwrap();
+    session.name_sections().unwrap();
     assert_eq!(session.selected(), Ok(first));
     let painted = String::from_utf8(session.paint().unwrap()).unwrap();
     assert!(painted.contains("c stages") && painted.contains("Section 1/1"));
