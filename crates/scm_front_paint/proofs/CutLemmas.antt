@@ -1,9 +1,10 @@
 -- Cuts of a grid.
 use Rattle.std.proofs.Common.{◌≡◌, ◌≢◌, ℕ, zero, suc, ◌+◌, ◌-◌, ◌<◌, ◌≤◌, ◌&&◌, Bool, true, false, List, [], ◌∷◌, get_or, refl, sym, ap, ap₂, ◌∙◌, subst, arith, Option, Some, None, inl, inr}
 use Rattle.std.specs.Int.{is_in_range}
-use Rattle.std.specs.Prelude.{◌==◌, slice_get, slice_index_or, if◌then◌else◌}
+use Rattle.std.specs.Prelude.{◌==◌, nat_lt, slice_get, slice_index_or, if◌then◌else◌}
 use Rattle.std.specs.Option.{option_and_then}
 use Rattle.std.proofs.lemmas.Bool.{cases_eq}
+use Rattle.std.proofs.lemmas.Bool.Decides.{nat_tests}
 use Rattle.scm_cells.specs.Cell.{Cell, ascii_of, single_byte}
 use Rattle.scm_cells.specs.Screen.{Screen}
 use Rattle.scm_cells.specs.Symbols.{symbol_at, symbol_in, symbol_of}
@@ -88,7 +89,9 @@ pub whole-row : (cut : Screen) (labels : List (Option Screen)) (grid : Screen) (
     → ((c : ℕ) → c < grid.width → symbol_at cut.rows row c ≡ symbol_at grid.rows row c)
     → (c : ℕ) → c < grid.width - x → symbol_at cut.rows row c ≡ cut_symbol (symbols_over labels grid) x row lead c
 whole-row cut labels grid x row lead e f none same c h =
+    let past : nat_lt c 0 ≡ false = grind (arith, nat_tests) in
     same c (omega (arith, h))
     ∙ sym (ap₂ (λ (n m : ℕ). cut_symbol (symbols_over labels grid) n row m c) e f
+    ∙ ap (λ (b : Bool). if b then Some (32 ∷ []) else (symbols_over labels grid).at row (0 + c)) past
     ∙ ap (λ (n : ℕ). symbol_under (slice_index_or labels row None) n (symbol_at grid.rows row n)) (let is : 0 + c ≡ c = omega arith in is)
     ∙ ap (λ (label : Option Screen). symbol_under label c (symbol_at grid.rows row c)) none)
