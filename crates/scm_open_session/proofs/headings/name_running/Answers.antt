@@ -9,5 +9,5 @@ returns-in-Plain c = NamesAt.no_view (ap is_layered c.in-Plain.is) refl
 
 pub returns-in-Layered : goal.returns-in-Layered
 returns-in-Layered c =
-    names-view c.args.painters.now c.name_sections.new.self c.args.session.now c.in-Layered.layer c.read.result.now c.name_sections.result c.resize_code.result
-    c.in-Layered.is c.read.ensures c.resize_code.ensures c.name_sections.ensures.done c.name_sections.ensures.some
+    names-view c.args.painters.now c.name_sections.new.self c.args.session.now c.in-Layered.view c.in-Layered.view c.name_sections.result c.resize_code.result
+    c.in-Layered.is refl c.resize_code.ensures c.name_sections.ensures.done c.name_sections.ensures.some
