@@ -17,7 +17,7 @@ pub names-view : (old new : Painters) (s : Running) (v read : Seen) (done : Bool
     → (IsTrue done → HaveLabels (AreNamed (files_of read)) old new) → (done ≡ false → HaveLabels (AreSomeNamed (files_of read)) old new)
     → NamesAt old new (Waiting s) code
 names-view old new s v read true code e f g all some =
-    rw (e, g) (NamesAt.named (subst (λ (x : Seen). HaveLabels (AreNamed (files_of x)) old new) f (all tt)))
+    rw (e, g) (NamesAt.named (subst (λ (x : Seen). HaveLabels (AreNamed (files_of x)) old new) f (all refl)))
 names-view old new s v read false code e f g all some =
     rw (e, g) (NamesAt.some_named (subst (λ (x : Seen). HaveLabels (AreSomeNamed (files_of x)) old new) f (some refl)))
 
