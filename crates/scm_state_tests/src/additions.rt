@@ -1,5 +1,5 @@
 //! Additions to a state, their refusals, and marks, checked against the project's values.
-use crate::checks::check_equal;
+use crate::checks::{check_equal, made};
 use crate::parts;
 use scm_embed::marks::mark_of;
 use scm_embed::{Addition, BuildError, Part, StateBuilder};
@@ -7,7 +7,6 @@ use scm_samples::{ADDED, DEFAULT, REMOVED, commits_of, text_of};
 use scm_types::{ChangeType, File, FileMode, Items, RecordError, RecordState, Text, Tristate};
 use std::alloc::Global;
 use std::process::Abort;
-use std::test::Fail;
 
 /// Returns a file without sections.
 fn new_file() -> Addition<'static> {
@@ -114,19 +113,18 @@ const PARTS: &[parts::Part] = &[
 ];
 
 /// Returns the file that the additions make.
-fn file_made(alloc: Global) -> Result<File<'static>, RecordError> {
-    parts::file_with_parts(alloc, DEFAULT, PARTS)
+fn file_made(rt: &impl Abort, alloc: Global) -> File<'static> {
+    made(rt, parts::file_with_parts(alloc, DEFAULT, PARTS))
 }
 
 /// Returns the state that the additions make.
-fn state_made(alloc: Global) -> Result<RecordState<'static>, RecordError> {
-    let mut files = Items::new(alloc);
-    files.push(file_made(alloc)?)?;
-    Ok(RecordState {
+fn state_made(rt: &impl Abort, alloc: Global) -> RecordState<'static> {
+    let file = file_made(rt, alloc);
+    RecordState {
         is_read_only: true,
-        commits: commits_of(alloc, "m")?,
-        files,
-    })
+        commits: made(rt, commits_of(alloc, "m")),
+        files: Items::from(made(rt, vec![in alloc; file])),
+    }
 }
 
 /// Adds `addition`. The clauses of `StateBuilder::add` make the proofs of its callers long.
@@ -139,23 +137,25 @@ fn add(
 }
 
 /// Adds all to an empty state.
-fn builder_made(alloc: Global) -> Result<StateBuilder, BuildError> {
+fn builder_made(rt: &impl Abort, alloc: Global) -> StateBuilder {
     let mut builder = StateBuilder::new(alloc, true);
     for given in GIVEN {
-        add(alloc, &mut builder, addition_of(*given))?;
+        made(rt, add(alloc, &mut builder, addition_of(*given)));
     }
-    Ok(builder)
+    builder
+}
+
+/// Checks that the state of `builder` is accepted, and is that which the additions make.
+fn check_builder(rt: &impl Abort, alloc: Global, builder: &StateBuilder) {
+    check_equal(rt, builder.is_accepted(), true);
+    check_equal(rt, builder.state(), &state_made(rt, alloc));
 }
 
 #[test]
-fn additions_make_a_state(rt: HostRuntime) -> Result<(), Fail> {
-    let alloc = rt.alloc();
-    let wanted = state_made(alloc)?;
-    let builder = builder_made(alloc)?;
-    assert!(rt; builder.is_accepted());
-    check_equal(&rt, builder.state(), &wanted);
-    check_equal(&rt, builder.into_state(), wanted);
-    Ok(())
+fn additions_make_a_state(rt: HostRuntime) {
+    let builder = builder_made(&rt, rt.alloc());
+    check_builder(&rt, rt.alloc(), &builder);
+    check_equal(&rt, builder.into_state(), state_made(&rt, rt.alloc()));
 }
 
 /// Checks that `addition` is refused with `error`, and that the state stays.
@@ -165,35 +165,31 @@ fn check_refused(
     builder: &mut StateBuilder,
     addition: Addition<'_>,
     error: BuildError,
-) -> Result<(), RecordError> {
-    let before = builder.state().try_clone(alloc)?;
+) {
+    let before = made(rt, builder.state().try_clone(alloc));
     check_equal(rt, add(alloc, builder, addition), Err(error));
     check_equal(rt, builder.state(), &before);
-    Ok(())
 }
 
 /// Checks that a third commit is refused, and a line that is too long.
-fn check_limits(
-    rt: &impl Abort,
-    alloc: Global,
-    builder: &mut StateBuilder,
-) -> Result<(), RecordError> {
+fn check_limits(rt: &impl Abort, alloc: Global, builder: &mut StateBuilder) {
     let third = Addition::Commit { message: None };
-    check_refused(rt, alloc, builder, third, BuildError::TooManyCommits)?;
-    let long = text_of(alloc, RecordState::MAX_TEXT + 1)?;
+    check_refused(rt, alloc, builder, third, BuildError::TooManyCommits);
+    let long = made(rt, text_of(alloc, RecordState::MAX_TEXT + 1));
     let line = context_of(long.as_str());
-    check_refused(rt, alloc, builder, line, BuildError::TooLong)
+    check_refused(rt, alloc, builder, line, BuildError::TooLong);
+}
+
+/// Checks that a line is refused where there is no file.
+fn check_empty(rt: &impl Abort, alloc: Global) {
+    let mut empty = StateBuilder::new(alloc, false);
+    check_refused(rt, alloc, &mut empty, context_of("a\n"), BuildError::NoFile);
 }
 
 #[test]
-fn refused_additions_leave_the_state(rt: HostRuntime) -> Result<(), Fail> {
-    let alloc = rt.alloc();
-    let mut empty = StateBuilder::new(alloc, false);
-    let part = context_of("a\n");
-    check_refused(&rt, alloc, &mut empty, part, BuildError::NoFile)?;
-    let mut builder = builder_made(alloc)?;
-    check_limits(&rt, alloc, &mut builder)?;
-    Ok(())
+fn refused_additions_leave_the_state(rt: HostRuntime) {
+    check_empty(&rt, rt.alloc());
+    check_limits(&rt, rt.alloc(), &mut builder_made(&rt, rt.alloc()));
 }
 
 /// A file, one of its sections and one of that section's lines, counted from 0, and the mark of the
@@ -217,12 +213,11 @@ fn check_mark(rt: &impl Abort, state: &RecordState<'_>, row: &Marked) {
 }
 
 #[test]
-fn items_have_their_marks(rt: HostRuntime) -> Result<(), Fail> {
-    let state = state_made(rt.alloc())?;
+fn items_have_their_marks(rt: HostRuntime) {
+    let state = state_made(&rt, rt.alloc());
     for row in MARKED {
         check_mark(&rt, &state, row);
     }
-    Ok(())
 }
 
 /// The marks of the file that the additions make, handed in as bytes, and the section and the line of
@@ -247,37 +242,23 @@ fn check_handed_in(rt: &impl Abort, builder: &mut StateBuilder, row: &HandedIn) 
 }
 
 #[test]
-fn marks_are_handed_in(rt: HostRuntime) -> Result<(), Fail> {
-    let mut builder = builder_made(rt.alloc())?;
+fn marks_are_handed_in(rt: HostRuntime) {
+    let mut builder = builder_made(&rt, rt.alloc());
     for row in HANDED_IN {
         check_handed_in(&rt, &mut builder, row);
     }
-    Ok(())
 }
 
 /// Files, and marks that do not fit them.
 const UNFIT: &[(usize, &[u8])] = &[(0, &[0; 5]), (0, &[0; 7]), (0, &[]), (1, &[])];
 
-/// Hands in marks that do not fit, and checks that the state is `wanted`.
-fn check_unfit(
-    rt: &impl Abort,
-    builder: &mut StateBuilder,
-    wanted: &RecordState<'_>,
-    file: usize,
-    marks: &[u8],
-) {
-    check_equal(rt, builder.set_marks(file, marks), false);
-    check_equal(rt, builder.state(), wanted);
-}
-
 #[test]
-fn marks_that_do_not_fit_leave_the_state(rt: HostRuntime) -> Result<(), Fail> {
-    let wanted = state_made(rt.alloc())?;
-    let mut builder = builder_made(rt.alloc())?;
+fn marks_that_do_not_fit_leave_the_state(rt: HostRuntime) {
+    let mut builder = builder_made(&rt, rt.alloc());
     for (file, marks) in UNFIT {
-        check_unfit(&rt, &mut builder, &wanted, *file, *marks);
+        check_equal(&rt, builder.set_marks(*file, *marks), false);
+        check_builder(&rt, rt.alloc(), &builder);
     }
-    Ok(())
 }
 
 /// Adds `addition`: the state changes, or memory is refused and the state stays.

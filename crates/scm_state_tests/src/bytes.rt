@@ -1,10 +1,10 @@
 //! Tables of bytes as texts, and of words.
+use crate::checks::{check_bytes, check_equal, check_owned, made};
 use crate::sides::file_of;
 use scm_diff::{WordSpan, bytes_of_text, has_nul, side_bytes, text_of_bytes, word_spans};
 use scm_types::File;
-use std::alloc::{AllocError, Global};
+use std::alloc::Global;
 use std::process::Abort;
-use std::test::Fail;
 
 /// Bytes, and their text.
 const TEXTS: &[(&[u8], &str)] = &[
@@ -35,12 +35,11 @@ const FILES: &[(&[u8], &[u8])] = &[
     (b"\xF3\xA0\x83\xA9\n", b"\xE9\n"),
 ];
 
-/// Two lines, and the spans in which they differ: for each its bytes in both.
-type Difference = (
-    &'static str,
-    &'static str,
-    &'static [(usize, usize, usize, usize)],
-);
+/// A span in which two lines differ: its bytes in the old one and in the new one.
+type Span = (usize, usize, usize, usize);
+
+/// Two lines, and the spans in which they differ.
+type Difference = (&'static str, &'static str, &'static [Span]);
 
 const WORDS: &[Difference] = &[
     ("a", "a", &[]),
@@ -69,109 +68,68 @@ const WORDS: &[Difference] = &[
     ("x\r\n", "x\n", &[(1, 3, 1, 2)]),
 ];
 
-/// Checks that the text of the bytes `row.0` is `row.1`.
-pub(crate) fn check_text(
-    rt: &impl Abort,
-    alloc: Global,
-    row: (&[u8], &str),
-) -> Result<(), AllocError> {
-    let text = text_of_bytes(alloc, row.0)?;
-    assert!(rt; text.as_str() == row.1);
-    Ok(())
+/// Checks that `row.1` is the text of the bytes `row.0`, and gives them back.
+fn check_row(rt: &impl Abort, alloc: Global, row: (&[u8], &str)) {
+    check_owned(rt, text_of_bytes(alloc, row.0), row.1);
+    check_bytes(rt, bytes_of_text(alloc, row.1), row.0);
 }
 
-/// Checks that the text `row.1` gives back the bytes `row.0`.
-fn check_back(rt: &impl Abort, alloc: Global, row: (&[u8], &str)) -> Result<(), AllocError> {
-    let bytes = bytes_of_text(alloc, row.1)?;
-    assert!(rt; bytes.as_slice() == row.0);
-    Ok(())
-}
-
-/// Checks that a side of `file` has the bytes `wanted`.
-fn check_bytes(
-    rt: &impl Abort,
-    alloc: Global,
-    file: &File<'_>,
-    is_selected: bool,
-    wanted: &[u8],
-) -> Result<(), AllocError> {
-    let side = side_bytes(alloc, file, is_selected)?;
-    assert!(rt; side.as_slice() == wanted);
-    Ok(())
-}
-
-/// Checks the sides of the file of two texts: first nothing is checked, and then everything. `row` has
-/// the bytes of the texts.
-fn check_sides(
-    rt: &impl Abort,
-    alloc: Global,
-    old: &str,
-    new: &str,
-    row: (&[u8], &[u8]),
-) -> Result<(), AllocError> {
-    let mut file = file_of(alloc, old, new)?;
-    check_bytes(rt, alloc, &file, true, row.0)?;
-    check_bytes(rt, alloc, &file, false, row.1)?;
+/// Checks the sides of `file`: first nothing is checked, and then everything. `row` has the bytes of
+/// both texts.
+fn check_sides(rt: &impl Abort, alloc: Global, file: &mut File<'_>, row: (&[u8], &[u8])) {
+    check_bytes(rt, side_bytes(alloc, file, true), row.0);
+    check_bytes(rt, side_bytes(alloc, file, false), row.1);
     file.toggle_all();
-    check_bytes(rt, alloc, &file, true, row.1)
+    check_bytes(rt, side_bytes(alloc, file, true), row.1);
 }
 
-/// Makes the text of the new bytes, and checks the sides of the file.
-fn check_new(
-    rt: &impl Abort,
-    alloc: Global,
-    old: &str,
-    row: (&[u8], &[u8]),
-) -> Result<(), AllocError> {
-    let new = text_of_bytes(alloc, row.1)?;
-    check_sides(rt, alloc, old, new.as_str(), row)
+/// Checks the sides of the file of the texts of the bytes `row`.
+fn check_file(rt: &impl Abort, alloc: Global, row: (&[u8], &[u8])) {
+    let old = made(rt, text_of_bytes(alloc, row.0));
+    let new = made(rt, text_of_bytes(alloc, row.1));
+    let mut file = file_of(rt, alloc, old.as_str(), new.as_str());
+    check_sides(rt, alloc, &mut file, row);
 }
 
-/// Checks that nothing checked leaves the old bytes, and the other side the new ones.
-fn check_file(rt: &impl Abort, alloc: Global, row: (&[u8], &[u8])) -> Result<(), AllocError> {
-    let old = text_of_bytes(alloc, row.0)?;
-    check_new(rt, alloc, old.as_str(), row)
+/// Checks that `found` are the spans `wanted`.
+fn check_spans(rt: &impl Abort, found: &[WordSpan], wanted: &[Span]) {
+    check_equal(rt, found.len(), wanted.len());
+    for (span, ends) in found.iter().zip(wanted) {
+        let (old_start, old_end, new_start, new_end) = *ends;
+        let wanted = WordSpan {
+            old_start,
+            old_end,
+            new_start,
+            new_end,
+        };
+        check_equal(rt, *span, wanted);
+    }
 }
 
 /// Checks the spans of two lines.
-fn check_words(rt: &impl Abort, alloc: Global, row: Difference) -> Result<(), AllocError> {
-    let spans = word_spans(alloc, row.0, row.1)?;
-    assert!(rt; spans.len() == row.2.len());
-    for (span, wanted) in spans.iter().zip(row.2) {
-        let wanted = WordSpan {
-            old_start: wanted.0,
-            old_end: wanted.1,
-            new_start: wanted.2,
-            new_end: wanted.3,
-        };
-        assert!(rt; *span == wanted);
-    }
-    Ok(())
+fn check_words(rt: &impl Abort, alloc: Global, row: Difference) {
+    let spans = made(rt, word_spans(alloc, row.0, row.1));
+    check_spans(rt, spans.as_slice(), row.2);
 }
 
 #[test]
-fn bytes_are_texts(rt: HostRuntime) -> Result<(), Fail> {
+fn bytes_are_texts(rt: HostRuntime) {
     for row in TEXTS {
-        check_text(&rt, rt.alloc(), *row)?;
-        check_back(&rt, rt.alloc(), *row)?;
+        check_row(&rt, rt.alloc(), *row);
     }
-    assert!(rt; has_nul(b"a\0"));
-    assert!(rt; !has_nul(b"a0"));
-    Ok(())
+    check_equal(&rt, (has_nul(b"a\0"), has_nul(b"a0")), (true, false));
 }
 
 #[test]
-fn bytes_come_back(rt: HostRuntime) -> Result<(), Fail> {
+fn bytes_come_back(rt: HostRuntime) {
     for row in FILES {
-        check_file(&rt, rt.alloc(), *row)?;
+        check_file(&rt, rt.alloc(), *row);
     }
-    Ok(())
 }
 
 #[test]
-fn words_differ(rt: HostRuntime) -> Result<(), Fail> {
+fn words_differ(rt: HostRuntime) {
     for row in WORDS {
-        check_words(&rt, rt.alloc(), *row)?;
+        check_words(&rt, rt.alloc(), *row);
     }
-    Ok(())
 }

@@ -1,17 +1,16 @@
 //! Tables of texts: where they differ, and what marks leave of them.
-use crate::sides::{check_side, file_of, version};
+use crate::checks::{check_copy, check_equal, made};
+use crate::sides::{check_side, file_of, mark, version};
 use scm_diff::{Hunk, Version, changed_file, hunks, lines_of, owned_file};
-use scm_types::{File, Section, Text};
-use std::alloc::{AllocError, Global};
+use scm_types::Text;
+use std::alloc::Global;
 use std::process::Abort;
-use std::test::Fail;
 
-/// Two texts, and where they differ: for each hunk its old lines and its new lines.
-type Difference = (
-    &'static str,
-    &'static str,
-    &'static [(usize, usize, usize, usize)],
-);
+/// A hunk: its old lines and its new lines.
+type Lines = (usize, usize, usize, usize);
+
+/// Two texts, and the hunks in which they differ.
+type Difference = (&'static str, &'static str, &'static [Lines]);
 
 /// The hunks are those of `git diff -U0`.
 const DIFFERENCES: &[Difference] = &[
@@ -83,91 +82,60 @@ const CHOICES: &[Choice] = &[
     ),
 ];
 
-/// Marks the changed lines by the bits of `marks`, the lowest one first.
-fn mark(file: &mut File<'_>, marks: usize) {
-    let mut left = marks;
-    for section in file.sections.iter_mut() {
-        if let Section::Changed { lines } = section {
-            for line in lines.iter_mut() {
-                line.is_checked = left % 2 == 1;
-                left /= 2;
-            }
-        }
+/// Checks that `found` are the hunks `wanted`.
+fn check_hunks(rt: &impl Abort, found: &[Hunk], wanted: &[Lines]) {
+    check_equal(rt, found.len(), wanted.len());
+    for (hunk, lines) in found.iter().zip(wanted) {
+        let (old_start, old_end, new_start, new_end) = *lines;
+        let wanted = Hunk {
+            old_start,
+            old_end,
+            new_start,
+            new_end,
+        };
+        check_equal(rt, *hunk, wanted);
     }
 }
 
-/// Checks that the lines `old` and `new` differ in the hunks `wanted`.
-fn check_hunks(
+/// Checks where the lines `old` and `new` differ.
+fn check_lines(
     rt: &impl Abort,
     alloc: Global,
     old: &[Text<'_>],
     new: &[Text<'_>],
-    wanted: &[(usize, usize, usize, usize)],
-) -> Result<(), AllocError> {
-    let found = hunks(alloc, old, new)?;
-    assert!(rt; found.len() == wanted.len());
-    for (hunk, wanted) in found.iter().zip(wanted) {
-        let wanted = Hunk {
-            old_start: wanted.0,
-            old_end: wanted.1,
-            new_start: wanted.2,
-            new_end: wanted.3,
-        };
-        assert!(rt; *hunk == wanted);
-    }
-    Ok(())
-}
-
-/// Checks where the lines `old` and those of the new text differ.
-fn check_new(
-    rt: &impl Abort,
-    alloc: Global,
-    old: &[Text<'_>],
-    difference: Difference,
-) -> Result<(), AllocError> {
-    let new = lines_of(alloc, difference.1)?;
-    check_hunks(rt, alloc, old, new.as_slice(), difference.2)
+    wanted: &[Lines],
+) {
+    let found = made(rt, hunks(alloc, old, new));
+    check_hunks(rt, found.as_slice(), wanted);
 }
 
 /// Checks where the texts differ.
-fn check_difference(
-    rt: &impl Abort,
-    alloc: Global,
-    difference: Difference,
-) -> Result<(), AllocError> {
-    let old = lines_of(alloc, difference.0)?;
-    check_new(rt, alloc, old.as_slice(), difference)
+fn check_difference(rt: &impl Abort, alloc: Global, row: Difference) {
+    let old = made(rt, lines_of(alloc, row.0));
+    let new = made(rt, lines_of(alloc, row.1));
+    check_lines(rt, alloc, old.as_slice(), new.as_slice(), row.2);
 }
 
 /// Checks the sides that the marks leave.
-fn check_choice(rt: &impl Abort, alloc: Global, choice: Choice) -> Result<(), AllocError> {
-    let mut file = file_of(alloc, choice.0, choice.1)?;
-    mark(&mut file, choice.2);
-    check_side(rt, alloc, &file, true, choice.3)?;
-    check_side(rt, alloc, &file, false, choice.4)
+fn check_choice(rt: &impl Abort, alloc: Global, row: Choice) {
+    let mut file = file_of(rt, alloc, row.0, row.1);
+    mark(&mut file, row.2);
+    check_side(rt, alloc, &file, true, row.3);
+    check_side(rt, alloc, &file, false, row.4);
 }
 
 #[test]
-fn texts_differ_as_git_says(rt: HostRuntime) -> Result<(), Fail> {
-    for difference in DIFFERENCES {
-        check_difference(&rt, rt.alloc(), *difference)?;
+fn texts_differ_as_git_says(rt: HostRuntime) {
+    for row in DIFFERENCES {
+        check_difference(&rt, rt.alloc(), *row);
     }
-    Ok(())
 }
 
 #[test]
-fn marks_leave_whole_lines(rt: HostRuntime) -> Result<(), Fail> {
-    for choice in CHOICES {
-        check_choice(&rt, rt.alloc(), *choice)?;
+fn marks_leave_whole_lines(rt: HostRuntime) {
+    for row in CHOICES {
+        check_choice(&rt, rt.alloc(), *row);
     }
-    Ok(())
-}
-
-/// Checks that a copy of `file` equals it.
-fn check_copy(rt: &impl Abort, alloc: Global, file: &File<'_>) -> Result<(), AllocError> {
-    let copy = owned_file(alloc, file)?;
-    assert!(rt; copy == *file);
-    Ok(())
 }
 
 /// Checks the file of two versions of which one is missing, the old one if `is_new`: it has two sections,
@@ -178,16 +146,15 @@ fn check_made(
     old: Option<Version<'static>>,
     new: Option<Version<'static>>,
     is_new: bool,
-) -> Result<(), AllocError> {
-    let file = changed_file(alloc, Text::from("f"), old, new)?;
-    assert!(rt; file.file_mode.is_absent() == is_new);
-    assert!(rt; file.sections.len() == 2);
-    check_copy(rt, alloc, &file)
+) {
+    let file = made(rt, changed_file(alloc, Text::from("f"), old, new));
+    let found = (file.file_mode.is_absent(), file.sections.len());
+    check_equal(rt, found, (is_new, 2));
+    check_copy(rt, owned_file(alloc, &file), &file);
 }
 
 #[test]
-fn files_come_and_go(rt: HostRuntime) -> Result<(), Fail> {
-    check_made(&rt, rt.alloc(), None, version("a\n"), true)?;
-    check_made(&rt, rt.alloc(), version("a\n"), None, false)?;
-    Ok(())
+fn files_come_and_go(rt: HostRuntime) {
+    check_made(&rt, rt.alloc(), None, version("a\n"), true);
+    check_made(&rt, rt.alloc(), version("a\n"), None, false);
 }

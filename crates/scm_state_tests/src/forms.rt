@@ -1,5 +1,5 @@
 //! What the `serde` derives read and write: each JSON form of a state, and refused forms.
-use crate::checks::check_equal;
+use crate::checks::{check_equal, made};
 use crate::parts::{Part, sections_of};
 use scm_samples::{ADDED, DEFAULT, Line, REMOVED, changed, commits_of, context, file_of, owned};
 use scm_types::{
@@ -9,7 +9,6 @@ use scm_types::{
 use serde::{Deserialize, Serialize};
 use std::alloc::Global;
 use std::process::Abort;
-use std::test::Fail;
 
 /// Checks that `value` is read from `text`, and that `text` is written for `value`.
 fn check_form<'a, T: Deserialize<'a> + Serialize + PartialEq + Drop>(
@@ -17,19 +16,18 @@ fn check_form<'a, T: Deserialize<'a> + Serialize + PartialEq + Drop>(
     alloc: Global,
     text: &'a str,
     value: T,
-) -> Result<(), Fail> {
-    let read: T = serde_json::from_str(alloc, text)?;
-    assert!(rt; read == value, "what is read from {text}");
-    let written = serde_json::to_string(alloc, &value)?;
+) {
+    let written = made(rt, serde_json::to_string(alloc, &value));
     check_equal(rt, written.as_str(), text);
-    Ok(())
+    let read: T = made(rt, serde_json::from_str(alloc, text));
+    check_equal(rt, (text, read == value), (text, true));
 }
 
 /// Checks that no value is read from any of `texts`.
 fn check_refused<'a, T: Deserialize<'a> + Drop>(rt: &impl Abort, alloc: Global, texts: &[&'a str]) {
     for text in texts {
         let read: Result<T, serde_json::Error> = serde_json::from_str(alloc, *text);
-        assert!(rt; read.is_err(), "{text} is no form");
+        check_equal(rt, (*text, read.is_err()), (*text, true));
     }
 }
 
@@ -87,14 +85,13 @@ const WITH_FILE: &str =
     r#"{"is_read_only":true,"commits":[{"message":"m"},{"message":null}],"files":[{"old_path":null,"path":"f","file_mode":{"Unix":33188},"sections":[]}]}"#;
 
 /// Returns a state with two commits and a file without sections.
-fn state_with_file(alloc: Global) -> Result<RecordState<'static>, RecordError> {
-    let mut files = Items::new(alloc);
-    files.push(file_of(DEFAULT, Vec::new(alloc)))?;
-    Ok(RecordState {
+fn state_with_file(rt: &impl Abort, alloc: Global) -> RecordState<'static> {
+    let file = file_of(DEFAULT, Vec::new(alloc));
+    RecordState {
         is_read_only: true,
-        commits: commits_of(alloc, "m")?,
-        files,
-    })
+        commits: made(rt, commits_of(alloc, "m")),
+        files: Items::from(made(rt, vec![in alloc; file])),
+    }
 }
 
 /// The JSON of both sides of a changed line.
@@ -123,35 +120,17 @@ const LINES: &[(&str, Line)] = &[
     ),
 ];
 
-/// Checks the JSON of each side of a changed line.
-fn check_changes(rt: &impl Abort, alloc: Global) -> Result<(), Fail> {
-    for (text, change_type) in CHANGES {
-        check_form(rt, alloc, *text, *change_type)?;
-    }
-    Ok(())
-}
-
-/// Checks the JSON of each mode.
-fn check_modes(rt: &impl Abort, alloc: Global) -> Result<(), Fail> {
-    for (text, mode) in MODES {
-        check_form(rt, alloc, *text, *mode)?;
-    }
-    Ok(())
-}
-
-/// Checks the JSON of each changed line.
-fn check_lines(rt: &impl Abort, alloc: Global) -> Result<(), Fail> {
-    for (text, line) in LINES {
-        check_form(rt, alloc, *text, line_of(*line))?;
-    }
-    Ok(())
-}
-
 #[test]
-fn modes_and_lines_have_their_forms(rt: HostRuntime) -> Result<(), Fail> {
-    check_changes(&rt, rt.alloc())?;
-    check_modes(&rt, rt.alloc())?;
-    check_lines(&rt, rt.alloc())
+fn modes_and_lines_have_their_forms(rt: HostRuntime) {
+    for (text, change_type) in CHANGES {
+        check_form(&rt, rt.alloc(), *text, *change_type);
+    }
+    for (text, mode) in MODES {
+        check_form(&rt, rt.alloc(), *text, *mode);
+    }
+    for (text, line) in LINES {
+        check_form(&rt, rt.alloc(), *text, line_of(*line));
+    }
 }
 
 /// The JSON of sections of context, and their lines.
@@ -172,26 +151,16 @@ const CHANGED: &[(&str, &[Line])] = &[
     ),
 ];
 
-/// Checks the JSON of each section of context.
-fn check_contexts(rt: &impl Abort, alloc: Global) -> Result<(), Fail> {
-    for (text, lines) in CONTEXTS {
-        check_form(rt, alloc, *text, context(alloc, *lines)?)?;
-    }
-    Ok(())
-}
-
-/// Checks the JSON of each section of changed lines.
-fn check_changed(rt: &impl Abort, alloc: Global) -> Result<(), Fail> {
-    for (text, lines) in CHANGED {
-        check_form(rt, alloc, *text, changed(alloc, *lines)?)?;
-    }
-    Ok(())
-}
-
 #[test]
-fn sections_of_lines_have_their_forms(rt: HostRuntime) -> Result<(), Fail> {
-    check_contexts(&rt, rt.alloc())?;
-    check_changed(&rt, rt.alloc())
+fn sections_of_lines_have_their_forms(rt: HostRuntime) {
+    for (text, lines) in CONTEXTS {
+        let section = made(&rt, context(rt.alloc(), *lines));
+        check_form(&rt, rt.alloc(), *text, section);
+    }
+    for (text, lines) in CHANGED {
+        let section = made(&rt, changed(rt.alloc(), *lines));
+        check_form(&rt, rt.alloc(), *text, section);
+    }
 }
 
 /// The JSON of mode changes, their marks and their modes.
@@ -244,26 +213,14 @@ const BYTES: &[BytesForm] = &[
     ),
 ];
 
-/// Checks the JSON of each mode change.
-fn check_mode_changes(rt: &impl Abort, alloc: Global) -> Result<(), Fail> {
-    for (text, is_checked, mode) in MODE_CHANGES {
-        check_form(rt, alloc, *text, mode_change(*is_checked, *mode))?;
-    }
-    Ok(())
-}
-
-/// Checks the JSON of each binary change.
-fn check_bytes(rt: &impl Abort, alloc: Global) -> Result<(), Fail> {
-    for (text, is_checked, old, new) in BYTES {
-        check_form(rt, alloc, *text, binary(*is_checked, *old, *new))?;
-    }
-    Ok(())
-}
-
 #[test]
-fn sections_of_modes_and_bytes_have_their_forms(rt: HostRuntime) -> Result<(), Fail> {
-    check_mode_changes(&rt, rt.alloc())?;
-    check_bytes(&rt, rt.alloc())
+fn sections_of_modes_and_bytes_have_their_forms(rt: HostRuntime) {
+    for (text, is_checked, mode) in MODE_CHANGES {
+        check_form(&rt, rt.alloc(), *text, mode_change(*is_checked, *mode));
+    }
+    for (text, is_checked, old, new) in BYTES {
+        check_form(&rt, rt.alloc(), *text, binary(*is_checked, *old, *new));
+    }
 }
 
 /// Returns a commit with `message`.
@@ -282,31 +239,32 @@ const PLAIN: &str = r#"{"old_path":null,"path":"f","file_mode":{"Unix":33188},"s
 /// The JSON of the empty state.
 const EMPTY: &str = r#"{"is_read_only":false,"commits":[],"files":[]}"#;
 
-/// Checks the JSON of each commit.
-fn check_commits(rt: &impl Abort, alloc: Global) -> Result<(), Fail> {
-    for (text, message) in MESSAGES {
-        check_form(rt, alloc, *text, commit_with(owned(alloc, *message)?))?;
-    }
-    check_form(rt, alloc, r#"{"message":null}"#, Commit::default())
+/// Checks the JSON of a commit with `message`.
+fn check_commit(rt: &impl Abort, alloc: Global, text: &'static str, message: &str) {
+    let message = made(rt, owned(alloc, message));
+    check_form(rt, alloc, text, commit_with(message));
 }
 
 /// Checks the JSON of files.
-fn check_files(rt: &impl Abort, alloc: Global) -> Result<(), Fail> {
-    check_form(rt, alloc, PLAIN, file_of(DEFAULT, Vec::new(alloc)))?;
-    check_form(rt, alloc, RENAMED, renamed_file(alloc)?)
+fn check_files(rt: &impl Abort, alloc: Global) {
+    check_form(rt, alloc, PLAIN, file_of(DEFAULT, Vec::new(alloc)));
+    check_form(rt, alloc, RENAMED, made(rt, renamed_file(alloc)));
 }
 
 /// Checks the JSON of states.
-fn check_states(rt: &impl Abort, alloc: Global) -> Result<(), Fail> {
-    check_form(rt, alloc, EMPTY, RecordState::empty(alloc))?;
-    check_form(rt, alloc, WITH_FILE, state_with_file(alloc)?)
+fn check_states(rt: &impl Abort, alloc: Global) {
+    check_form(rt, alloc, EMPTY, RecordState::empty(alloc));
+    check_form(rt, alloc, WITH_FILE, state_with_file(rt, alloc));
 }
 
 #[test]
-fn files_and_states_have_their_forms(rt: HostRuntime) -> Result<(), Fail> {
-    check_commits(&rt, rt.alloc())?;
-    check_files(&rt, rt.alloc())?;
-    check_states(&rt, rt.alloc())
+fn files_and_states_have_their_forms(rt: HostRuntime) {
+    for (text, message) in MESSAGES {
+        check_commit(&rt, rt.alloc(), *text, *message);
+    }
+    check_form(&rt, rt.alloc(), r#"{"message":null}"#, Commit::default());
+    check_files(&rt, rt.alloc());
+    check_states(&rt, rt.alloc());
 }
 
 /// No JSON of a side of a changed line.

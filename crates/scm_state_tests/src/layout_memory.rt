@@ -3,7 +3,7 @@
 //! where requests are refused: `tools/refuse-memory` runs the tests named for refused memory, and
 //! refuses each of their requests in turn. Their checks hold then, and the test passes or ends in
 //! `OutOfMemory`.
-use crate::checks::check_equal;
+use crate::checks::{check_equal, made};
 use scm_input::{
     Event, KeyCode, KeyEvent, KeyEventKind, KeyModifiers, MouseButton, MouseEvent, MouseEventKind,
     RecordInput, Screens, ScriptEdit, ScriptInput, ScriptRead, TerminalEvent, TerminalKind,
@@ -15,69 +15,62 @@ use std::alloc::Global;
 use std::process::Abort;
 
 /// Reads from an input of `count` events.
-fn check_events_left(rt: &impl Abort, alloc: Global, count: usize) -> Result<(), RecordError> {
-    let events = vec![in alloc; Event::Redraw; count]?;
-    let mut input = TestingInput::new(alloc, 80, 24, events)?;
+fn check_events_left(rt: &impl Abort, alloc: Global, count: usize) {
+    let events = made(rt, vec![in alloc; Event::Redraw; count]);
+    let mut input = made(rt, TestingInput::new(alloc, 80, 24, events));
     check_equal(rt, input.batches_left(), count);
-    check_equal(rt, input.next_events()?.len(), 1);
-    Ok(())
+    check_equal(rt, made(rt, input.next_events()).len(), 1);
 }
 
 /// Edits a message with an input whose answer has `count` bytes.
-fn check_edit(rt: &impl Abort, alloc: Global, count: usize) -> Result<(), RecordError> {
-    let mut input = TestingInput::new(alloc, 80, 24, Vec::new(alloc))?;
-    input.commit_messages.push_back(text_of(alloc, count)?)?;
-    check_equal(rt, input.edit_commit_message("")?.len(), count);
-    Ok(())
-}
-
-/// Returns the reads of a script with the one batch `batch`.
-fn reads_of(alloc: Global, batch: Vec<Event>) -> Result<Vec<ScriptRead>, RecordError> {
-    Ok(vec![in alloc; ScriptRead::Batch(batch)]?)
+fn check_edit(rt: &impl Abort, alloc: Global, count: usize) {
+    let mut input = made(rt, TestingInput::new(alloc, 80, 24, Vec::new(alloc)));
+    let message = made(rt, text_of(alloc, count));
+    made(rt, input.commit_messages.push_back(message));
+    check_equal(rt, made(rt, input.edit_commit_message("")).len(), count);
 }
 
 /// Reads from a script whose batch has `count` events.
-fn check_batch(rt: &impl Abort, alloc: Global, count: usize) -> Result<(), RecordError> {
-    let reads = reads_of(alloc, vec![in alloc; Event::Redraw; count]?)?;
-    let mut script = ScriptInput::new(alloc, 80, 24, reads, Vec::new(alloc))?;
-    check_equal(rt, script.next_events()?.len(), count);
-    Ok(())
+fn check_batch(rt: &impl Abort, alloc: Global, count: usize) {
+    let batch = made(rt, vec![in alloc; Event::Redraw; count]);
+    let reads = made(rt, vec![in alloc; ScriptRead::Batch(batch)]);
+    let mut script = made(rt, ScriptInput::new(alloc, 80, 24, reads, Vec::new(alloc)));
+    check_equal(rt, made(rt, script.next_events()).len(), count);
 }
 
 /// Edits a message with a script whose answer has `count` bytes.
-fn check_answer(rt: &impl Abort, alloc: Global, count: usize) -> Result<(), RecordError> {
-    let edits = vec![in alloc; ScriptEdit::Answer(text_of(alloc, count)?)]?;
-    let mut script = ScriptInput::new(alloc, 80, 24, Vec::new(alloc), edits)?;
-    check_equal(rt, script.edit_commit_message("")?.len(), count);
-    Ok(())
+fn check_answer(rt: &impl Abort, alloc: Global, count: usize) {
+    let answer = made(rt, text_of(alloc, count));
+    let edits = made(rt, vec![in alloc; ScriptEdit::Answer(answer)]);
+    let mut script = made(rt, ScriptInput::new(alloc, 80, 24, Vec::new(alloc), edits));
+    check_equal(rt, made(rt, script.edit_commit_message("")).len(), count);
 }
 
 /// Takes a place in a store that has `count` places.
-fn check_store(rt: &impl Abort, alloc: Global, count: usize) -> Result<(), RecordError> {
+fn check_store(rt: &impl Abort, alloc: Global, count: usize) {
     let mut screens = Screens::new(alloc);
     for _ in 0..count {
-        let _ = screens.place()?;
+        let _ = made(rt, screens.place());
     }
-    let last = screens.place()?;
-    check_equal(
-        rt,
-        screens.text(last),
-        "<this screenshot was never assigned>",
-    );
-    Ok(())
+    let last = made(rt, screens.place());
+    check_equal(rt, screens.text(last), ABSENT);
 }
 
+/// The text of a place without a screenshot.
+const ABSENT: &str = "<this screenshot was never assigned>";
+
+/// How many events, bytes and places there are.
+const COUNTS: &[usize] = &[0, 1, 10_000];
+
 #[test]
-fn inputs_and_stores_of_any_size(rt: HostRuntime) -> Result<(), RecordError> {
-    let alloc = rt.alloc();
-    for count in [0, 1, 10_000] {
-        check_events_left(&rt, alloc, count)?;
-        check_edit(&rt, alloc, count)?;
-        check_batch(&rt, alloc, count)?;
-        check_answer(&rt, alloc, count)?;
-        check_store(&rt, alloc, count)?;
+fn inputs_and_stores_of_any_size(rt: HostRuntime) {
+    for count in COUNTS {
+        check_events_left(&rt, rt.alloc(), *count);
+        check_edit(&rt, rt.alloc(), *count);
+        check_batch(&rt, rt.alloc(), *count);
+        check_answer(&rt, rt.alloc(), *count);
+        check_store(&rt, rt.alloc(), *count);
     }
-    Ok(())
 }
 
 // ---- calls that take no memory
@@ -96,13 +89,9 @@ fn check_events(rt: &impl Abort) {
         modifiers: KeyModifiers::SHIFT,
     };
     let click = Event::Click { row: 4, column: 3 };
-    for (told, event) in [
-        (TerminalEvent::Key(key), Event::QuitCancel),
-        (TerminalEvent::Mouse(mouse), click),
-        (TerminalEvent::Other, Event::None),
-    ] {
-        check_equal(rt, Event::from(told), event);
-    }
+    check_equal(rt, Event::from(TerminalEvent::Key(key)), Event::QuitCancel);
+    check_equal(rt, Event::from(TerminalEvent::Mouse(mouse)), click);
+    check_equal(rt, Event::from(TerminalEvent::Other), Event::None);
 }
 
 /// Checks the calls on inputs and stores.
@@ -136,11 +125,7 @@ fn refused_memory_stops_no_call_that_takes_none(rt: HostRuntime) -> Result<(), R
     let (input, script, mut screens) = recording(alloc)?;
     check_recording(&rt, &input, &script, &screens);
     let shot = screens.place()?;
-    assert!(rt; matches!(shot.event(), Event::TakeScreenshot(taken) if taken == shot));
-    check_equal(
-        &rt,
-        screens.text(shot),
-        "<this screenshot was never assigned>",
-    );
+    check_equal(&rt, shot.event(), Event::TakeScreenshot(shot));
+    check_equal(&rt, screens.text(shot), ABSENT);
     Ok(())
 }

@@ -2,13 +2,14 @@
 ghost use Rattle.std.specs.Prelude.{◌≡◌};
 ghost use Rattle.scm_layout.specs.Layouts.{layout_of};
 
-use crate::checks::check_equal;
+use crate::checks::{check_equal, made};
 use crate::samples::small_state;
 use scm_layout::row_search::file_on;
 use scm_layout::{FileCounts, FileRows, Layout, SectionCounts};
 use scm_selection::key_lists::{all_keys, file_key, line_key, section_key};
 use scm_selection::key_set::{KeySet, key_set_of};
-use scm_types::{Items, RecordError, RecordState};
+use scm_types::{Items, RecordState};
+use std::alloc::Global;
 use std::process::Abort;
 
 /// Returns the counts of the only file.
@@ -58,11 +59,11 @@ fn check_counts(rt: &impl Abort, layout: &Layout) {
 }
 
 #[test]
-fn toggles_keep_counts(rt: HostRuntime) -> Result<(), RecordError> {
+fn toggles_keep_counts(rt: HostRuntime) {
     let alloc = rt.alloc();
-    let mut state = small_state(alloc)?;
+    let mut state = made(&rt, small_state(alloc));
     assert!(rt; state.is_accepted());
-    let mut layout = Layout::new(alloc, &state, &KeySet::new(alloc))?;
+    let mut layout = made(&rt, Layout::new(alloc, &state, &KeySet::new(alloc)));
     check_counts(&rt, &layout);
     // the deletion is unchecked with the removed line
     layout.toggle_key(&mut state, line_key(0, 1, 0));
@@ -80,7 +81,6 @@ fn toggles_keep_counts(rt: HostRuntime) -> Result<(), RecordError> {
     check_marks(&rt, &layout, 3, 2, 1);
     layout.set_all(&mut state);
     check_marks(&rt, &layout, 0, 0, 0);
-    Ok(())
 }
 
 /// Checks that the file has the rows `top..end`, that `folded` of its sections are folded, and that
@@ -121,30 +121,34 @@ fn check_file(
     check_rows(rt, &files[0], top, end, folded, ends);
 }
 
+/// Returns the keys of `state`, all unfolded.
+fn all_unfolded(rt: &impl Abort, alloc: Global, state: &RecordState<'_>) -> KeySet {
+    let keys = made(rt, all_keys(alloc, state.files.as_slice()));
+    made(rt, key_set_of(alloc, &keys))
+}
+
 #[test]
-fn folds_keep_rows(rt: HostRuntime) -> Result<(), RecordError> {
+fn folds_keep_rows(rt: HostRuntime) {
     let alloc = rt.alloc();
-    let mut state = small_state(alloc)?;
+    let mut state = made(&rt, small_state(alloc));
     assert!(rt; state.is_accepted());
     let mut expanded = KeySet::new(alloc);
-    let mut layout = Layout::new(alloc, &state, &expanded)?;
+    let mut layout = made(&rt, Layout::new(alloc, &state, &expanded));
     check_file(&rt, &layout, 4, 5, 1, [0, 1, 2, 2]);
-    layout.flip(&state, &mut expanded, file_key(0))?;
+    made(&rt, layout.flip(&state, &mut expanded, file_key(0)));
     check_file(&rt, &layout, 4, 7, 1, [0, 1, 2, 2]);
-    layout.unfold(&state, &mut expanded, section_key(0, 1))?;
+    made(&rt, layout.unfold(&state, &mut expanded, section_key(0, 1)));
     check_file(&rt, &layout, 4, 11, 0, [2, 5, 6, 6]);
-    layout.unfold(&state, &mut expanded, section_key(0, 1))?;
+    made(&rt, layout.unfold(&state, &mut expanded, section_key(0, 1)));
     check_file(&rt, &layout, 4, 11, 0, [2, 5, 6, 6]);
     layout.fold(&state, &mut expanded, section_key(0, 1));
     check_file(&rt, &layout, 4, 7, 1, [0, 1, 2, 2]);
-    let keys = all_keys(alloc, state.files.as_slice())?;
-    expanded = key_set_of(alloc, &keys)?;
-    layout.refold(&state, &expanded);
+    let unfolded = all_unfolded(&rt, alloc, &state);
+    layout.refold(&state, &unfolded);
     check_file(&rt, &layout, 4, 12, 0, [2, 5, 6, 7]);
     state.commits = Items::new(alloc);
     layout.restack(&state);
     check_file(&rt, &layout, 1, 9, 0, [2, 5, 6, 7]);
-    Ok(())
 }
 
 /// Returns the index of the file of `layout` that has row `row`, if any.
@@ -154,16 +158,17 @@ fn file_at(layout: &Layout, state: &RecordState<'static>, set: &KeySet, row: usi
     file_on(layout.rows.files.as_slice(), row)
 }
 
+/// Rows, and the index of the file that has them.
+const FOUND: &[(usize, Option<usize>)] = &[(3, None), (4, Some(0)), (11, Some(0)), (12, None)];
+
 #[test]
-fn rows_are_found(rt: HostRuntime) -> Result<(), RecordError> {
+fn rows_are_found(rt: HostRuntime) {
     let alloc = rt.alloc();
-    let state = small_state(alloc)?;
+    let state = made(&rt, small_state(alloc));
     assert!(rt; state.is_accepted());
-    let keys = all_keys(alloc, state.files.as_slice())?;
-    let expanded = key_set_of(alloc, &keys)?;
-    let layout = Layout::new(alloc, &state, &expanded)?;
-    for (row, found) in [(3, None), (4, Some(0)), (11, Some(0)), (12, None)] {
-        check_equal(&rt, file_at(&layout, &state, &expanded, row), found);
+    let expanded = all_unfolded(&rt, alloc, &state);
+    let layout = made(&rt, Layout::new(alloc, &state, &expanded));
+    for (row, found) in FOUND {
+        check_equal(&rt, file_at(&layout, &state, &expanded, *row), *found);
     }
-    Ok(())
 }

@@ -1,10 +1,10 @@
 //! Tables of merges with markers around what is open, in the style `diff3` of git.
-use crate::merge_table::mark;
-use scm_merge::{Labels, bytes_with_markers, merged_file};
-use scm_types::{FileMode, Text};
-use std::alloc::{AllocError, Global};
+use crate::checks::check_bytes;
+use crate::merge_table::merge_of;
+use crate::sides::mark;
+use scm_merge::{Labels, bytes_with_markers};
+use std::alloc::Global;
 use std::process::Abort;
-use std::test::Fail;
 
 /// The base, ours and theirs, the marks of the items as bits, the lowest one first, and the merge.
 type Marked = (
@@ -100,90 +100,96 @@ const MERGES: &[Marked] = &[
     ),
 ];
 
+/// The labels of the merges.
+const LABELS: Labels<'static> = Labels {
+    ours: "main",
+    base: "old",
+    theirs: "topic",
+};
+
 /// Checks the merge with markers.
-fn check_markers(rt: &impl Abort, alloc: Global, merge: Marked) -> Result<(), AllocError> {
-    let mode = FileMode::Unix(0o100644);
-    let mut file = merged_file(alloc, Text::from("f"), mode, merge.0, merge.1, merge.2)?;
-    mark(&mut file, merge.3);
-    let labels = Labels {
-        ours: "main",
-        base: "old",
-        theirs: "topic",
-    };
-    let bytes = bytes_with_markers(alloc, &file, labels, USUAL)?;
-    assert!(rt; bytes.as_slice() == merge.4.as_bytes());
-    Ok(())
+fn check_markers(rt: &impl Abort, alloc: Global, row: Marked) {
+    let mut file = merge_of(rt, alloc, row.0, row.1, row.2);
+    mark(&mut file, row.3);
+    let found = bytes_with_markers(alloc, &file, LABELS, USUAL);
+    check_bytes(rt, found, row.4.as_bytes());
 }
 
 #[test]
-fn open_conflicts_have_markers(rt: HostRuntime) -> Result<(), Fail> {
-    for merge in MERGES {
-        check_markers(&rt, rt.alloc(), *merge)?;
+fn open_conflicts_have_markers(rt: HostRuntime) {
+    for row in MERGES {
+        check_markers(&rt, rt.alloc(), *row);
     }
-    Ok(())
 }
+
+/// Labels, of which two have a line end.
+const OF_LINES: Labels<'static> = Labels {
+    ours: "a\nb",
+    base: "",
+    theirs: "a\rb",
+};
 
 #[test]
-fn labels_with_a_line_end_are_left_out(rt: HostRuntime) -> Result<(), Fail> {
-    let alloc = rt.alloc();
-    let mode = FileMode::Unix(0o100644);
-    let file = merged_file(alloc, Text::from("f"), mode, "b\n", "x\n", "y\n")?;
-    let labels = Labels {
-        ours: "a\nb",
-        base: "",
-        theirs: "a\rb",
-    };
-    let bytes = bytes_with_markers(alloc, &file, labels, USUAL)?;
-    let wanted = b"<<<<<<<\nx\n|||||||\nb\n=======\ny\n>>>>>>>\n";
-    assert!(rt; bytes.as_slice() == wanted.as_slice());
-    Ok(())
+fn labels_with_a_line_end_are_left_out(rt: HostRuntime) {
+    let file = merge_of(&rt, rt.alloc(), "b\n", "x\n", "y\n");
+    let found = bytes_with_markers(rt.alloc(), &file, OF_LINES, USUAL);
+    check_bytes(&rt, found, b"<<<<<<<\nx\n|||||||\nb\n=======\ny\n>>>>>>>\n");
 }
 
-/// A length that is asked for, a line of both sides, and the markers around their last lines.
-type Long = (usize, &'static str, &'static str);
+/// A length that is asked for, the base, which is also the beginning of ours and of theirs, ours and
+/// theirs, and the markers around their last lines.
+type Long = (
+    usize,
+    &'static str,
+    &'static str,
+    &'static str,
+    &'static str,
+);
 
 const LENGTHS: &[Long] = &[
-    (7, "a\n", "a\n<<<<<<<\nx\n|||||||\n=======\ny\n>>>>>>>\n"),
+    (
+        7,
+        "a\n",
+        "a\nx\n",
+        "a\ny\n",
+        "a\n<<<<<<<\nx\n|||||||\n=======\ny\n>>>>>>>\n",
+    ),
     (
         10,
         "a\n",
+        "a\nx\n",
+        "a\ny\n",
         "a\n<<<<<<<<<<\nx\n||||||||||\n==========\ny\n>>>>>>>>>>\n",
     ),
     // a line that begins so makes them longer than what is asked for
-    (3, ">>>>\n", ">>>>\n<<<<<\nx\n|||||\n=====\ny\n>>>>>\n"),
-    (1, "a\n", "a\n<\nx\n|\n=\ny\n>\n"),
-    (0, "a\n", "a\n<\nx\n|\n=\ny\n>\n"),
+    (
+        3,
+        ">>>>\n",
+        ">>>>\nx\n",
+        ">>>>\ny\n",
+        ">>>>\n<<<<<\nx\n|||||\n=====\ny\n>>>>>\n",
+    ),
+    (1, "a\n", "a\nx\n", "a\ny\n", "a\n<\nx\n|\n=\ny\n>\n"),
+    (0, "a\n", "a\nx\n", "a\ny\n", "a\n<\nx\n|\n=\ny\n>\n"),
 ];
 
+/// No labels.
+const NO_LABELS: Labels<'static> = Labels {
+    ours: "",
+    base: "",
+    theirs: "",
+};
+
 /// Checks the merge with markers of a length.
-fn check_length(rt: &impl Abort, alloc: Global, row: Long) -> Result<(), AllocError> {
-    let mode = FileMode::Unix(0o100644);
-    let mut ours = String::from_str(alloc, row.1)?;
-    ours.push_str("x\n")?;
-    let mut theirs = String::from_str(alloc, row.1)?;
-    theirs.push_str("y\n")?;
-    let file = merged_file(
-        alloc,
-        Text::from("f"),
-        mode,
-        row.1,
-        ours.as_str(),
-        theirs.as_str(),
-    )?;
-    let labels = Labels {
-        ours: "",
-        base: "",
-        theirs: "",
-    };
-    let bytes = bytes_with_markers(alloc, &file, labels, row.0)?;
-    assert!(rt; bytes.as_slice() == row.2.as_bytes());
-    Ok(())
+fn check_length(rt: &impl Abort, alloc: Global, row: Long) {
+    let file = merge_of(rt, alloc, row.1, row.2, row.3);
+    let found = bytes_with_markers(alloc, &file, NO_LABELS, row.0);
+    check_bytes(rt, found, row.4.as_bytes());
 }
 
 #[test]
-fn markers_have_the_length_that_is_asked_for(rt: HostRuntime) -> Result<(), Fail> {
+fn markers_have_the_length_that_is_asked_for(rt: HostRuntime) {
     for row in LENGTHS {
-        check_length(&rt, rt.alloc(), *row)?;
+        check_length(&rt, rt.alloc(), *row);
     }
-    Ok(())
 }

@@ -1,12 +1,14 @@
 //! Tables of texts that are merged.
+use crate::checks::{check_bytes, check_equal, made};
+use crate::sides::mark;
 use scm_diff::{hunks, lines_of};
 use scm_merge::{
     Region, merge_regions, merge_regions_by, merged_bytes, merged_file, open_conflicts,
 };
-use scm_types::{File, FileMode, Section, Text};
+use scm_samples::DEFAULT;
+use scm_types::{File, Text};
 use std::alloc::{AllocError, Global};
 use std::process::Abort;
-use std::test::Fail;
 
 /// The base, ours and theirs, the marks of the items as bits, the lowest one first, how many conflicts
 /// are open, and the merge.
@@ -81,41 +83,40 @@ const MERGES: &[Merge] = &[
     ("a\n", "b\n", "b\n", 0, 0, "b\n"),
 ];
 
-/// Marks the items by the bits of `marks`, the lowest one first.
-pub(crate) fn mark(file: &mut File<'_>, marks: usize) {
-    let mut left = marks;
-    for section in file.sections.iter_mut() {
-        if let Section::Changed { lines } = section {
-            for line in lines.iter_mut() {
-                line.is_checked = left % 2 == 1;
-                left /= 2;
-            }
-        }
-    }
+/// Returns the merge of three texts.
+pub(crate) fn merge_of<'a>(
+    rt: &impl Abort,
+    alloc: Global,
+    base: &'a str,
+    ours: &'a str,
+    theirs: &'a str,
+) -> File<'a> {
+    made(
+        rt,
+        merged_file(alloc, Text::from("f"), DEFAULT, base, ours, theirs),
+    )
 }
 
 /// Checks what the marks of a merge give.
-fn check_merge(rt: &impl Abort, alloc: Global, merge: Merge) -> Result<(), AllocError> {
-    let path = Text::from("f");
-    let mode = FileMode::Unix(0o100644);
-    let mut file = merged_file(alloc, path, mode, merge.0, merge.1, merge.2)?;
-    mark(&mut file, merge.3);
-    let bytes = merged_bytes(alloc, &file)?;
-    assert!(rt; open_conflicts(&file) == merge.4);
-    assert!(rt; bytes.as_slice() == merge.5.as_bytes());
-    Ok(())
+fn check_merge(rt: &impl Abort, alloc: Global, row: Merge) {
+    let mut file = merge_of(rt, alloc, row.0, row.1, row.2);
+    mark(&mut file, row.3);
+    check_equal(rt, open_conflicts(&file), row.4);
+    check_bytes(rt, merged_bytes(alloc, &file), row.5.as_bytes());
 }
 
 #[test]
-fn marks_give_the_merge(rt: HostRuntime) -> Result<(), Fail> {
-    for merge in MERGES {
-        check_merge(&rt, rt.alloc(), *merge)?;
+fn marks_give_the_merge(rt: HostRuntime) {
+    for row in MERGES {
+        check_merge(&rt, rt.alloc(), *row);
     }
-    Ok(())
 }
 
-/// Returns the region with these ends in the base, in ours and in theirs.
-fn region(ends: (usize, usize, usize, usize, usize, usize)) -> Region {
+/// The ends of a region: its start and its end in the base, in ours and in theirs.
+type Ends = (usize, usize, usize, usize, usize, usize);
+
+/// Returns the region with these ends.
+fn region(ends: Ends) -> Region {
     Region {
         base_start: ends.0,
         base_end: ends.1,
@@ -126,52 +127,64 @@ fn region(ends: (usize, usize, usize, usize, usize, usize)) -> Region {
     }
 }
 
-#[test]
-fn changes_that_touch_are_one_region(rt: HostRuntime) -> Result<(), Fail> {
-    let alloc = rt.alloc();
-    let base = lines_of(alloc, "a\nb\nc\nd\n")?;
-    let ours = lines_of(alloc, "a\nx\nc\nd\n")?;
-    let theirs = lines_of(alloc, "a\nb\nd\n")?;
-    let found = merge_regions(alloc, base.as_slice(), ours.as_slice(), theirs.as_slice())?;
-    let wanted = Region {
-        base_start: 1,
-        base_end: 3,
-        ours_start: 1,
-        ours_end: 3,
-        theirs_start: 1,
-        theirs_end: 2,
-    };
-    assert!(rt; found.as_slice() == [wanted].as_slice());
-    Ok(())
+/// Checks that `found` are the regions with the ends `wanted`.
+fn check_regions(rt: &impl Abort, found: Result<Vec<Region>, AllocError>, wanted: &[Ends]) {
+    let found = made(rt, found);
+    check_equal(rt, found.len(), wanted.len());
+    for (found, ends) in found.iter().zip(wanted) {
+        check_equal(rt, *found, region(*ends));
+    }
+}
+
+/// The lines of the base.
+const BASE: &str = "a\nb\nc\nd\n";
+
+/// The lines of ours: line 1 is changed.
+const OURS: &str = "a\nx\nc\nd\n";
+
+/// Checks the region of ours, in which line 1 is changed, and of theirs, in which line 2 is deleted.
+fn check_touching(rt: &impl Abort, alloc: Global, base: &[Text<'_>], ours: &[Text<'_>]) {
+    let theirs = made(rt, lines_of(alloc, "a\nb\nd\n"));
+    let found = merge_regions(alloc, base, ours, theirs.as_slice());
+    check_regions(rt, found, &[(1, 3, 1, 3, 1, 2)]);
 }
 
 #[test]
-fn the_same_hunks_make_the_exchanged_regions(rt: HostRuntime) -> Result<(), Fail> {
+fn changes_that_touch_are_one_region(rt: HostRuntime) {
     let alloc = rt.alloc();
-    let base = lines_of(alloc, "a\nb\nc\nd\n")?;
-    let ours = lines_of(alloc, "a\nx\nc\nd\n")?;
-    let theirs = lines_of(alloc, "a\nb\nc\ny\nz\n")?;
-    let our_hunks = hunks(alloc, base.as_slice(), ours.as_slice())?;
-    let their_hunks = hunks(alloc, base.as_slice(), theirs.as_slice())?;
-    let found = merge_regions_by(
-        alloc,
-        base.as_slice(),
-        ours.as_slice(),
-        theirs.as_slice(),
-        our_hunks.as_slice(),
-        their_hunks.as_slice(),
-    )?;
-    let exchanged = merge_regions_by(
-        alloc,
-        base.as_slice(),
-        theirs.as_slice(),
-        ours.as_slice(),
-        their_hunks.as_slice(),
-        our_hunks.as_slice(),
-    )?;
-    // line 1 of ours alone, and then line 3 of theirs alone, which became two lines
-    let first = (1, 2, 1, 2, 1, 2);
-    assert!(rt; found.as_slice() == [region(first), region((3, 4, 3, 4, 3, 5))].as_slice());
-    assert!(rt; exchanged.as_slice() == [region(first), region((3, 4, 3, 5, 3, 4))].as_slice());
-    Ok(())
+    let base = made(&rt, lines_of(alloc, BASE));
+    let ours = made(&rt, lines_of(alloc, OURS));
+    check_touching(&rt, alloc, base.as_slice(), ours.as_slice());
+}
+
+/// Checks the regions of three versions, and of the same with both sides exchanged, all by the same hunks.
+/// Line 1 of ours was changed alone, and then line 3 of theirs alone, which became two lines.
+fn check_exchanged(
+    rt: &impl Abort,
+    alloc: Global,
+    base: &[Text<'_>],
+    ours: &[Text<'_>],
+    theirs: &[Text<'_>],
+) {
+    let our_hunks = made(rt, hunks(alloc, base, ours));
+    let their_hunks = made(rt, hunks(alloc, base, theirs));
+    let (of_ours, of_theirs) = (our_hunks.as_slice(), their_hunks.as_slice());
+    let found = merge_regions_by(alloc, base, ours, theirs, of_ours, of_theirs);
+    check_regions(rt, found, &[(1, 2, 1, 2, 1, 2), (3, 4, 3, 4, 3, 5)]);
+    let exchanged = merge_regions_by(alloc, base, theirs, ours, of_theirs, of_ours);
+    check_regions(rt, exchanged, &[(1, 2, 1, 2, 1, 2), (3, 4, 3, 5, 3, 4)]);
+}
+
+/// Checks the regions of `base`, `ours` and theirs, in which line 3 became two lines.
+fn check_apart(rt: &impl Abort, alloc: Global, base: &[Text<'_>], ours: &[Text<'_>]) {
+    let theirs = made(rt, lines_of(alloc, "a\nb\nc\ny\nz\n"));
+    check_exchanged(rt, alloc, base, ours, theirs.as_slice());
+}
+
+#[test]
+fn the_same_hunks_make_the_exchanged_regions(rt: HostRuntime) {
+    let alloc = rt.alloc();
+    let base = made(&rt, lines_of(alloc, BASE));
+    let ours = made(&rt, lines_of(alloc, OURS));
+    check_apart(&rt, alloc, base.as_slice(), ours.as_slice());
 }

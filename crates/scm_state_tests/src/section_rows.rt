@@ -1,10 +1,10 @@
 //! The rule for the rows of a section.
-use crate::checks::check_equal;
+use crate::checks::{check_equal, made};
 use scm_rows::section_heights::{height_of, is_section_open, is_section_visible, shown_height};
 use scm_rows::section_shape::{is_changed, shape_of};
 use scm_rows::{SectionPlace, SectionShape};
 use scm_samples::{ADDED, changed, context};
-use scm_types::{FileMode, RecordError, Section};
+use scm_types::{FileMode, Section};
 use std::process::Abort;
 
 /// Returns the place of section `index` of `total`.
@@ -55,34 +55,50 @@ const MODE: Section<'static> = Section::FileMode {
     mode: FileMode::Absent,
 };
 
+/// Returns whether `shape` is that of two lines of context.
+fn is_context(shape: SectionShape) -> bool {
+    matches!(shape, SectionShape::Context { lines: 2 })
+}
+
 /// Checks the rows of two lines of context.
 fn check_context(rt: &impl Abort, lines: &Section<'_>) {
-    assert!(rt; matches!(shape_of(lines), SectionShape::Context { lines: 2 }));
-    assert!(rt; !is_section_open(true, lines));
-    assert!(rt; is_section_visible(false, lines, true));
-    assert!(rt; !is_section_visible(false, lines, false));
+    check_equal(rt, is_context(shape_of(lines)), true);
+    check_equal(rt, is_section_open(true, lines), false);
+    check_equal(rt, is_section_visible(false, lines, true), true);
+    check_equal(rt, is_section_visible(false, lines, false), false);
+}
+
+/// Returns whether `shape` is that of a mode or a binary change.
+fn is_mark(shape: SectionShape) -> bool {
+    matches!(shape, SectionShape::Mark)
 }
 
 /// Checks the row of a mode change.
 fn check_mode(rt: &impl Abort, mode: &Section<'_>) {
-    assert!(rt; matches!(shape_of(mode), SectionShape::Mark));
-    assert!(rt; !is_changed(mode));
-    assert!(rt; is_section_visible(false, mode, false));
+    check_equal(rt, is_mark(shape_of(mode)), true);
+    check_equal(rt, is_changed(mode), false);
+    check_equal(rt, is_section_visible(false, mode, false), true);
     check_equal(rt, height_of(place(3, 1), true, mode), 1);
     check_equal(rt, shown_height(place(3, 1), true, false, mode, false), 1);
 }
 
+/// Returns whether `shape` is that of changed lines.
+fn is_lines(shape: SectionShape) -> bool {
+    matches!(shape, SectionShape::Changed)
+}
+
 /// Checks the rows of changes.
 fn check_changes(rt: &impl Abort, changes: &Section<'_>) {
-    assert!(rt; matches!(shape_of(changes), SectionShape::Changed));
-    assert!(rt; is_changed(changes));
-    assert!(rt; is_section_open(true, changes));
+    check_equal(rt, is_lines(shape_of(changes)), true);
+    check_equal(rt, is_changed(changes), true);
+    check_equal(rt, is_section_open(true, changes), true);
 }
 
 #[test]
-fn sections_are_shown_by_neighbours(rt: HostRuntime) -> Result<(), RecordError> {
-    check_context(&rt, &context(rt.alloc(), &["a\n", "b\n"])?);
-    check_changes(&rt, &changed(rt.alloc(), &[(false, ADDED, "c\n")])?);
+fn sections_are_shown_by_neighbours(rt: HostRuntime) {
+    let lines = made(&rt, context(rt.alloc(), &["a\n", "b\n"]));
+    check_context(&rt, &lines);
+    let changes = made(&rt, changed(rt.alloc(), &[(false, ADDED, "c\n")]));
+    check_changes(&rt, &changes);
     check_mode(&rt, &MODE);
-    Ok(())
 }

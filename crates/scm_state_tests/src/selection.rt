@@ -1,6 +1,6 @@
 //! Lists and sets of keys, moves among them, toggles and counts, mostly on a file with one section
 //! of two lines.
-use crate::checks::check_equal;
+use crate::checks::{check_equal, made};
 use scm_samples::{ADDED, Held, commits_of, file_holding, file_with};
 use scm_selection::key_lists::{
     all_keys, file_key, first_key, line_key, section_key, section_keys,
@@ -16,15 +16,16 @@ use scm_types::{
 use std::alloc::Global;
 use std::process::Abort;
 
-/// Returns one file: a line of context and a section of two unchecked lines.
-fn samples(alloc: Global) -> Result<Items<File<'static>>, RecordError> {
-    let mut files = Items::new(alloc);
-    files.push(file_with(
-        alloc,
-        &["a\n"],
-        &[(false, ADDED, "b\n"), (false, ADDED, "c\n")],
-    )?)?;
-    Ok(files)
+/// Returns a file of a line of context and a section of two unchecked lines.
+fn sample_file(rt: &impl Abort, alloc: Global) -> File<'static> {
+    let lines = [(false, ADDED, "b\n"), (false, ADDED, "c\n")];
+    made(rt, file_with(alloc, &["a\n"], &lines))
+}
+
+/// Returns one file: that of `sample_file`.
+fn samples(rt: &impl Abort, alloc: Global) -> Items<File<'static>> {
+    let file = sample_file(rt, alloc);
+    Items::from(made(rt, vec![in alloc; file]))
 }
 
 /// A key of the first commit, as a constant.
@@ -67,16 +68,12 @@ fn check_keys(rt: &impl Abort, found: &[SelectionKey], wanted: &[Key]) {
 }
 
 /// Checks the lists of the keys of `files`.
-fn check_lists(rt: &impl Abort, alloc: Global, files: &[File<'_>]) -> Result<(), RecordError> {
-    check_keys(rt, all_keys(alloc, files)?.as_slice(), SAMPLE_KEYS);
-    check_keys(
-        rt,
-        section_keys(alloc, files)?.as_slice(),
-        &[Key::Section(0, 1)],
-    );
+fn check_lists(rt: &impl Abort, alloc: Global, files: &[File<'_>]) {
+    check_keys(rt, made(rt, all_keys(alloc, files)).as_slice(), SAMPLE_KEYS);
+    let sections = made(rt, section_keys(alloc, files));
+    check_keys(rt, sections.as_slice(), &[Key::Section(0, 1)]);
     check_equal(rt, first_key(files), file_key(0));
     check_equal(rt, first_key(&[]), SelectionKey::None);
-    Ok(())
 }
 
 /// A section.
@@ -95,136 +92,118 @@ const LINE: LineKey = LineKey {
 };
 
 #[test]
-fn lists_of_keys(rt: HostRuntime) -> Result<(), RecordError> {
+fn lists_of_keys(rt: HostRuntime) {
     check_equal(&rt, SECTION.line(4), LINE);
-    check_lists(&rt, rt.alloc(), samples(rt.alloc())?.as_slice())
+    let files = samples(&rt, rt.alloc());
+    check_lists(&rt, rt.alloc(), files.as_slice());
 }
 
 /// Checks that `set` has the keys `wanted` and no others.
-fn check_set(
-    rt: &impl Abort,
-    alloc: Global,
-    set: &KeySet,
-    wanted: &[SelectionKey],
-) -> Result<(), RecordError> {
-    assert!(rt; set.is_same(&key_set_of(alloc, wanted)?));
-    Ok(())
+fn check_set(rt: &impl Abort, alloc: Global, set: &KeySet, wanted: &[SelectionKey]) {
+    let wanted = made(rt, key_set_of(alloc, wanted));
+    check_equal(rt, set.is_same(&wanted), true);
 }
 
 /// Returns the set of a line and a file.
-fn two_keys(alloc: Global) -> Result<KeySet, RecordError> {
+fn two_keys(rt: &impl Abort, alloc: Global) -> KeySet {
     let mut set = KeySet::new(alloc);
-    set.insert(line_key(0, 1, 0))?;
-    set.insert(file_key(0))?;
-    Ok(set)
+    made(rt, set.insert(line_key(0, 1, 0)));
+    made(rt, set.insert(file_key(0)));
+    set
 }
 
 /// Leaves the section of the file alone in the set of `two_keys`.
-fn change_keys(set: &mut KeySet) -> Result<(), RecordError> {
-    set.flip(section_key(0, 1))?;
-    set.flip(file_key(0))?;
+fn change_keys(rt: &impl Abort, set: &mut KeySet) {
+    made(rt, set.flip(section_key(0, 1)));
+    made(rt, set.flip(file_key(0)));
     set.remove(line_key(0, 1, 0));
-    Ok(())
 }
 
 #[test]
-fn sets_of_keys(rt: HostRuntime) -> Result<(), RecordError> {
-    let mut set = two_keys(rt.alloc())?;
-    assert!(rt; set.contains(file_key(0)) && !set.contains(section_key(0, 1)));
-    check_set(&rt, rt.alloc(), &set, &[file_key(0), line_key(0, 1, 0)])?;
-    change_keys(&mut set)?;
-    check_set(&rt, rt.alloc(), &set, &[section_key(0, 1)])
+fn sets_of_keys(rt: HostRuntime) {
+    let mut set = two_keys(&rt, rt.alloc());
+    let found = (set.contains(file_key(0)), set.contains(section_key(0, 1)));
+    check_equal(&rt, found, (true, false));
+    check_set(&rt, rt.alloc(), &set, &[file_key(0), line_key(0, 1, 0)]);
+    change_keys(&rt, &mut set);
+    check_set(&rt, rt.alloc(), &set, &[section_key(0, 1)]);
 }
 
 /// Checks whether `set` has exactly the keys of all `files` and of all their sections.
-fn check_exact(
-    rt: &impl Abort,
-    alloc: Global,
-    set: &KeySet,
-    files: &[File<'_>],
-    is_exact: bool,
-) -> Result<(), RecordError> {
-    check_equal(rt, set.has_exactly_files(alloc, files)?, is_exact);
-    Ok(())
+fn check_exact(rt: &impl Abort, alloc: Global, set: &KeySet, files: &[File<'_>], is_exact: bool) {
+    let found = made(rt, set.has_exactly_files(alloc, files));
+    check_equal(rt, found, is_exact);
 }
 
 /// Checks the set of the keys of all sections of `files`.
-fn check_sections(
-    rt: &impl Abort,
-    alloc: Global,
-    set: &KeySet,
-    files: &[File<'_>],
-) -> Result<(), RecordError> {
-    let sections = section_keys(alloc, files)?;
-    check_set(rt, alloc, set, sections.as_slice())
+fn check_sections(rt: &impl Abort, alloc: Global, set: &KeySet, files: &[File<'_>]) {
+    let sections = made(rt, section_keys(alloc, files));
+    check_set(rt, alloc, set, sections.as_slice());
 }
 
 /// Adds the keys of all `files` to the set of the keys of their sections.
-fn add_files(
-    rt: &impl Abort,
-    alloc: Global,
-    set: &mut KeySet,
-    files: &[File<'_>],
-) -> Result<(), RecordError> {
+fn add_files(rt: &impl Abort, alloc: Global, set: &mut KeySet, files: &[File<'_>]) {
     for file in 0..files.len() {
-        check_exact(rt, alloc, set, files, false)?;
-        set.insert(file_key(file))?;
+        check_exact(rt, alloc, set, files, false);
+        made(rt, set.insert(file_key(file)));
     }
-    assert!(rt; set.is_same(&KeySet::of_files(alloc, files)?));
-    check_exact(rt, alloc, set, files, true)
+    let all = made(rt, KeySet::of_files(alloc, files));
+    check_equal(rt, set.is_same(&all), true);
+    check_exact(rt, alloc, set, files, true);
 }
 
 /// Adds a key to the set of all keys of `files` and sections, and removes it and another one.
-fn change_sections(
-    rt: &impl Abort,
-    alloc: Global,
-    set: &mut KeySet,
-    files: &[File<'_>],
-) -> Result<(), RecordError> {
-    set.insert(section_key(1, 0))?;
-    assert!(rt; set.contains(section_key(1, 0)));
-    check_exact(rt, alloc, set, files, false)?;
+fn change_sections(rt: &impl Abort, alloc: Global, set: &mut KeySet, files: &[File<'_>]) {
+    made(rt, set.insert(section_key(1, 0)));
+    check_equal(rt, set.contains(section_key(1, 0)), true);
+    check_exact(rt, alloc, set, files, false);
     set.remove(section_key(1, 0));
     set.remove(section_key(0, 1));
-    assert!(rt; !set.contains(section_key(0, 1)));
-    check_exact(rt, alloc, set, files, false)
+    check_equal(rt, set.contains(section_key(0, 1)), false);
+    check_exact(rt, alloc, set, files, false);
 }
 
 /// Adds the key of a section, and that of one of its lines, to the set of all other keys of `files`
 /// and sections.
-fn add_line(
-    rt: &impl Abort,
-    alloc: Global,
-    set: &mut KeySet,
-    files: &[File<'_>],
-) -> Result<(), RecordError> {
-    set.insert(section_key(0, 1))?;
-    set.insert(line_key(0, 1, 0))?;
-    check_exact(rt, alloc, set, files, false)
+fn add_line(rt: &impl Abort, alloc: Global, set: &mut KeySet, files: &[File<'_>]) {
+    made(rt, set.insert(section_key(0, 1)));
+    made(rt, set.insert(line_key(0, 1, 0)));
+    check_exact(rt, alloc, set, files, false);
 }
 
 /// Checks sets of all keys of `files` and sections.
-fn check_files(rt: &impl Abort, alloc: Global, files: &[File<'_>]) -> Result<(), RecordError> {
-    let mut set = KeySet::of_sections(alloc, files)?;
-    check_sections(rt, alloc, &set, files)?;
-    add_files(rt, alloc, &mut set, files)?;
-    change_sections(rt, alloc, &mut set, files)?;
-    add_line(rt, alloc, &mut set, files)
+fn check_files(rt: &impl Abort, alloc: Global, files: &[File<'_>]) {
+    let mut set = made(rt, KeySet::of_sections(alloc, files));
+    check_sections(rt, alloc, &set, files);
+    add_files(rt, alloc, &mut set, files);
+    change_sections(rt, alloc, &mut set, files);
+    add_line(rt, alloc, &mut set, files);
 }
 
 #[test]
-fn sets_of_all_files_and_sections(rt: HostRuntime) -> Result<(), RecordError> {
-    check_files(&rt, rt.alloc(), several_files(rt.alloc())?.as_slice())
+fn sets_of_all_files_and_sections(rt: HostRuntime) {
+    let files = several_files(&rt, rt.alloc());
+    check_files(&rt, rt.alloc(), files.as_slice());
+}
+
+/// Adds `file` at the end of `files`.
+fn push(
+    rt: &impl Abort,
+    files: &mut Items<File<'static>>,
+    file: Result<File<'static>, RecordError>,
+) {
+    made(rt, files.push(made(rt, file)));
 }
 
 /// Returns four files: that of `samples`, one of context and an empty section, one of context
 /// without a line, and one of context and a section of one line.
-fn several_files(alloc: Global) -> Result<Items<File<'static>>, RecordError> {
-    let mut files = samples(alloc)?;
-    files.push(file_with(alloc, &["d\n"], &[])?)?;
-    files.push(file_holding(alloc, Held::NoContext)?)?;
-    files.push(file_with(alloc, &["e\n"], &[(false, ADDED, "f\n")])?)?;
-    Ok(files)
+fn several_files(rt: &impl Abort, alloc: Global) -> Items<File<'static>> {
+    let mut files = samples(rt, alloc);
+    push(rt, &mut files, file_with(alloc, &["d\n"], &[]));
+    push(rt, &mut files, file_holding(alloc, Held::NoContext));
+    let lines = [(false, ADDED, "f\n")];
+    push(rt, &mut files, file_with(alloc, &["e\n"], &lines));
+    files
 }
 
 /// A move of the selection.
@@ -259,24 +238,19 @@ fn check_moves(
     files: &[File<'_>],
     unfolded: &[SelectionKey],
     moves: &[Moved],
-) -> Result<(), RecordError> {
-    let expanded = key_set_of(alloc, unfolded)?;
+) {
+    let expanded = made(rt, key_set_of(alloc, unfolded));
     for (step, from, to) in moves {
         let found = moved(&expanded, files, *step, key_of(*from));
         check_equal(rt, found, key_of(*to));
     }
-    Ok(())
 }
 
-/// Checks `moves` among `files` with all keys unfolded.
-fn check_unfolded(
-    rt: &impl Abort,
-    alloc: Global,
-    files: &[File<'_>],
-    moves: &[Moved],
-) -> Result<(), RecordError> {
-    let unfolded = all_keys(alloc, files)?;
-    check_moves(rt, alloc, files, unfolded.as_slice(), moves)
+/// Checks `moves` among the files of `several_files` with all keys unfolded.
+fn check_unfolded(rt: &impl Abort, alloc: Global, moves: &[Moved]) {
+    let files = several_files(rt, alloc);
+    let unfolded = made(rt, all_keys(alloc, files.as_slice()));
+    check_moves(rt, alloc, files.as_slice(), unfolded.as_slice(), moves);
 }
 
 /// Moves to the next and to the previous key, all unfolded.
@@ -295,9 +269,8 @@ const NEXT_AND_PREVIOUS: &[Moved] = &[
 ];
 
 #[test]
-fn moves_among_unfolded_keys(rt: HostRuntime) -> Result<(), RecordError> {
-    let files = several_files(rt.alloc())?;
-    check_unfolded(&rt, rt.alloc(), files.as_slice(), NEXT_AND_PREVIOUS)
+fn moves_among_unfolded_keys(rt: HostRuntime) {
+    check_unfolded(&rt, rt.alloc(), NEXT_AND_PREVIOUS);
 }
 
 /// Moves to keys of the same kind, and to the first key inside another, all unfolded.
@@ -317,9 +290,8 @@ const OF_KIND: &[Moved] = &[
 ];
 
 #[test]
-fn moves_to_keys_of_a_kind(rt: HostRuntime) -> Result<(), RecordError> {
-    let files = several_files(rt.alloc())?;
-    check_unfolded(&rt, rt.alloc(), files.as_slice(), OF_KIND)
+fn moves_to_keys_of_a_kind(rt: HostRuntime) {
+    check_unfolded(&rt, rt.alloc(), OF_KIND);
 }
 
 /// Moves with no key unfolded.
@@ -347,16 +319,17 @@ const WITHOUT_FILES: &[Moved] = &[
 ];
 
 /// Checks moves among `files`, some of them folded, and without files.
-fn check_folded(rt: &impl Abort, alloc: Global, files: &[File<'_>]) -> Result<(), RecordError> {
+fn check_folded(rt: &impl Abort, alloc: Global, files: &[File<'_>]) {
     let unfolded = [file_key(0), file_key(3)];
-    check_moves(rt, alloc, files, &[], FOLDED)?;
-    check_moves(rt, alloc, files, &unfolded, PARTLY_FOLDED)?;
-    check_moves(rt, alloc, &[], &[file_key(0)], WITHOUT_FILES)
+    check_moves(rt, alloc, files, &[], FOLDED);
+    check_moves(rt, alloc, files, &unfolded, PARTLY_FOLDED);
+    check_moves(rt, alloc, &[], &[file_key(0)], WITHOUT_FILES);
 }
 
 #[test]
-fn moves_among_folded_keys(rt: HostRuntime) -> Result<(), RecordError> {
-    check_folded(&rt, rt.alloc(), several_files(rt.alloc())?.as_slice())
+fn moves_among_folded_keys(rt: HostRuntime) {
+    let files = several_files(&rt, rt.alloc());
+    check_folded(&rt, rt.alloc(), files.as_slice());
 }
 
 /// Keys, and whether they are visible in the file of `samples`, which is unfolded.
@@ -376,10 +349,10 @@ fn check_visible(rt: &impl Abort, expanded: &KeySet, files: &[File<'_>]) {
 }
 
 #[test]
-fn keys_among_the_visible_ones(rt: HostRuntime) -> Result<(), RecordError> {
-    let expanded = key_set_of(rt.alloc(), &[file_key(0)])?;
-    check_visible(&rt, &expanded, samples(rt.alloc())?.as_slice());
-    Ok(())
+fn keys_among_the_visible_ones(rt: HostRuntime) {
+    let expanded = made(&rt, key_set_of(rt.alloc(), &[file_key(0)]));
+    let files = samples(&rt, rt.alloc());
+    check_visible(&rt, &expanded, files.as_slice());
 }
 
 /// Returns the mark of the first file.
@@ -409,27 +382,25 @@ fn check_toggles(rt: &impl Abort, files: &mut [File<'_>]) {
 }
 
 #[test]
-fn toggles_of_keys(rt: HostRuntime) -> Result<(), RecordError> {
-    let mut files = samples(rt.alloc())?;
+fn toggles_of_keys(rt: HostRuntime) {
+    let mut files = samples(&rt, rt.alloc());
     check_toggles(&rt, files.as_mut_slice());
-    Ok(())
 }
 
 /// Returns a state of `samples`, whose first commit has a message.
-fn sample_state(alloc: Global) -> Result<RecordState<'static>, RecordError> {
-    Ok(RecordState {
+fn sample_state(rt: &impl Abort, alloc: Global) -> RecordState<'static> {
+    RecordState {
         is_read_only: false,
-        commits: commits_of(alloc, "m")?,
-        files: samples(alloc)?,
-    })
+        commits: made(rt, commits_of(alloc, "m")),
+        files: samples(rt, alloc),
+    }
 }
 
 #[test]
-fn counts_of_a_state(rt: HostRuntime) -> Result<(), RecordError> {
-    let mut state = sample_state(rt.alloc())?;
+fn counts_of_a_state(rt: HostRuntime) {
+    let mut state = sample_state(&rt, rt.alloc());
     check_equal(&rt, counts::message_count(&state), 1);
     check_equal(&rt, counts::changed_count(&state), 0);
     toggles::toggle_key(state.files.as_mut_slice(), file_key(0));
     check_equal(&rt, counts::changed_count(&state), 1);
-    Ok(())
 }

@@ -2,7 +2,7 @@
 //! memory the calls that allocate are run, on arguments small and large. The other calls succeed
 //! where requests are refused: `tools/refuse-memory` runs the tests named for refused memory, and
 //! refuses each of their requests in turn.
-use crate::checks::{check_copy, check_equal};
+use crate::checks::{check_copy, check_equal, made};
 use crate::parts::{Part, file_with_parts};
 use crate::types::check_marks;
 use scm_samples::{ADDED, DEFAULT, owned, text_of};
@@ -14,43 +14,36 @@ use std::alloc::Global;
 use std::process::Abort;
 
 /// Describes bytes by `text` and a size of one digit, and checks the length.
-fn check_description(rt: &impl Abort, alloc: Global, text: &str) -> Result<(), RecordError> {
-    let description = make_binary_description(alloc, text, 7)?;
+fn check_description(rt: &impl Abort, alloc: Global, text: &str) {
+    let description = made(rt, make_binary_description(alloc, text, 7));
     check_equal(rt, description.len(), text.len().saturating_add(10));
-    Ok(())
-}
-
-/// Copies `text`, and checks the copies.
-fn check_text(rt: &impl Abort, alloc: Global, text: &Text<'_>) -> Result<(), RecordError> {
-    assert!(rt; text.clone()? == *text);
-    check_copy(rt, text.try_clone(alloc), text)
 }
 
 /// Copies a commit with `message`, and checks the copy.
-fn check_commit(rt: &impl Abort, alloc: Global, message: &str) -> Result<(), RecordError> {
+fn check_commit(rt: &impl Abort, alloc: Global, message: &str) {
     let commit = Commit {
-        message: Some(owned(alloc, message)?),
+        message: Some(made(rt, owned(alloc, message))),
     };
-    check_copy(rt, commit.try_clone(alloc), &commit)
+    check_copy(rt, commit.try_clone(alloc), &commit);
 }
 
 /// Copies a text of `count` bytes, and what contains it.
-fn check_texts(rt: &impl Abort, alloc: Global, count: usize) -> Result<(), RecordError> {
-    let text = Text::from(text_of(alloc, count)?);
-    check_description(rt, alloc, text.as_str())?;
-    check_text(rt, alloc, &text)?;
-    check_commit(rt, alloc, text.as_str())
+fn check_texts(rt: &impl Abort, alloc: Global, count: usize) {
+    let text = Text::from(made(rt, text_of(alloc, count)));
+    check_description(rt, alloc, text.as_str());
+    check_copy(rt, text.clone(), &text);
+    check_copy(rt, text.try_clone(alloc), &text);
+    check_commit(rt, alloc, text.as_str());
 }
 
 /// The numbers of bytes of the texts.
 const COUNTS: &[usize] = &[0, 1, 10_000];
 
 #[test]
-fn texts_of_any_size_are_copied(rt: HostRuntime) -> Result<(), RecordError> {
+fn texts_of_any_size_are_copied(rt: HostRuntime) {
     for count in COUNTS {
-        check_texts(&rt, rt.alloc(), *count)?;
+        check_texts(&rt, rt.alloc(), *count);
     }
-    Ok(())
 }
 
 // ---- calls that take no memory
@@ -90,9 +83,8 @@ fn check_file(rt: &impl Abort, file: &mut File<'_>) {
 
 /// Checks the calls on the files of a state.
 fn check_state(rt: &impl Abort, state: &mut RecordState<'_>) {
-    assert!(rt; state.is_accepted());
     // a file, its four sections, and their three lines
-    check_equal(rt, state.size(), 8);
+    check_equal(rt, (state.is_accepted(), state.size()), (true, 8));
     for file in state.files.iter_mut() {
         check_file(rt, file);
     }
@@ -101,17 +93,18 @@ fn check_state(rt: &impl Abort, state: &mut RecordState<'_>) {
 /// Checks the empty values.
 fn check_empty(rt: &impl Abort, alloc: Global) {
     let empty = RecordState::empty(alloc);
-    assert!(rt; empty.is_accepted() && empty.commits.is_empty() && empty.files.is_empty());
-    check_equal(rt, empty.size(), 0);
-    assert!(rt; Commit::default().message.is_none());
+    check_equal(rt, (empty.is_accepted(), empty.size()), (true, 0));
+    check_equal(rt, empty.commits.is_empty(), true);
+    check_equal(rt, empty.files.is_empty(), true);
+    check_equal(rt, Commit::default().message.is_none(), true);
 }
 
 /// Checks the conversions to modes.
 fn check_modes(rt: &impl Abort) {
     check_equal(rt, FileMode::from(0o100644_usize), DEFAULT);
-    assert!(rt; matches!(FileMode::try_from(0o100644_u32), Ok(mode) if mode == DEFAULT));
-    assert!(rt; matches!(FileMode::try_from(0o100644_i32), Ok(mode) if mode == DEFAULT));
-    assert!(rt; FileMode::try_from(-1_i32).is_err());
+    check_equal(rt, made(rt, FileMode::try_from(0o100644_u32)), DEFAULT);
+    check_equal(rt, made(rt, FileMode::try_from(0o100644_i32)), DEFAULT);
+    check_equal(rt, FileMode::try_from(-1_i32).is_err(), true);
 }
 
 /// Checks the conversions of numbers.
@@ -132,7 +125,8 @@ fn check_state_copy<'a>(
 ) -> Result<(), RecordError> {
     let outcome = state.try_clone(alloc);
     check_equal(rt, state, same);
-    check_copy(rt, outcome, same)
+    check_equal(rt, &outcome?, same);
+    Ok(())
 }
 
 #[test]

@@ -1,5 +1,5 @@
 //! Marks, splits, limits, errors, lists and texts, checked against the project's values.
-use crate::checks::{check_copy, check_equal};
+use crate::checks::{check_copy, check_equal, check_text, made};
 use crate::parts::{Part, file_with_parts};
 use scm_samples::{ADDED, DEFAULT, HELD, Line, REMOVED, file_holding, file_with, owned};
 use scm_types::consts::{DUMP_UI_STATE_FILENAME, ENV_VAR_DEBUG_UI, ENV_VAR_DUMP_UI_STATE};
@@ -12,7 +12,6 @@ use scm_types::{
 use std::alloc::{AllocError, Global};
 use std::borrow::CowStr;
 use std::process::Abort;
-use std::test::Fail;
 
 /// A checked line of a new file.
 const CHECKED: &[Line] = &[(true, ADDED, "n\n")];
@@ -22,12 +21,13 @@ const UNCHECKED: &[Line] = &[(false, ADDED, "n\n")];
 
 /// Returns a new file: `lines`, and its creation.
 fn new_file(
+    rt: &impl Abort,
     alloc: Global,
     lines: &'static [Line],
     is_checked: bool,
-) -> Result<File<'static>, RecordError> {
+) -> File<'static> {
     let parts = [Part::Changes(lines), Part::Mode(is_checked, DEFAULT)];
-    file_with_parts(alloc, FileMode::Absent, &parts)
+    made(rt, file_with_parts(alloc, FileMode::Absent, &parts))
 }
 
 /// Added and removed lines: of each kind one checked and one unchecked.
@@ -39,8 +39,8 @@ const MIXED: &[Line] = &[
 ];
 
 /// Returns a file of a line of context, and the lines of `MIXED`.
-fn mixed_file(alloc: Global) -> Result<File<'static>, RecordError> {
-    file_with(alloc, &["a\n"], MIXED)
+fn mixed_file(rt: &impl Abort, alloc: Global) -> File<'static> {
+    made(rt, file_with(alloc, &["a\n"], MIXED))
 }
 
 /// A checked removed line.
@@ -63,8 +63,9 @@ enum Side {
     Text(&'static str),
 }
 
-fn is_side(changes: &SelectedChanges<'_>, mode: FileMode, side: Side) -> bool {
-    let is_same = match (&changes.contents, side) {
+/// Returns whether `contents` are those of `side`.
+fn is_side(contents: &SelectedContents<'_>, side: Side) -> bool {
+    match (contents, side) {
         (SelectedContents::Unchanged, Side::Unchanged) => true,
         (
             SelectedContents::Binary {
@@ -75,13 +76,13 @@ fn is_side(changes: &SelectedChanges<'_>, mode: FileMode, side: Side) -> bool {
         ) => old.as_str() == "old",
         (SelectedContents::Text { contents }, Side::Text(text)) => contents.as_str() == text,
         _ => false,
-    };
-    is_same && changes.file_mode == mode
+    }
 }
 
 /// Checks that `changes` are the side `expected`.
 fn check_side(rt: &impl Abort, changes: &SelectedChanges<'_>, expected: (FileMode, Side)) {
-    assert!(rt; is_side(changes, expected.0, expected.1));
+    check_equal(rt, changes.file_mode, expected.0);
+    check_equal(rt, is_side(&changes.contents, expected.1), true);
 }
 
 /// Splits `file`, and checks that its sides are `selected` and `unselected`.
@@ -91,22 +92,20 @@ fn check_split(
     file: &File<'_>,
     selected: (FileMode, Side),
     unselected: (FileMode, Side),
-) -> Result<(), RecordError> {
-    let sides = file.get_selected_contents(alloc)?;
+) {
+    let sides = made(rt, file.get_selected_contents(alloc));
     check_side(rt, &sides.0, selected);
     check_side(rt, &sides.1, unselected);
-    Ok(())
 }
 
 #[test]
-fn files_are_split(rt: HostRuntime) -> Result<(), RecordError> {
-    let alloc = rt.alloc();
+fn files_are_split(rt: HostRuntime) {
     let first = (DEFAULT, Side::Text("a\nb\nc\n"));
     let second = (DEFAULT, Side::Text("a\nd\ne\n"));
-    let mut mixed = mixed_file(alloc)?;
-    check_split(&rt, alloc, &mixed, first, second)?;
+    let mut mixed = mixed_file(&rt, rt.alloc());
+    check_split(&rt, rt.alloc(), &mixed, first, second);
     mixed.toggle_all();
-    check_split(&rt, alloc, &mixed, second, first)
+    check_split(&rt, rt.alloc(), &mixed, second, first);
 }
 
 /// The sections of a file with the default mode, and the mode and the contents of its selected and
@@ -114,9 +113,9 @@ fn files_are_split(rt: HostRuntime) -> Result<(), RecordError> {
 type Split = (&'static [Part], (FileMode, Side), (FileMode, Side));
 
 /// Splits the file of `row`, and checks its sides.
-fn check_sides_of(rt: &impl Abort, alloc: Global, row: Split) -> Result<(), RecordError> {
-    let file = file_with_parts(alloc, DEFAULT, row.0)?;
-    check_split(rt, alloc, &file, row.1, row.2)
+fn check_sides_of(rt: &impl Abort, alloc: Global, row: Split) {
+    let file = made(rt, file_with_parts(alloc, DEFAULT, row.0));
+    check_split(rt, alloc, &file, row.1, row.2);
 }
 
 /// Files without their last line, and deleted.
@@ -134,18 +133,17 @@ const REMOVALS: &[Split] = &[
 ];
 
 #[test]
-fn removals_are_split(rt: HostRuntime) -> Result<(), RecordError> {
+fn removals_are_split(rt: HostRuntime) {
     for row in REMOVALS {
-        check_sides_of(&rt, rt.alloc(), *row)?;
+        check_sides_of(&rt, rt.alloc(), *row);
     }
-    Ok(())
 }
 
 #[test]
-fn bytes_are_split(rt: HostRuntime) -> Result<(), RecordError> {
+fn bytes_are_split(rt: HostRuntime) {
     let bytes = (DEFAULT, Side::OldBinary);
     let tail = (DEFAULT, Side::Text("z\n"));
-    check_sides_of(&rt, rt.alloc(), (BYTES, bytes, tail))
+    check_sides_of(&rt, rt.alloc(), (BYTES, bytes, tail));
 }
 
 /// The lines of a new file, the mark of its creation, and the mode and the contents of its selected
@@ -181,17 +179,16 @@ const NEW_FILES: &[NewSplit] = &[
 ];
 
 /// Splits the new file of `row`, and checks its sides.
-fn check_new_file(rt: &impl Abort, alloc: Global, row: NewSplit) -> Result<(), RecordError> {
-    let file = new_file(alloc, row.0, row.1)?;
-    check_split(rt, alloc, &file, row.2, row.3)
+fn check_new_file(rt: &impl Abort, alloc: Global, row: NewSplit) {
+    let file = new_file(rt, alloc, row.0, row.1);
+    check_split(rt, alloc, &file, row.2, row.3);
 }
 
 #[test]
-fn new_files_are_split(rt: HostRuntime) -> Result<(), RecordError> {
+fn new_files_are_split(rt: HostRuntime) {
     for row in NEW_FILES {
-        check_new_file(&rt, rt.alloc(), *row)?;
+        check_new_file(&rt, rt.alloc(), *row);
     }
-    Ok(())
 }
 
 /// Returns the number of bytes of a side's text, or 0 if it is no text.
@@ -202,187 +199,154 @@ fn text_len(contents: &SelectedContents<'_>) -> usize {
     }
 }
 
-/// Splits `file`, and checks that its selected text has `bytes` bytes.
-fn check_selected(
-    rt: &impl Abort,
-    alloc: Global,
-    file: &File<'_>,
-    bytes: usize,
-) -> Result<(), RecordError> {
-    let sides = file.get_selected_contents(alloc)?;
+/// Copies and splits `file`, and checks that its selected text has `bytes` bytes.
+fn check_size(rt: &impl Abort, alloc: Global, file: &File<'_>, bytes: usize) {
+    check_copy(rt, file.try_clone(alloc), file);
+    let sides = made(rt, file.get_selected_contents(alloc));
     check_equal(rt, text_len(&sides.0.contents), bytes);
-    Ok(())
 }
 
-/// Copies and splits a file of context `texts` and changed `lines`, and checks that its selected
-/// text has `bytes` bytes.
-fn check_size(
-    rt: &impl Abort,
-    alloc: Global,
-    texts: &[&'static str],
-    lines: &[Line],
-    bytes: usize,
-) -> Result<(), RecordError> {
-    let file = file_with(alloc, texts, lines)?;
-    check_copy(rt, file.try_clone(alloc), &file)?;
-    check_selected(rt, alloc, &file, bytes)
+/// How many lines of context and how many added lines a file has, and how many bytes its selected text.
+const COUNTS: &[(usize, usize)] = &[(0, 0), (1, 4), (10_000, 40_000)];
+
+/// Copies and splits a file of `count` lines of context and `count` checked added lines.
+fn check_count(rt: &impl Abort, alloc: Global, count: usize, bytes: usize) {
+    let texts = made(rt, vec![in alloc; "a\n"; count]);
+    let lines = made(rt, vec![in alloc; (true, ADDED, "b\n"); count]);
+    let file = made(rt, file_with(alloc, texts.as_slice(), lines.as_slice()));
+    check_size(rt, alloc, &file, bytes);
 }
 
 #[test]
-fn files_of_any_size_are_copied_and_split(rt: HostRuntime) -> Result<(), RecordError> {
-    let alloc = rt.alloc();
-    let (text, line) = ("a\n", (true, ADDED, "b\n"));
-    let mut texts = Vec::new(alloc);
-    let mut lines = Vec::new(alloc);
-    for _ in 0..10_000 {
-        texts.push(text)?;
-        lines.push(line)?;
+fn files_of_any_size_are_copied_and_split(rt: HostRuntime) {
+    for (count, bytes) in COUNTS {
+        check_count(&rt, rt.alloc(), *count, *bytes);
     }
-    check_size(&rt, alloc, &[], &[], 0)?;
-    check_size(&rt, alloc, &[text], &[line], 4)?;
-    check_size(&rt, alloc, texts.as_slice(), lines.as_slice(), 40_000)
 }
 
-/// Checks that the contents of `sides` are those of `toggled`, in the other order.
+/// Checks that the contents of `toggled` are those of `sides`, in the other order.
 fn check_swapped(
     rt: &impl Abort,
-    alloc: Global,
     sides: &(SelectedChanges<'_>, SelectedChanges<'_>),
-    toggled: &File<'_>,
-) -> Result<(), RecordError> {
-    let swapped = toggled.get_selected_contents(alloc)?;
-    check_equal(rt, &swapped.0.contents, &sides.1.contents);
-    check_equal(rt, &swapped.1.contents, &sides.0.contents);
-    Ok(())
+    toggled: &(SelectedChanges<'_>, SelectedChanges<'_>),
+) {
+    check_equal(rt, &toggled.0.contents, &sides.1.contents);
+    check_equal(rt, &toggled.1.contents, &sides.0.contents);
 }
 
 /// Checks that toggling swapped the contents of the two sides.
-fn check_places(
-    rt: &impl Abort,
-    alloc: Global,
-    file: &File<'_>,
-    toggled: &File<'_>,
-) -> Result<(), RecordError> {
-    let sides = file.get_selected_contents(alloc)?;
-    check_swapped(rt, alloc, &sides, toggled)
+fn check_places(rt: &impl Abort, alloc: Global, file: &File<'_>, toggled: &File<'_>) {
+    let sides = made(rt, file.get_selected_contents(alloc));
+    let swapped = made(rt, toggled.get_selected_contents(alloc));
+    check_swapped(rt, &sides, &swapped);
 }
 
 /// Toggles a copy of `file` twice. The first toggle swaps the sides, and the second restores the
 /// file.
-fn check_toggles(rt: &impl Abort, alloc: Global, file: &File<'_>) -> Result<(), RecordError> {
-    let mut toggled = file.try_clone(alloc)?;
+fn check_toggles(rt: &impl Abort, alloc: Global, file: &File<'_>) {
+    let mut toggled = made(rt, file.try_clone(alloc));
     toggled.toggle_all();
-    check_places(rt, alloc, file, &toggled)?;
+    check_places(rt, alloc, file, &toggled);
     toggled.toggle_all();
     check_equal(rt, &toggled, file);
-    Ok(())
 }
 
 #[test]
-fn laws_of_toggles_hold(rt: HostRuntime) -> Result<(), RecordError> {
-    let file = mixed_file(rt.alloc())?;
+fn laws_of_toggles_hold(rt: HostRuntime) {
+    let file = mixed_file(&rt, rt.alloc());
     laws::toggle_twice(&file);
     laws::toggle_swaps(&file);
     laws::split_keeps_lines(&file);
-    check_toggles(&rt, rt.alloc(), &file)
+    check_toggles(&rt, rt.alloc(), &file);
 }
 
 #[test]
 fn the_empty_state_has_nothing(rt: HostRuntime) {
     let state = RecordState::empty(rt.alloc());
-    assert!(rt; !state.is_read_only);
-    assert!(rt; state.commits.is_empty());
-    assert!(rt; state.files.is_empty());
+    let counts = (state.commits.len(), state.files.len());
+    check_equal(&rt, (state.is_read_only, counts), (false, (0, 0)));
 }
 
 /// Returns a state of a new file.
-fn new_state(alloc: Global) -> Result<RecordState<'static>, RecordError> {
+fn new_state(rt: &impl Abort, alloc: Global) -> RecordState<'static> {
     let mut state = RecordState::empty(alloc);
-    state.files.push(new_file(alloc, UNCHECKED, false)?)?;
-    Ok(state)
+    made(rt, state.files.push(new_file(rt, alloc, UNCHECKED, false)));
+    state
 }
 
 #[test]
-fn copies_of_a_state_equal_it(rt: HostRuntime) -> Result<(), RecordError> {
-    let state = new_state(rt.alloc())?;
-    check_copy(&rt, state.try_clone(rt.alloc()), &state)
+fn copies_of_a_state_equal_it(rt: HostRuntime) {
+    let state = new_state(&rt, rt.alloc());
+    check_copy(&rt, state.try_clone(rt.alloc()), &state);
 }
 
 /// Checks that copies of `sections` equal them.
-fn check_sections(
-    rt: &impl Abort,
-    alloc: Global,
-    sections: &[Section<'_>],
-) -> Result<(), RecordError> {
+fn check_sections(rt: &impl Abort, alloc: Global, sections: &[Section<'_>]) {
     for section in sections {
-        check_copy(rt, section.try_clone(alloc), section)?;
+        check_copy(rt, section.try_clone(alloc), section);
     }
-    Ok(())
 }
 
 #[test]
-fn copies_of_files_equal_them(rt: HostRuntime) -> Result<(), RecordError> {
-    let alloc = rt.alloc();
-    let file = new_file(alloc, UNCHECKED, false)?;
-    check_copy(&rt, file.try_clone(alloc), &file)?;
-    check_sections(&rt, alloc, file.sections.as_slice())
+fn copies_of_files_equal_them(rt: HostRuntime) {
+    let file = new_file(&rt, rt.alloc(), UNCHECKED, false);
+    check_copy(&rt, file.try_clone(rt.alloc()), &file);
+    check_sections(&rt, rt.alloc(), file.sections.as_slice());
+}
+
+/// Checks that a copy of `texts` equals it.
+fn check_list(rt: &impl Abort, alloc: Global, texts: &Items<Text<'static>>) {
+    check_copy(rt, texts.try_clone(alloc), texts);
 }
 
 #[test]
-fn copies_of_lists_equal_them(rt: HostRuntime) -> Result<(), RecordError> {
-    let alloc = rt.alloc();
-    let mut texts: Items<Text<'static>> = Items::new(alloc);
-    check_equal(&rt, texts.try_clone(alloc)?.len(), 0);
-    texts.extend([Text::from("a\n"), Text::from("")])?;
-    check_copy(&rt, texts.try_clone(alloc), &texts)
+fn copies_of_lists_equal_them(rt: HostRuntime) {
+    let mut texts: Items<Text<'static>> = Items::new(rt.alloc());
+    check_list(&rt, rt.alloc(), &texts);
+    made(&rt, texts.extend([Text::from("a\n"), Text::from("")]));
+    check_list(&rt, rt.alloc(), &texts);
 }
 
 #[test]
-fn copies_of_lines_equal_them(rt: HostRuntime) -> Result<(), RecordError> {
+fn copies_of_lines_equal_them(rt: HostRuntime) {
     let line = SectionChangedLine {
         is_checked: false,
         change_type: ADDED,
         line: Text::from("n\n"),
     };
-    check_copy(&rt, line.try_clone(rt.alloc()), &line)
+    check_copy(&rt, line.try_clone(rt.alloc()), &line);
 }
 
 #[test]
-fn copies_of_commits_equal_them(rt: HostRuntime) -> Result<(), RecordError> {
-    let alloc = rt.alloc();
+fn copies_of_commits_equal_them(rt: HostRuntime) {
     let commit = Commit {
-        message: Some(owned(alloc, "m")?),
+        message: Some(made(&rt, owned(rt.alloc(), "m"))),
     };
-    assert!(rt; Commit::default() != commit);
-    check_copy(&rt, commit.try_clone(alloc), &commit)
+    check_equal(&rt, commit == Commit::default(), false);
+    check_copy(&rt, commit.try_clone(rt.alloc()), &commit);
 }
 
 /// Checks that copies of the contents of both sides equal them.
-fn check_sides(
-    rt: &impl Abort,
-    alloc: Global,
-    sides: &(SelectedChanges<'_>, SelectedChanges<'_>),
-) -> Result<(), RecordError> {
+fn check_sides(rt: &impl Abort, alloc: Global, sides: &(SelectedChanges<'_>, SelectedChanges<'_>)) {
     let (selected, unselected) = (&sides.0.contents, &sides.1.contents);
-    check_copy(rt, selected.try_clone(alloc), selected)?;
-    check_copy(rt, unselected.try_clone(alloc), unselected)
+    check_copy(rt, selected.try_clone(alloc), selected);
+    check_copy(rt, unselected.try_clone(alloc), unselected);
 }
 
 /// Checks that copies of `file`, and of the contents of both its sides, equal them.
-fn check_copies(rt: &impl Abort, alloc: Global, file: &File<'_>) -> Result<(), RecordError> {
-    check_copy(rt, file.try_clone(alloc), file)?;
-    let sides = file.get_selected_contents(alloc)?;
-    check_sides(rt, alloc, &sides)
+fn check_copies(rt: &impl Abort, alloc: Global, file: &File<'_>) {
+    check_copy(rt, file.try_clone(alloc), file);
+    let sides = made(rt, file.get_selected_contents(alloc));
+    check_sides(rt, alloc, &sides);
 }
 
 #[test]
-fn copies_of_sides_equal_them(rt: HostRuntime) -> Result<(), RecordError> {
-    let alloc = rt.alloc();
-    check_copies(&rt, alloc, &mixed_file(alloc)?)?;
+fn copies_of_sides_equal_them(rt: HostRuntime) {
+    check_copies(&rt, rt.alloc(), &mixed_file(&rt, rt.alloc()));
     for held in HELD {
-        check_copies(&rt, alloc, &file_holding(alloc, *held)?)?;
+        let file = made(&rt, file_holding(rt.alloc(), *held));
+        check_copies(&rt, rt.alloc(), &file);
     }
-    Ok(())
 }
 
 /// Sets the marks of `section`, and then inverts them.
@@ -395,9 +359,8 @@ pub(crate) fn check_marks(rt: &impl Abort, section: &mut Section<'_>) {
 }
 
 #[test]
-fn marks_are_counted_and_written(rt: HostRuntime) -> Result<(), RecordError> {
-    let alloc = rt.alloc();
-    let mut file = mixed_file(alloc)?;
+fn marks_are_counted_and_written(rt: HostRuntime) {
+    let mut file = mixed_file(&rt, rt.alloc());
     check_equal(&rt, file.tristate(), Tristate::Partial);
     file.set_checked(true);
     check_equal(&rt, file.tristate(), Tristate::True);
@@ -406,7 +369,6 @@ fn marks_are_counted_and_written(rt: HostRuntime) -> Result<(), RecordError> {
     for section in file.sections.iter_mut() {
         check_marks(&rt, section);
     }
-    Ok(())
 }
 
 /// An unchecked removed line.
@@ -420,82 +382,66 @@ const HALF_DELETED: &[Part] = &[KEPT, Part::Mode(true, FileMode::Absent)];
 
 /// Returns a file with an unchecked removed line and the file's deletion, with the mark
 /// `is_checked`.
-fn half_removed(alloc: Global, is_checked: bool) -> Result<File<'static>, RecordError> {
+fn half_removed(rt: &impl Abort, alloc: Global, is_checked: bool) -> File<'static> {
     let parts = if is_checked { HALF_DELETED } else { HALF };
-    file_with_parts(alloc, DEFAULT, parts)
+    made(rt, file_with_parts(alloc, DEFAULT, parts))
 }
 
 /// Checks that `file` is a file with an unchecked removed line and its deletion, with the mark
 /// `is_deleted`.
-fn check_half(
-    rt: &impl Abort,
-    alloc: Global,
-    file: &File<'static>,
-    is_deleted: bool,
-) -> Result<(), RecordError> {
-    check_equal(rt, file, &half_removed(alloc, is_deleted)?);
-    Ok(())
+fn check_half(rt: &impl Abort, alloc: Global, file: &File<'static>, is_deleted: bool) {
+    check_equal(rt, file, &half_removed(rt, alloc, is_deleted));
 }
 
 /// Repairs a file with an unchecked removed line and its deletion, with the mark `is_deleted`.
-fn check_half_removed(rt: &impl Abort, alloc: Global, is_deleted: bool) -> Result<(), RecordError> {
-    let mut file = half_removed(alloc, is_deleted)?;
+fn check_half_removed(rt: &impl Abort, alloc: Global, is_deleted: bool) {
+    let mut file = half_removed(rt, alloc, is_deleted);
     file.repair();
-    check_half(rt, alloc, &file, false)
+    check_half(rt, alloc, &file, false);
 }
 
 /// Repairs a new file of `lines`, whose creation has the mark `is_created`. Checks that the
 /// creation is checked then.
-fn check_made(
-    rt: &impl Abort,
-    alloc: Global,
-    lines: &'static [Line],
-    is_created: bool,
-) -> Result<(), RecordError> {
-    let mut file = new_file(alloc, lines, is_created)?;
+fn check_made(rt: &impl Abort, alloc: Global, lines: &'static [Line], is_created: bool) {
+    let mut file = new_file(rt, alloc, lines, is_created);
     file.repair();
-    check_equal(rt, &file, &new_file(alloc, lines, true)?);
-    Ok(())
+    check_equal(rt, file, new_file(rt, alloc, lines, true));
 }
 
 #[test]
-fn files_are_made_to_fit(rt: HostRuntime) -> Result<(), RecordError> {
-    check_half_removed(&rt, rt.alloc(), true)?;
-    check_half_removed(&rt, rt.alloc(), false)?;
-    check_made(&rt, rt.alloc(), CHECKED, false)?;
-    check_made(&rt, rt.alloc(), UNCHECKED, true)
+fn files_are_made_to_fit(rt: HostRuntime) {
+    check_half_removed(&rt, rt.alloc(), true);
+    check_half_removed(&rt, rt.alloc(), false);
+    check_made(&rt, rt.alloc(), CHECKED, false);
+    check_made(&rt, rt.alloc(), UNCHECKED, true);
 }
 
 #[test]
-fn marks_are_made_to_fit(rt: HostRuntime) -> Result<(), RecordError> {
-    let alloc = rt.alloc();
-    let mut file = half_removed(alloc, true)?;
+fn marks_are_made_to_fit(rt: HostRuntime) {
+    let mut file = half_removed(&rt, rt.alloc(), true);
     uncheck_deletions(file.sections.as_mut_slice());
-    check_half(&rt, alloc, &file, false)?;
+    check_half(&rt, rt.alloc(), &file, false);
     check_modes(file.sections.as_mut_slice());
-    check_half(&rt, alloc, &file, true)
+    check_half(&rt, rt.alloc(), &file, true);
 }
 
 #[test]
-fn three_commits_are_not_accepted(rt: HostRuntime) -> Result<(), RecordError> {
+fn three_commits_are_not_accepted(rt: HostRuntime) {
     let mut state = RecordState::empty(rt.alloc());
     for count in 0..4 {
         check_equal(&rt, state.is_accepted(), count < 3);
-        state.commits.push(Commit::default())?;
+        made(&rt, state.commits.push(Commit::default()));
     }
-    Ok(())
+}
+
+/// Returns what `error` is displayed as.
+fn error_text(alloc: Global, error: &RecordError) -> Result<String, AllocError> {
+    format!(in alloc; "{error}")
 }
 
 /// Checks that `error` is displayed as `text`.
-fn check_error(
-    rt: &impl Abort,
-    alloc: Global,
-    error: RecordError,
-    text: &str,
-) -> Result<(), AllocError> {
-    let shown = format!(in alloc; "{error}")?;
-    check_equal(rt, shown.as_str(), text);
-    Ok(())
+fn check_error(rt: &impl Abort, alloc: Global, error: RecordError, text: &str) {
+    check_text(rt, error_text(alloc, &error), text);
 }
 
 /// Checks that the error that `error_of` makes of the cause `T` is displayed as `text`.
@@ -504,10 +450,11 @@ fn check_caused<F: FnOnce(String) -> RecordError>(
     alloc: Global,
     error_of: F,
     text: &str,
-) -> Result<(), AllocError>
+)
     requires { F.IsAlwaysCallable error_of }
 {
-    check_error(rt, alloc, error_of(String::from_str(alloc, "T")?), text)
+    let cause = made(rt, String::from_str(alloc, "T"));
+    check_error(rt, alloc, error_of(cause), text);
 }
 
 /// The texts of errors of a terminal and of files.
@@ -523,54 +470,45 @@ const SERIALIZE: &str = "failed to serialize JSON: T";
 
 const WRITE: &str = "failed to wrote file: T";
 
-/// Checks the texts of errors of a terminal.
-fn check_terminal_errors(rt: &impl Abort, alloc: Global) -> Result<(), AllocError> {
-    check_caused(rt, alloc, RecordError::SetUpTerminal, SET_UP)?;
-    check_caused(rt, alloc, RecordError::CleanUpTerminal, CLEAN_UP)?;
-    check_caused(rt, alloc, RecordError::RenderFrame, RENDER)?;
-    check_caused(rt, alloc, RecordError::ReadInput, READ)
-}
-
-/// Checks the texts of errors of files, and of others with a cause.
-fn check_other_errors(rt: &impl Abort, alloc: Global) -> Result<(), AllocError> {
-    check_caused(rt, alloc, RecordError::SerializeJson, SERIALIZE)?;
-    check_caused(rt, alloc, RecordError::WriteFile, WRITE)?;
-    check_caused(rt, alloc, RecordError::Other, "T")?;
-    check_caused(rt, alloc, RecordError::Bug, "bug: T")
-}
-
 #[test]
-fn errors_have_their_texts(rt: HostRuntime) -> Result<(), RecordError> {
-    check_terminal_errors(&rt, rt.alloc())?;
-    check_other_errors(&rt, rt.alloc())?;
-    check_error(&rt, rt.alloc(), RecordError::Cancelled, "cancelled by user")?;
-    check_error(&rt, rt.alloc(), RecordError::OutOfMemory, "out of memory")?;
-    Ok(())
+fn errors_have_their_texts(rt: HostRuntime) {
+    check_caused(&rt, rt.alloc(), RecordError::SetUpTerminal, SET_UP);
+    check_caused(&rt, rt.alloc(), RecordError::CleanUpTerminal, CLEAN_UP);
+    check_caused(&rt, rt.alloc(), RecordError::RenderFrame, RENDER);
+    check_caused(&rt, rt.alloc(), RecordError::ReadInput, READ);
+    check_caused(&rt, rt.alloc(), RecordError::SerializeJson, SERIALIZE);
+    check_caused(&rt, rt.alloc(), RecordError::WriteFile, WRITE);
+    check_caused(&rt, rt.alloc(), RecordError::Other, "T");
+    check_caused(&rt, rt.alloc(), RecordError::Bug, "bug: T");
+    check_error(&rt, rt.alloc(), RecordError::Cancelled, "cancelled by user");
+    check_error(&rt, rt.alloc(), RecordError::OutOfMemory, "out of memory");
+}
+
+/// Returns what `mode` is printed as.
+fn mode_text(alloc: Global, mode: FileMode) -> Result<String, AllocError> {
+    format!(in alloc; "{mode}")
 }
 
 /// Checks that `mode` is printed as `text`.
-fn check_mode(
-    rt: &impl Abort,
-    alloc: Global,
-    mode: FileMode,
-    text: &str,
-) -> Result<(), AllocError> {
-    let shown = format!(in alloc; "{mode}")?;
-    check_equal(rt, shown.as_str(), text);
+fn check_mode(rt: &impl Abort, alloc: Global, mode: FileMode, text: &str) {
+    check_text(rt, mode_text(alloc, mode), text);
     check_equal(rt, mode.is_absent(), text == "<absent>");
-    Ok(())
 }
 
 #[test]
-fn modes_are_converted_and_printed(rt: HostRuntime) -> Result<(), Fail> {
-    let alloc = rt.alloc();
-    check_mode(&rt, alloc, FileMode::from(0o100755_usize), "100755")?;
-    check_mode(&rt, alloc, FileMode::try_from(0o100644_u32)?, "100644")?;
-    check_mode(&rt, alloc, FileMode::try_from(8_i32)?, "10")?;
-    check_mode(&rt, alloc, DEFAULT, "100644")?;
-    check_mode(&rt, alloc, FileMode::Absent, "<absent>")?;
-    assert!(rt; FileMode::try_from(-1_i32).is_err());
-    Ok(())
+fn modes_are_converted_and_printed(rt: HostRuntime) {
+    let executable = FileMode::from(0o100755_usize);
+    check_mode(&rt, rt.alloc(), executable, "100755");
+    check_mode(
+        &rt,
+        rt.alloc(),
+        made(&rt, FileMode::try_from(0o100644_u32)),
+        "100644",
+    );
+    check_mode(&rt, rt.alloc(), made(&rt, FileMode::try_from(8_i32)), "10");
+    check_mode(&rt, rt.alloc(), DEFAULT, "100644");
+    check_mode(&rt, rt.alloc(), FileMode::Absent, "<absent>");
+    check_equal(&rt, FileMode::try_from(-1_i32).is_err(), true);
 }
 
 /// Sizes, and the nearest numbers of 16 bits.
@@ -590,9 +528,9 @@ fn sizes_are_converted(rt: HostRuntime) {
         check_equal(&rt, IsizeExt::clamp_into_u16(*place), *nearest);
         check_equal(&rt, IsizeExt::clamp_into_usize(*place), *size);
     }
-    assert!(rt; ENV_VAR_DUMP_UI_STATE == "SCM_RECORD_DUMP_UI_STATE");
-    assert!(rt; DUMP_UI_STATE_FILENAME == "scm_record_ui_state.json");
-    assert!(rt; ENV_VAR_DEBUG_UI == "SCM_RECORD_DEBUG_UI");
+    check_equal(&rt, ENV_VAR_DUMP_UI_STATE, "SCM_RECORD_DUMP_UI_STATE");
+    check_equal(&rt, DUMP_UI_STATE_FILENAME, "scm_record_ui_state.json");
+    check_equal(&rt, ENV_VAR_DEBUG_UI, "SCM_RECORD_DEBUG_UI");
 }
 
 /// A hash, a size and their description.
@@ -605,24 +543,17 @@ const DESCRIBED: &[Described] = &[
     ("é", u64::MAX, "é (18446744073709551615 bytes)"),
 ];
 
-/// Checks the description of `row`.
-fn check_described(rt: &impl Abort, alloc: Global, row: Described) -> Result<(), RecordError> {
-    let description = make_binary_description(alloc, row.0, row.1)?;
-    check_equal(rt, description.as_str(), row.2);
-    Ok(())
-}
-
 #[test]
-fn bytes_are_described(rt: HostRuntime) -> Result<(), RecordError> {
-    for row in DESCRIBED {
-        check_described(&rt, rt.alloc(), *row)?;
+fn bytes_are_described(rt: HostRuntime) {
+    for (hash, size, text) in DESCRIBED {
+        let description = make_binary_description(rt.alloc(), *hash, *size);
+        check_text(&rt, description, *text);
     }
-    Ok(())
 }
 
 /// Returns a list of three numbers.
-fn numbers(alloc: Global) -> Result<Items<u8>, AllocError> {
-    [3_u8, 5, 8].into_iter().collect(alloc)
+fn numbers(rt: &impl Abort, alloc: Global) -> Items<u8> {
+    made(rt, [3_u8, 5, 8].into_iter().collect(alloc))
 }
 
 /// Changes a list of three numbers by each call that lends elements.
@@ -643,27 +574,26 @@ fn check_numbers(rt: &impl Abort, items: &Items<u8>) {
     check_equal(rt, items[0], 5);
     check_equal(rt, items.get(1).copied(), Some(4));
     check_equal(rt, items.get(3).copied(), None);
-    assert!(rt; items.iter().all(|item| *item > 3));
+    check_equal(rt, items.iter().all(|item| *item > 3), true);
 }
 
 #[test]
-fn lists_are_read_and_changed(rt: HostRuntime) -> Result<(), RecordError> {
-    let mut items = numbers(rt.alloc())?;
+fn lists_are_read_and_changed(rt: HostRuntime) {
+    let mut items = numbers(&rt, rt.alloc());
     change_numbers(&rt, &mut items);
     check_numbers(&rt, &items);
     let list = items.into_inner();
     check_equal(&rt, list.as_slice(), [5, 4, 7].as_slice());
     check_numbers(&rt, &Items::from(list));
-    Ok(())
 }
 
 /// Returns the elements of `items` in a new list, in order.
-fn gone_through(alloc: Global, items: Items<u8>) -> Result<Items<u8>, AllocError> {
+fn gone_through(rt: &impl Abort, alloc: Global, items: Items<u8>) -> Items<u8> {
     let mut rest = Items::new(alloc);
     for item in items {
-        rest.push(item)?;
+        made(rt, rest.push(item));
     }
-    Ok(rest)
+    rest
 }
 
 /// Takes both elements from a list.
@@ -675,77 +605,81 @@ fn check_rest(rt: &impl Abort, rest: &mut Items<u8>) {
 }
 
 #[test]
-fn lists_are_collected_and_gone_through(rt: HostRuntime) -> Result<(), RecordError> {
-    let alloc = rt.alloc();
-    let mut items = numbers(alloc)?;
+fn lists_are_collected_and_gone_through(rt: HostRuntime) {
+    let mut items = numbers(&rt, rt.alloc());
     for item in &mut items {
         *item ^= 1;
     }
     check_equal(&rt, items.pop(), Some(9));
-    let mut rest = gone_through(alloc, items)?;
+    let mut rest = gone_through(&rt, rt.alloc(), items);
     check_rest(&rt, &mut rest);
-    Ok(())
 }
 
 #[test]
-fn lists_are_made_with_room_and_extended(rt: HostRuntime) -> Result<(), RecordError> {
-    let mut items = Items::with_capacity(rt.alloc(), 4)?;
+fn lists_are_made_with_room_and_extended(rt: HostRuntime) {
+    let mut items = made(&rt, Items::with_capacity(rt.alloc(), 4));
     check_equal(&rt, items.last().copied(), None);
-    items.extend([3_u8, 5, 8])?;
+    made(&rt, items.extend([3_u8, 5, 8]));
     check_equal(&rt, items.as_slice(), [3, 5, 8].as_slice());
     check_equal(&rt, items.last().copied(), Some(8));
-    Ok(())
 }
 
 /// Checks whether the error of a read that fails with `text` is that of a script that ends.
-fn check_end(rt: &impl Abort, alloc: Global, text: &str, is_end: bool) -> Result<(), RecordError> {
-    let error = RecordError::ReadInput(String::from_str(alloc, text)?);
+fn check_end(rt: &impl Abort, alloc: Global, text: &str, is_end: bool) {
+    let error = RecordError::ReadInput(made(rt, String::from_str(alloc, text)));
     check_equal(rt, error.is_no_events_left(), is_end);
-    Ok(())
 }
 
 #[test]
-fn a_script_that_ends_is_told_by_its_kind(rt: HostRuntime) -> Result<(), RecordError> {
-    check_end(&rt, rt.alloc(), "no events left", true)?;
-    check_end(&rt, rt.alloc(), "gone", false)?;
-    assert!(rt; !RecordError::Cancelled.is_no_events_left());
-    Ok(())
+fn a_script_that_ends_is_told_by_its_kind(rt: HostRuntime) {
+    check_end(&rt, rt.alloc(), "no events left", true);
+    check_end(&rt, rt.alloc(), "gone", false);
+    check_equal(&rt, RecordError::Cancelled.is_no_events_left(), false);
+}
+
+/// Returns what `text` is displayed as.
+fn shown(alloc: Global, text: &Text<'_>) -> Result<String, AllocError> {
+    format!(in alloc; "{text}")
 }
 
 /// Checks that `text` is "né", by each call that borrows it.
-fn check_borrowed(rt: &impl Abort, alloc: Global, text: &Text<'_>) -> Result<(), RecordError> {
+fn check_borrowed(rt: &impl Abort, alloc: Global, text: &Text<'_>) {
     check_equal(rt, text.as_str(), "né");
     check_equal(rt, (text.len(), text.is_empty()), (3, false));
-    assert!(rt; text.borrowed() == *text);
-    check_copy(rt, text.try_clone(alloc), text)?;
-    let shown = format!(in alloc; "{text}")?;
-    check_equal(rt, shown.as_str(), "né");
-    Ok(())
+    check_equal(rt, text.borrowed() == *text, true);
+    check_copy(rt, text.try_clone(alloc), text);
+    check_text(rt, shown(alloc, text), "né");
 }
 
 /// Checks that `text` is "né", by each call that reads it.
-fn check_text(rt: &impl Abort, alloc: Global, text: Text<'_>) -> Result<(), RecordError> {
-    check_borrowed(rt, alloc, &text)?;
+fn check_read(rt: &impl Abort, alloc: Global, text: Text<'_>) {
+    check_borrowed(rt, alloc, &text);
     check_equal(rt, text.into_inner().as_str(), "né");
-    Ok(())
 }
 
 #[test]
-fn texts_are_read(rt: HostRuntime) -> Result<(), RecordError> {
-    let alloc = rt.alloc();
-    check_text(&rt, alloc, Text::from("né"))?;
-    check_text(&rt, alloc, Text::from(String::from_str(alloc, "né")?))?;
-    check_text(&rt, alloc, Text::from(CowStr::Borrowed("né")))
+fn texts_are_read(rt: HostRuntime) {
+    let owned = made(&rt, String::from_str(rt.alloc(), "né"));
+    check_read(&rt, rt.alloc(), Text::from("né"));
+    check_read(&rt, rt.alloc(), Text::from(owned));
+    check_read(&rt, rt.alloc(), Text::from(CowStr::Borrowed("né")));
+}
+
+/// Returns what `text` is displayed as.
+fn owned_shown(alloc: Global, text: &OwnedText) -> Result<String, AllocError> {
+    format!(in alloc; "{text}")
+}
+
+/// Checks that `text` is "né", by each call that borrows it.
+fn check_owned(rt: &impl Abort, alloc: Global, text: &OwnedText) {
+    check_equal(rt, (text.len(), text.is_empty()), (3, false));
+    check_copy(rt, text.try_clone(alloc), text);
+    check_text(rt, owned_shown(alloc, text), "né");
 }
 
 #[test]
-fn owned_texts_are_read(rt: HostRuntime) -> Result<(), RecordError> {
-    let alloc = rt.alloc();
-    let text = owned(alloc, "né")?;
-    check_equal(&rt, (text.len(), text.is_empty()), (3, false));
-    check_copy(&rt, text.try_clone(alloc), &text)?;
-    let shown = format!(in alloc; "{text}")?;
-    check_equal(&rt, shown.as_str(), "né");
+fn owned_texts_are_read(rt: HostRuntime) {
+    let text = made(&rt, owned(rt.alloc(), "né"));
+    check_owned(&rt, rt.alloc(), &text);
     check_equal(&rt, text.into_inner().as_str(), "né");
-    Ok(())
 }
