@@ -1,11 +1,11 @@
 //! Batches of events that a program hands in to a live session, and jumps to a key.
-use crate::checks::check_equal;
+use crate::checks::{check_equal, check_text, made};
 use crate::given::state_of;
-use crate::scripts::{ACCEPT, EDIT, FAR, HELLO, INNER, Read, TOGGLE, outcome_of, reads_of, words};
+use crate::scripts::{ACCEPT, EDIT, FAR, HELLO, INNER, TOGGLE, outcome_of, words};
 use crate::sessions::waiting_of;
 use scm_record::{
     Event, FileKey, LineKey, LiveSession, RecordError, Screens, ScriptEdit, ScriptInput,
-    SectionKey, SelectionKey, TerminalKind, Turn,
+    ScriptRead, SectionKey, SelectionKey, TerminalKind, Turn,
 };
 use std::alloc::{AllocError, Global};
 use std::process::Abort;
@@ -161,19 +161,21 @@ const WAITING: &[&[&[Event]]] = &[
     &[&[EDIT, TOGGLE, EDIT]],
 ];
 
+/// The size of the screen.
+const KIND: TerminalKind = TerminalKind::Testing {
+    width: 80,
+    height: 24,
+};
+
 /// Returns a session on a state whose commit has `message`.
 fn session_of(
     rt: &impl Abort,
     alloc: Global,
     message: Option<&'static str>,
-) -> Result<LiveSession<'static>, RecordError> {
-    let state = state_of(alloc, (message, None))?;
+) -> LiveSession<'static> {
+    let state = made(rt, state_of(alloc, (message, None)));
     assert!(rt; state.is_accepted());
-    let kind = TerminalKind::Testing {
-        width: 80,
-        height: 24,
-    };
-    LiveSession::new(alloc, kind, state)
+    made(rt, LiveSession::new(alloc, KIND, state))
 }
 
 /// Answers `bye` as long as `turn` asks for a message, and returns the turn after that.
@@ -224,55 +226,63 @@ fn check_pressed(
     session: LiveSession<'static>,
     batches: &[&[Event]],
     wanted: &str,
-) -> Result<(), RecordError> {
-    let text = turn_words(alloc, pressed(alloc, session, batches))?;
-    check_equal(rt, text.as_str(), wanted);
-    Ok(())
+) {
+    let turn = pressed(alloc, session, batches);
+    check_text(rt, turn_words(alloc, turn), wanted);
 }
 
 /// Checks the outcome of a session on the batches of `row`.
-fn check_live(rt: &impl Abort, alloc: Global, row: Row) -> Result<(), RecordError> {
-    let session = session_of(rt, alloc, row.0)?;
-    check_pressed(rt, alloc, session, row.1, row.2)
+fn check_live(rt: &impl Abort, alloc: Global, row: Row) {
+    let session = session_of(rt, alloc, row.0);
+    check_pressed(rt, alloc, session, row.1, row.2);
 }
 
-/// Returns an input of `reads` in which each message becomes `bye`.
-fn bye_script(alloc: Global, reads: &[Read]) -> Result<ScriptInput, RecordError> {
+/// Returns edits in which each message becomes `bye`.
+fn edits_of(rt: &impl Abort, alloc: Global) -> Vec<ScriptEdit> {
     let mut edits = Vec::new(alloc);
     for _ in 0..MESSAGES {
-        edits.push(ScriptEdit::Answer(String::from_str(alloc, "bye")?))?;
+        let answer = made(rt, String::from_str(alloc, "bye"));
+        made(rt, edits.push(ScriptEdit::Answer(answer)));
     }
-    ScriptInput::new(alloc, 80, 24, reads_of(alloc, reads)?, edits)
+    edits
+}
+
+/// Returns the reads of `batches`.
+fn batches_of(rt: &impl Abort, alloc: Global, batches: &[&[Event]]) -> Vec<ScriptRead> {
+    let mut reads = Vec::new(alloc);
+    for batch in batches {
+        let events = made(rt, Vec::from_slice(alloc, *batch));
+        made(rt, reads.push(ScriptRead::Batch(events)));
+    }
+    reads
 }
 
 /// Returns an input of `batches` in which each message becomes `bye`.
-fn script_of(alloc: Global, batches: &[&'static [Event]]) -> Result<ScriptInput, RecordError> {
-    let mut reads = Vec::new(alloc);
-    for batch in batches {
-        reads.push(Read::Batch(*batch))?;
-    }
-    bye_script(alloc, reads.as_slice())
+fn script_of(rt: &impl Abort, alloc: Global, batches: &[&[Event]]) -> ScriptInput {
+    let reads = batches_of(rt, alloc, batches);
+    made(
+        rt,
+        ScriptInput::new(alloc, 80, 24, reads, edits_of(rt, alloc)),
+    )
 }
 
 /// Checks the outcome of a run on the batches of `row`.
-fn check_run(rt: &impl Abort, alloc: Global, row: Row) -> Result<(), RecordError> {
-    let mut input = script_of(alloc, row.1)?;
+fn check_run(rt: &impl Abort, alloc: Global, row: Row) {
+    let mut input = script_of(rt, alloc, row.1);
     let mut screens = Screens::new(alloc);
-    let text = outcome_of(rt, alloc, row.0, &mut input, &mut screens)?;
-    check_equal(rt, text.as_str(), row.2);
-    Ok(())
+    let text = outcome_of(rt, alloc, row.0, &mut input, &mut screens);
+    check_text(rt, text, row.2);
 }
 
 #[test]
-fn batches_are_reads_of_a_run(rt: HostRuntime) -> Result<(), RecordError> {
+fn batches_are_reads_of_a_run(rt: HostRuntime) {
     for row in ENDED {
-        check_live(&rt, rt.alloc(), *row)?;
-        check_run(&rt, rt.alloc(), *row)?;
+        check_live(&rt, rt.alloc(), *row);
+        check_run(&rt, rt.alloc(), *row);
     }
     for batches in WAITING {
-        check_live(&rt, rt.alloc(), (HELLO, *batches, WAITS))?;
+        check_live(&rt, rt.alloc(), (HELLO, *batches, WAITS));
     }
-    Ok(())
 }
 
 /// The first line of the file.
@@ -355,13 +365,9 @@ const JUMPS: &[Jump] = &[
 ];
 
 /// Returns the session after the batches before the jump.
-fn session_before(
-    rt: &impl Abort,
-    alloc: Global,
-    batches: &[&[Event]],
-) -> Result<LiveSession<'static>, RecordError> {
-    let session = session_of(rt, alloc, None)?;
-    Ok(waiting_of(rt, pressed(alloc, session, batches)?))
+fn session_before(rt: &impl Abort, alloc: Global, batches: &[&[Event]]) -> LiveSession<'static> {
+    let session = session_of(rt, alloc, None);
+    waiting_of(rt, made(rt, pressed(alloc, session, batches)))
 }
 
 /// Jumps to `key`, and checks whether `session` selects it.
@@ -369,24 +375,22 @@ fn select(
     rt: &impl Abort,
     session: LiveSession<'static>,
     key: SelectionKey,
-) -> Result<LiveSession<'static>, RecordError> {
+) -> LiveSession<'static> {
     let can_select = session.can_select(key);
-    let session = session.select(key)?;
+    let session = made(rt, session.select(key));
     check_equal(rt, session.view_state().selection == key, can_select);
-    Ok(session)
+    session
 }
 
 /// Checks the outcome of a session with a jump, and whether it selects the key.
-fn check_jump(rt: &impl Abort, alloc: Global, row: Jump) -> Result<(), RecordError> {
-    let session = session_before(rt, alloc, row.0)?;
-    let session = select(rt, session, row.1)?;
-    check_pressed(rt, alloc, session, row.2, row.3)
+fn check_jump(rt: &impl Abort, alloc: Global, row: Jump) {
+    let session = select(rt, session_before(rt, alloc, row.0), row.1);
+    check_pressed(rt, alloc, session, row.2, row.3);
 }
 
 #[test]
-fn a_key_is_selected_at_once(rt: HostRuntime) -> Result<(), RecordError> {
+fn a_key_is_selected_at_once(rt: HostRuntime) {
     for row in JUMPS {
-        check_jump(&rt, rt.alloc(), *row)?;
+        check_jump(&rt, rt.alloc(), *row);
     }
-    Ok(())
 }

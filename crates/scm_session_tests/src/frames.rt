@@ -1,7 +1,7 @@
 //! The number of rows that a frame begins, and of calls that draw it.
-use crate::checks::check_equal;
+use crate::checks::{check_equal, made};
 use crate::sessions::session_of;
-use scm_record::{LiveSession, NumberedStyle, RecordError, Style, Styles, TerminalKind};
+use scm_record::{LiveSession, NumberedStyle, Style, Styles, TerminalKind};
 use scm_samples::number_of;
 use std::alloc::Global;
 use std::process::Abort;
@@ -103,25 +103,19 @@ fn numbers_of(text: &str) -> (usize, usize) {
 }
 
 /// Checks that the frame of `given` takes the rows and calls `wanted`.
-fn check_counts(
-    rt: &impl Abort,
-    alloc: Global,
-    given: &str,
-    wanted: (usize, usize),
-) -> Result<(), RecordError> {
+fn check_counts(rt: &impl Abort, alloc: Global, given: &str, wanted: (usize, usize)) {
     let mut words = given.split_whitespace();
     let width = number_of(words.next());
     let height = number_of(words.next());
     let kind = TerminalKind::Testing { width, height };
     let state = words.next().unwrap_or("");
-    let session = session_of(rt, alloc, kind, state, words.next().unwrap_or(""))?;
+    let session = session_of(rt, alloc, kind, state, words.next().unwrap_or(""));
     let grid = session.grid();
     check_equal(
         rt,
         (given, grid.rows_drawn(), grid.calls()),
         (given, wanted.0, wanted.1),
     );
-    Ok(())
 }
 
 /// Returns the most rows and calls of a frame of the screen whose columns and rows begin `given`.
@@ -132,14 +126,14 @@ fn most_of(given: &str) -> (usize, usize) {
 }
 
 /// Checks a row of the table, and that its numbers are within the most that a frame may take.
-fn check_row(rt: &impl Abort, alloc: Global, row: &str) -> Result<(), RecordError> {
+fn check_row(rt: &impl Abort, alloc: Global, row: &str) {
     let (given, wanted) = row.split_once(" => ").unwrap_or((row, ""));
     let (wanted, most) = wanted.split_once(" of ").unwrap_or((wanted, ""));
     let (wanted, most) = (numbers_of(wanted), numbers_of(most));
     check_equal(rt, (row, most), (row, most_of(given)));
     let is_within = wanted.0 <= most.0 && wanted.1 <= most.1;
     check_equal(rt, (row, is_within), (row, true));
-    check_counts(rt, alloc, given, wanted)
+    check_counts(rt, alloc, given, wanted);
 }
 
 /// Checks that the styles of row `row` are the style of each of its places. `styles` has room for them.
@@ -151,49 +145,43 @@ fn check_styles(
 ) {
     session.row_styles(row, styles);
     for (column, style) in styles.iter().enumerate() {
-        assert_eq!(rt;
-            style.style(),
-            session.style(row, column),
-            "row {row}, column {column}"
-        );
+        let found = (row, column, style.style());
+        check_equal(rt, found, (row, column, session.style(row, column)));
     }
 }
 
 /// Checks the styles of rows after `keys`, in 43 columns, on a screen of `width` columns.
-fn check_rows(rt: &impl Abort, alloc: Global, width: usize, keys: &str) -> Result<(), RecordError> {
+fn check_rows(rt: &impl Abort, alloc: Global, width: usize, keys: &str) {
     let kind = TerminalKind::Testing { width, height: 12 };
-    let session = session_of(rt, alloc, kind, "!x7y0mb,t", keys)?;
-    let mut styles = vec![in alloc; NumberedStyle::new(Style::PLAIN); 43]?;
+    let session = session_of(rt, alloc, kind, "!x7y0mb,t", keys);
+    let mut styles = made(rt, vec![in alloc; NumberedStyle::new(Style::PLAIN); 43]);
     for row in 0..13 {
         check_styles(rt, &session, row, styles.as_mut_slice());
     }
-    Ok(())
 }
 
 #[test]
-fn rows_have_the_styles_of_their_places(rt: HostRuntime) -> Result<(), RecordError> {
-    check_rows(&rt, rt.alloc(), 41, "Fvllpjj")?;
-    check_rows(&rt, rt.alloc(), 41, "Fllpjj")?;
-    check_rows(&rt, rt.alloc(), 43, "Fllpjj")
+fn rows_have_the_styles_of_their_places(rt: HostRuntime) {
+    check_rows(&rt, rt.alloc(), 41, "Fvllpjj");
+    check_rows(&rt, rt.alloc(), 41, "Fllpjj");
+    check_rows(&rt, rt.alloc(), 43, "Fllpjj");
 }
 
 #[test]
-fn frames_take_few_rows_and_calls(rt: HostRuntime) -> Result<(), RecordError> {
+fn frames_take_few_rows_and_calls(rt: HostRuntime) {
     for row in INLINE.lines() {
         if !row.is_empty() && !row.starts_with('#') {
-            check_row(&rt, rt.alloc(), row)?;
+            check_row(&rt, rt.alloc(), row);
         }
     }
-    Ok(())
 }
 
 #[test]
-fn frames_of_both_commits(rt: HostRuntime) -> Result<(), RecordError> {
+fn frames_of_both_commits(rt: HostRuntime) {
     for row in ADJACENT.lines() {
         if !row.is_empty() {
             let (given, wanted) = row.split_once(" => ").unwrap_or((row, ""));
-            check_counts(&rt, rt.alloc(), given, numbers_of(wanted))?;
+            check_counts(&rt, rt.alloc(), given, numbers_of(wanted));
         }
     }
-    Ok(())
 }

@@ -1,5 +1,5 @@
 //! A session call by call: its screen, a new size, an edited message, and ends in an error.
-use crate::checks::check_equal;
+use crate::checks::{check_equal, made};
 use crate::sessions::{session_of, waiting_of};
 use scm_record::{
     Commit, ComponentId, Editing, Event, FileKey, LineKey, LiveSession, RecordError, RecordState,
@@ -69,15 +69,9 @@ fn check_owners(rt: &impl Abort, session: &LiveSession<'_>) {
 }
 
 /// Checks the screen and its size.
-fn check_screen(
-    rt: &impl Abort,
-    session: &LiveSession<'_>,
-    kind: TerminalKind,
-    screen: &str,
-) -> Result<(), RecordError> {
+fn check_screen(rt: &impl Abort, session: &LiveSession<'_>, kind: TerminalKind, screen: &str) {
     check_equal(rt, session.kind(), kind);
-    check_equal(rt, session.grid().view()?.as_str(), screen);
-    Ok(())
+    check_equal(rt, made(rt, session.grid().view()).as_str(), screen);
 }
 
 /// The first screen.
@@ -92,13 +86,12 @@ const WIDE_SCREEN: &str = r#""[File] [Edit] "
 "#;
 
 #[test]
-fn a_session_is_shown_on_each_size(rt: HostRuntime) -> Result<(), RecordError> {
-    let mut session = session_of(&rt, rt.alloc(), NARROW, "x", "")?;
-    check_screen(&rt, &session, NARROW, NARROW_SCREEN)?;
+fn a_session_is_shown_on_each_size(rt: HostRuntime) {
+    let mut session = session_of(&rt, rt.alloc(), NARROW, "x", "");
+    check_screen(&rt, &session, NARROW, NARROW_SCREEN);
     check_owners(&rt, &session);
-    session.resize(WIDE)?;
-    check_screen(&rt, &session, WIDE, WIDE_SCREEN)?;
-    Ok(())
+    made(&rt, session.resize(WIDE));
+    check_screen(&rt, &session, WIDE, WIDE_SCREEN);
 }
 
 /// Returns the key of line `line_idx` of the states.
@@ -140,36 +133,32 @@ fn check_rows(rt: &impl Abort, session: &LiveSession<'_>) {
 }
 
 #[test]
-fn rows_show_lines(rt: HostRuntime) -> Result<(), RecordError> {
-    let session = session_of(&rt, rt.alloc(), HIGH, "t", "F")?;
+fn rows_show_lines(rt: HostRuntime) {
+    let session = session_of(&rt, rt.alloc(), HIGH, "t", "F");
     check_rows(&rt, &session);
-    Ok(())
 }
 
 /// The open menu `Edit` lies over rows 1 to 5.
 #[test]
-fn a_row_below_a_menu_shows_no_line(rt: HostRuntime) -> Result<(), RecordError> {
-    let session = session_of(&rt, rt.alloc(), HIGH, "t", "FB")?;
+fn a_row_below_a_menu_shows_no_line(rt: HostRuntime) {
+    let session = session_of(&rt, rt.alloc(), HIGH, "t", "FB");
     check_lines(&rt, &session, 3, None, 1);
-    Ok(())
 }
 
 /// A folded file has its header on row 1, and nothing is below it.
 #[test]
-fn rows_below_the_document_show_no_line(rt: HostRuntime) -> Result<(), RecordError> {
-    let session = session_of(&rt, rt.alloc(), HIGH, "t", "")?;
+fn rows_below_the_document_show_no_line(rt: HostRuntime) {
+    let session = session_of(&rt, rt.alloc(), HIGH, "t", "");
     check_lines(&rt, &session, 1, None, 1);
     check_lines(&rt, &session, 2, None, 4);
-    Ok(())
 }
 
 #[test]
-fn a_screen_begins_where_it_is_scrolled_to(rt: HostRuntime) -> Result<(), RecordError> {
-    let session = session_of(&rt, rt.alloc(), HIGH, "t", "F")?;
+fn a_screen_begins_where_it_is_scrolled_to(rt: HostRuntime) {
+    let session = session_of(&rt, rt.alloc(), HIGH, "t", "F");
     check_equal(&rt, session.scroll(), 0);
-    let session = waiting_of(&rt, session.handle(Event::ScrollDown)?);
+    let session = waiting_of(&rt, made(&rt, session.handle(Event::ScrollDown)));
     check_equal(&rt, session.scroll(), 1);
-    Ok(())
 }
 
 /// Returns the message of the first commit, or an empty text.
@@ -185,53 +174,62 @@ fn message_in<'a>(state: &'a RecordState<'_>) -> &'a str {
 }
 
 /// Asks for an edit of the first commit's message, which is `message`.
-fn editing_of<'a>(
-    rt: &impl Abort,
-    session: LiveSession<'a>,
-    message: &str,
-) -> Result<Editing<'a>, RecordError> {
+fn editing_of<'a>(rt: &impl Abort, session: LiveSession<'a>, message: &str) -> Editing<'a> {
     check_equal(rt, message_in(session.state()), message);
-    let Turn::Editing(editing) = session.handle(Event::EditCommitMessage)? else {
+    let Turn::Editing(editing) = made(rt, session.handle(Event::EditCommitMessage)) else {
         panic!(rt; "no message is asked for");
     };
-    check_equal(rt, editing.commit(), 0);
-    check_equal(rt, editing.message(), message);
-    Ok(editing)
+    check_equal(rt, (editing.commit(), editing.message()), (0, message));
+    editing
+}
+
+/// Answers `bye` to the question for the message `hello`.
+fn answer<'a>(rt: &impl Abort, alloc: Global, session: LiveSession<'a>) -> LiveSession<'a> {
+    let editing = editing_of(rt, session, "hello");
+    let answer = made(rt, String::from_str(alloc, "bye"));
+    waiting_of(rt, made(rt, editing.answer(answer)))
+}
+
+/// Keeps the message `bye`.
+fn keep<'a>(rt: &impl Abort, session: LiveSession<'a>) -> LiveSession<'a> {
+    let editing = editing_of(rt, session, "bye");
+    waiting_of(rt, made(rt, editing.keep()))
 }
 
 #[test]
-fn a_message_is_edited(rt: HostRuntime) -> Result<(), RecordError> {
-    let alloc = rt.alloc();
-    let session = session_of(&rt, alloc, NARROW, "!x", "")?;
+fn a_message_is_edited(rt: HostRuntime) {
+    let session = session_of(&rt, rt.alloc(), NARROW, "!x", "");
     check_equal(&rt, session.state().commits.len(), 2);
-    let editing = editing_of(&rt, session, "hello")?;
-    let answer = String::from_str(alloc, "bye")?;
-    let session = waiting_of(&rt, editing.answer(answer)?);
-    let editing = editing_of(&rt, session, "bye")?;
-    let session = waiting_of(&rt, editing.keep()?);
+    let session = keep(&rt, answer(&rt, rt.alloc(), session));
     check_equal(&rt, message_in(session.state()), "bye");
-    Ok(())
 }
 
 /// Returns the error that ends a session on a file of one unchecked line at `event`.
-fn error_of(rt: &impl Abort, alloc: Global, event: Event) -> Result<RecordError, RecordError> {
-    let session = session_of(rt, alloc, NARROW, "x", "")?;
+fn error_of(rt: &impl Abort, alloc: Global, event: Event) -> RecordError {
+    let session = session_of(rt, alloc, NARROW, "x", "");
     match session.handle(event) {
-        Err(error) => Ok(error),
+        Err(error) => error,
         Ok(_) => panic!(rt; "the session goes on"),
     }
+}
+
+/// Returns whether `error` is that of a cancelled session.
+fn is_cancelled(error: &RecordError) -> bool {
+    matches!(error, RecordError::Cancelled)
+}
+
+/// Returns whether `error` is that of a place that is missing.
+fn is_placeless(error: &RecordError) -> bool {
+    matches!(error, RecordError::Other(text) if text.as_str() == "no such screenshot place")
 }
 
 /// A screenshot. A session that a program drives has no place for one.
 const SHOT: Event = Event::TakeScreenshot(TestingScreenshot { place: 0 });
 
 #[test]
-fn a_session_ends_in_an_error(rt: HostRuntime) -> Result<(), RecordError> {
-    let error = error_of(&rt, rt.alloc(), Event::QuitCancel)?;
-    assert!(rt; matches!(error, RecordError::Cancelled));
-    let error = error_of(&rt, rt.alloc(), SHOT)?;
-    assert!(rt;
-        matches!(&error, RecordError::Other(text) if text.as_str() == "no such screenshot place")
-    );
-    Ok(())
+fn a_session_ends_in_an_error(rt: HostRuntime) {
+    let error = error_of(&rt, rt.alloc(), Event::QuitCancel);
+    check_equal(&rt, is_cancelled(&error), true);
+    let error = error_of(&rt, rt.alloc(), SHOT);
+    check_equal(&rt, is_placeless(&error), true);
 }

@@ -1,10 +1,10 @@
 //! How the layer looks on a terminal: calls without a view.
+use crate::checks::{check_equal, made};
 use scm_front_paint::{FrontPainter, Heard, Label, Pane, Theme, heard_as, themed};
 use scm_record::{
     Colour, KeyCode, KeyEvent, KeyEventKind, KeyModifiers, OwnedText, Style, TerminalEvent,
 };
 use std::alloc::{AllocError, Global};
-use std::test::Fail;
 
 /// The event of pressing the key `>`.
 const RIGHT: TerminalEvent = TerminalEvent::Key(KeyEvent {
@@ -13,23 +13,35 @@ const RIGHT: TerminalEvent = TerminalEvent::Key(KeyEvent {
     kind: KeyEventKind::Press,
 });
 
+/// Returns whether `heard` shows the window from column `column` on.
+fn is_shown_from(heard: Heard, column: u16) -> bool {
+    matches!(heard, Heard::Show(x) if x == column)
+}
+
+/// Returns whether `heard` hands an event to the session.
+fn is_handed_on(heard: Heard) -> bool {
+    matches!(heard, Heard::Hand(_))
+}
+
 #[test]
-fn keys_move_a_pane(rt: HostRuntime) -> Result<(), Fail> {
+fn keys_move_a_pane(rt: HostRuntime) {
     let pane = Pane {
         x: 0,
         width: 9,
         height: 4,
     };
-    assert!(rt; matches!(heard_as(pane, true, 0, RIGHT), Heard::Show(4)));
-    assert!(rt; matches!(heard_as(pane, false, 0, RIGHT), Heard::Hand(_)));
-    Ok(())
+    check_equal(&rt, is_shown_from(heard_as(pane, true, 0, RIGHT), 4), true);
+    check_equal(&rt, is_handed_on(heard_as(pane, false, 0, RIGHT)), true);
 }
 
 #[test]
-fn themes_change_styles(rt: HostRuntime) -> Result<(), Fail> {
+fn themes_change_styles(rt: HostRuntime) {
     let style = Style::PLAIN.coloured(Colour::Cyan).reversed();
-    assert!(rt; themed(Theme::NoColours, style) == Style::PLAIN.reversed());
-    Ok(())
+    check_equal(
+        &rt,
+        themed(Theme::NoColours, style),
+        Style::PLAIN.reversed(),
+    );
 }
 
 /// Returns a label of the first file's second section.
@@ -45,11 +57,10 @@ fn label_of(alloc: Global, text: &str) -> Result<Label, AllocError> {
 const LABELS: &[&str] = &["ours", "theirs", ""];
 
 #[test]
-fn labels_replace_each_other(rt: HostRuntime) -> Result<(), Fail> {
+fn labels_replace_each_other(rt: HostRuntime) {
     let mut painter = FrontPainter::new(rt.alloc(), Theme::Dark);
     for text in LABELS {
-        let outcome = painter.label(label_of(rt.alloc(), *text)?);
-        assert!(rt; outcome.is_ok());
+        let label = made(&rt, label_of(rt.alloc(), *text));
+        made(&rt, painter.label(label));
     }
-    Ok(())
 }

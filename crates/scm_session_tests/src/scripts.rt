@@ -1,5 +1,5 @@
 //! Runs over scripts: what is left of the script after a run, and how many frames it draws.
-use crate::checks::check_equal;
+use crate::checks::{check_equal, check_text, made};
 use crate::given::run;
 use scm_record::{
     Commit, Event, File, RecordError, RecordInput, RecordState, Screens, ScriptEdit, ScriptInput,
@@ -16,40 +16,44 @@ pub(crate) enum Read {
 }
 
 /// Returns the read of a script for the constant `read`.
-fn read_of(alloc: Global, read: Read) -> Result<ScriptRead, RecordError> {
-    Ok(match read {
-        Read::Batch(events) => ScriptRead::Batch(Vec::from_slice(alloc, events)?),
-        Read::Fault(text) => ScriptRead::Fault(String::from_str(alloc, text)?),
-    })
+fn read_of(rt: &impl Abort, alloc: Global, read: Read) -> ScriptRead {
+    match read {
+        Read::Batch(events) => ScriptRead::Batch(made(rt, Vec::from_slice(alloc, events))),
+        Read::Fault(text) => ScriptRead::Fault(made(rt, String::from_str(alloc, text))),
+    }
 }
 
 /// Returns the reads of a script for the constants `given`.
-pub(crate) fn reads_of(alloc: Global, given: &[Read]) -> Result<Vec<ScriptRead>, RecordError> {
+fn reads_of(rt: &impl Abort, alloc: Global, given: &[Read]) -> Vec<ScriptRead> {
     let mut reads = Vec::new(alloc);
     for read in given {
-        reads.push(read_of(alloc, *read)?)?;
+        made(rt, reads.push(read_of(rt, alloc, *read)));
     }
-    Ok(reads)
+    reads
 }
 
 /// Returns two edits: the answer `bye`, and then the fault `gone`.
-fn two_edits(alloc: Global) -> Result<Vec<ScriptEdit>, RecordError> {
-    let mut edits = Vec::new(alloc);
-    edits.push(ScriptEdit::Answer(String::from_str(alloc, "bye")?))?;
-    edits.push(ScriptEdit::Fault(String::from_str(alloc, "gone")?))?;
-    Ok(edits)
+fn two_edits(rt: &impl Abort, alloc: Global) -> Vec<ScriptEdit> {
+    let answer = made(rt, String::from_str(alloc, "bye"));
+    let fault = made(rt, String::from_str(alloc, "gone"));
+    let edits = vec![in alloc; ScriptEdit::Answer(answer), ScriptEdit::Fault(fault)];
+    made(rt, edits)
 }
 
 /// Returns an input of the reads `given`, and of two edits: the answer `bye`, and then the fault
 /// `gone`.
 pub(crate) fn script(
+    rt: &impl Abort,
     alloc: Global,
     width: usize,
     height: usize,
     given: &[Read],
-) -> Result<ScriptInput, RecordError> {
-    let edits = two_edits(alloc)?;
-    ScriptInput::new(alloc, width, height, reads_of(alloc, given)?, edits)
+) -> ScriptInput {
+    let reads = reads_of(rt, alloc, given);
+    made(
+        rt,
+        ScriptInput::new(alloc, width, height, reads, two_edits(rt, alloc)),
+    )
 }
 
 /// Adds the marks of a section's lines to `text`: `1` for a checked line, else `0`.
@@ -307,18 +311,6 @@ const ROWS: &[Row] = &[
     ),
 ];
 
-/// Checks that the next edit of `input` returns `next`.
-fn check_next(
-    rt: &impl Abort,
-    alloc: Global,
-    input: &mut dyn RecordInput,
-    next: &str,
-) -> Result<(), AllocError> {
-    let edit = edit_words(alloc, input)?;
-    check_equal(rt, edit.as_str(), next);
-    Ok(())
-}
-
 /// Checks that the outcome of a run, in words, and its number of frames are `wanted`.
 fn check_outcome(
     rt: &impl Abort,
@@ -326,27 +318,24 @@ fn check_outcome(
     message: Option<&'static str>,
     input: &mut dyn RecordInput,
     wanted: (&str, usize),
-) -> Result<(), AllocError> {
+) {
     let mut screens = Screens::new(alloc);
-    let text = outcome_of(rt, alloc, message, input, &mut screens)?;
+    let text = made(rt, outcome_of(rt, alloc, message, input, &mut screens));
     check_equal(rt, (text.as_str(), screens.frames()), wanted);
-    Ok(())
 }
 
 /// Runs `row` and checks it.
-fn check_row(rt: &impl Abort, alloc: Global, row: Row) -> Result<(), RecordError> {
-    let mut input = script(alloc, 80, 24, row.1)?;
+fn check_row(rt: &impl Abort, alloc: Global, row: Row) {
+    let mut input = script(rt, alloc, 80, 24, row.1);
     check_equal(rt, input.batches_left(), row.1.len());
-    check_outcome(rt, alloc, row.0, &mut input, (row.2, row.3))?;
+    check_outcome(rt, alloc, row.0, &mut input, (row.2, row.3));
     check_equal(rt, (row.2, input.batches_left()), (row.2, row.4));
-    check_next(rt, alloc, &mut input, row.5)?;
-    Ok(())
+    check_text(rt, edit_words(alloc, &mut input), row.5);
 }
 
 #[test]
-fn a_script_keeps_what_is_left(rt: HostRuntime) -> Result<(), RecordError> {
+fn a_script_keeps_what_is_left(rt: HostRuntime) {
     for row in ROWS {
-        check_row(&rt, rt.alloc(), *row)?;
+        check_row(&rt, rt.alloc(), *row);
     }
-    Ok(())
 }

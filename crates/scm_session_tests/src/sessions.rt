@@ -1,5 +1,6 @@
 //! Sessions written in letters: a state, and the user's events.
-use scm_record::{Event, LiveSession, RecordError, TerminalKind, Turn};
+use crate::checks::made;
+use scm_record::{Event, LiveSession, TerminalKind, Turn};
 use scm_samples::state_of_letters;
 use std::alloc::Global;
 use std::process::Abort;
@@ -48,12 +49,12 @@ pub(crate) fn session_of(
     kind: TerminalKind,
     state: &str,
     letters: &str,
-) -> Result<LiveSession<'static>, RecordError> {
-    let state = state_of_letters(alloc, state)?;
+) -> LiveSession<'static> {
+    let state = made(rt, state_of_letters(alloc, state));
     assert!(rt; state.is_accepted());
-    let mut session = LiveSession::new(alloc, kind, state)?;
+    let mut session = made(rt, LiveSession::new(alloc, kind, state));
     for letter in letters.chars() {
-        session = waiting_of(rt, session.handle(event_of(letter))?);
+        session = waiting_of(rt, made(rt, session.handle(event_of(letter))));
     }
-    Ok(session)
+    session
 }

@@ -1,7 +1,7 @@
 //! Runs over one store: each keeps its screenshot at the place that it names, if the store has it.
-use crate::checks::check_equal;
+use crate::checks::{check_equal, check_text, made};
 use crate::scripts::{FAR, Read, outcome_of, script};
-use scm_record::{Event, RecordError, Screens, TestingScreenshot};
+use scm_record::{Event, Screens, TestingScreenshot};
 use std::alloc::Global;
 use std::process::Abort;
 
@@ -56,22 +56,20 @@ fn check_row(
     screens: &mut Screens,
     shot: TestingScreenshot,
     row: Row,
-) -> Result<(), RecordError> {
-    let mut input = script(alloc, 3, 3, row.0)?;
-    let outcome = outcome_of(rt, alloc, None, &mut input, screens)?;
-    check_equal(rt, outcome.as_str(), row.1);
+) {
+    let mut input = script(rt, alloc, 3, 3, row.0);
+    let outcome = outcome_of(rt, alloc, None, &mut input, screens);
+    check_text(rt, outcome, row.1);
     check_equal(rt, screens.text(shot), row.2);
-    Ok(())
 }
 
 #[test]
-fn screenshots_are_kept_at_their_places(rt: HostRuntime) -> Result<(), RecordError> {
+fn screenshots_are_kept_at_their_places(rt: HostRuntime) {
     let mut screens = Screens::new(rt.alloc());
-    let first = screens.place()?;
+    let first = made(&rt, screens.place());
     for row in ROWS {
-        check_row(&rt, rt.alloc(), &mut screens, first, *row)?;
+        check_row(&rt, rt.alloc(), &mut screens, first, *row);
     }
     // a move has two frames, each other read one
     check_equal(&rt, screens.frames(), 5 + 5 + 5 + 4);
-    Ok(())
 }
