@@ -24,3 +24,5 @@ pub mod BesidePaintLemmas
 pub mod BesideOwnerLemmas
 pub mod BesideKeyLemmas
 pub mod BesideExtentLemmas
+-- Runs that show two commits.
+pub mod HeadlineLemmas

@@ -1,5 +1,6 @@
 //! Laws of two commits beside each other: their window, which is defined by rows and columns, is what the components
-//! draw.
+//! draw, and what runs show.
 #![tactic(auto)]
 
 pub mod laws;
+pub mod runs;
