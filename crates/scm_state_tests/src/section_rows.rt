@@ -68,15 +68,10 @@ fn check_context(rt: &impl Abort, lines: &Section<'_>) {
     check_equal(rt, is_section_visible(false, lines, false), false);
 }
 
-/// Returns whether `shape` is that of a mode or a binary change.
-fn is_mark(shape: SectionShape) -> bool {
-    matches!(shape, SectionShape::Mark)
-}
-
-/// Checks the row of a mode change.
+/// Checks the row of a mode change. `height_of` needs what is asserted.
 fn check_mode(rt: &impl Abort, mode: &Section<'_>) {
-    check_equal(rt, is_mark(shape_of(mode)), true);
-    check_equal(rt, is_changed(mode), false);
+    assert!(rt; matches!(shape_of(mode), SectionShape::Mark));
+    assert!(rt; !is_changed(mode));
     check_equal(rt, is_section_visible(false, mode, false), true);
     check_equal(rt, height_of(place(3, 1), true, mode), 1);
     check_equal(rt, shown_height(place(3, 1), true, false, mode, false), 1);
