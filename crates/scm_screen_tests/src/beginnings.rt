@@ -1,7 +1,7 @@
 //! The first spans of a line beside all of its spans: eight columns show the same of both.
-use crate::cells::{put, repeated};
+use crate::cells::{line_spans, put, repeated};
 use crate::checks::{check_equal, check_view};
-use scm_cells::{Grid, Span, push_first_spans, push_spans_from_line, text_width};
+use scm_cells::{Grid, Span, push_first_spans, text_width};
 use scm_errors::RecordError;
 use std::alloc::Global;
 use std::process::Abort;
@@ -15,13 +15,10 @@ fn check_row(
     view: &str,
 ) -> Result<usize, RecordError> {
     let mut grid = Grid::new(alloc, 8, 1)?;
-    let mut column = 0;
+    let mut column = 0_usize;
     for span in spans {
-        assert!(rt; column < 10_000);
-        put(rt, &mut grid, 0, column as isize, span.0, 0, 8)?;
-        let width = text_width(span.0);
-        assert!(rt; width < 10_000);
-        column += width;
+        put(rt, &mut grid, 0, column.min(10_000) as isize, span.0, 0, 8)?;
+        column = column.saturating_add(text_width(span.0));
     }
     check_view(rt, &grid, view)?;
     Ok(column)
@@ -30,13 +27,6 @@ fn check_row(
 /// A line: a text and how many times it is repeated, the number of its first spans, the most bytes
 /// of one of them, and what eight columns show.
 type Row = (&'static str, usize, usize, usize, &'static str);
-
-/// Puts all spans of `line` on a row, as `check_row` does.
-fn check_all(rt: &impl Abort, alloc: Global, line: &str, view: &str) -> Result<usize, RecordError> {
-    let mut spans = Vec::new(alloc);
-    push_spans_from_line(line, &mut spans)?;
-    check_row(rt, alloc, spans.as_slice(), view)
-}
 
 /// Checks that there are as many first spans as `row` says, and that each is short.
 fn check_short(rt: &impl Abort, spans: &[Span<'_>], row: Row) {
@@ -58,7 +48,12 @@ fn check_first(rt: &impl Abort, alloc: Global, line: &str, row: Row) -> Result<u
 /// columns if all do.
 fn check_line(rt: &impl Abort, alloc: Global, row: Row) -> Result<(), RecordError> {
     let line = repeated(alloc, row.0, row.1)?;
-    let columns = check_all(rt, alloc, line.as_str(), row.4)?;
+    let columns = check_row(
+        rt,
+        alloc,
+        line_spans(alloc, line.as_str())?.as_slice(),
+        row.4,
+    )?;
     let first_columns = check_first(rt, alloc, line.as_str(), row)?;
     check_equal(rt, (row.0, 8 < first_columns), (row.0, 8 < columns));
     Ok(())

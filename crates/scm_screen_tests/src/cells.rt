@@ -1,10 +1,11 @@
 //! Rectangles, masks, clusters, spans and the grid, checked against values from outside: the
 //! project's tables, and the columns that a terminal gives to texts.
 ghost use Rattle.std.specs.Prelude.{◌≡◌};
+ghost use Rattle.scm_cells.specs.Rect.{RectInRange};
 
-use crate::checks::{check_equal, check_view};
+use crate::checks::{check_equal, check_that, check_view};
 use scm_cells::{
-    Clusters, Column, Grid, Line, Mask, Rect, RectSize, ScreenRect, Span, printable_line,
+    Clusters, Column, Grid, Mask, Rect, RectSize, ScreenRect, Span, printable_line,
     push_spans_from_line, replace_control_character, text_width,
 };
 use scm_errors::RecordError;
@@ -20,7 +21,7 @@ const WHOLE: Rect = Rect {
 };
 
 /// Returns the rectangle of `width` columns and `height` rows at column `x` and row `y`.
-fn rect(x: isize, y: isize, width: usize, height: usize) -> Rect
+pub(crate) fn rect(x: isize, y: isize, width: usize, height: usize) -> Rect
     ensures { result ≡ record { x = x; y = y; width = width; height = height } }
 {
     Rect {
@@ -31,66 +32,166 @@ fn rect(x: isize, y: isize, width: usize, height: usize) -> Rect
     }
 }
 
-#[test]
-fn rectangles_are_joined(rt: HostRuntime) {
-    check_equal(&rt, WHOLE.intersect(rect(2, 1, 5, 5)), rect(2, 1, 2, 1));
-    let none = rect(0, 0, 2, 2).intersect(rect(5, 0, 1, 1));
-    check_equal(&rt, none, rect(5, 0, 0, 1));
-    assert!(rt; none.is_empty());
-    check_equal(&rt, WHOLE.union_bounding(rect(10, 10, 0, 3)), WHOLE);
+/// A rectangle: its column and row, and its numbers of columns and rows.
+pub(crate) type Sides = (isize, isize, usize, usize);
+
+/// Returns the rectangle of `sides`, and checks that it is at most 5000 columns and rows large, and at most
+/// 1000 away from column 0 and row 0.
+pub(crate) fn area_of(rt: &impl Abort, sides: Sides) -> Rect
+    ensures in_range { RectInRange result }
+    ensures sides { result ≡ record {
+      x = sides.0;
+      y = sides.1;
+      width = sides.2;
+      height = sides.3;
+    } }
+{
+    let (x, y, width, height) = sides;
+    check_that(rt, -1000 <= x);
+    check_that(rt, x <= 1000);
+    check_that(rt, -1000 <= y);
+    check_that(rt, y <= 1000);
+    check_that(rt, width <= 5000);
+    check_that(rt, height <= 5000);
+    rect(x, y, width, height)
+}
+
+/// Returns the rectangle of `sides`.
+pub(crate) fn rect_of(sides: Sides) -> Rect {
+    rect(sides.0, sides.1, sides.2, sides.3)
+}
+
+/// Two rectangles, the intersection of both, and the least rectangle around both.
+const JOINED: &[(Sides, Sides, Sides, Sides)] = &[
+    ((0, 0, 4, 2), (2, 1, 5, 5), (2, 1, 2, 1), (0, 0, 7, 6)),
+    ((0, 0, 2, 2), (5, 0, 1, 1), (5, 0, 0, 1), (0, 0, 6, 2)),
+    ((0, 0, 4, 2), (10, 10, 0, 3), (10, 10, 0, 0), (0, 0, 4, 2)),
+    ((0, 0, 4, 2), (6, 5, 1, 1), (6, 5, 0, 0), (0, 0, 7, 6)),
+];
+
+/// Checks the intersection of `one` and `other`, and the least rectangle around both.
+fn check_joined(rt: &impl Abort, one: Rect, other: Rect, both: Rect, around: Rect)
+    requires one { RectInRange one }
+    requires other { RectInRange other }
+{
+    check_equal(rt, (one, other, one.intersect(other)), (one, other, both));
     check_equal(
-        &rt,
-        WHOLE.union_bounding(rect(6, 5, 1, 1)),
-        rect(0, 0, 7, 6),
+        rt,
+        (one, other, one.union_bounding(other)),
+        (one, other, around),
     );
 }
 
 #[test]
+fn rectangles_are_joined(rt: HostRuntime) {
+    for (one, other, both, around) in JOINED {
+        let one = area_of(&rt, *one);
+        check_joined(
+            &rt,
+            one,
+            area_of(&rt, *other),
+            rect_of(*both),
+            rect_of(*around),
+        );
+    }
+}
+
+/// Columns and rows, and whether a rectangle of five columns and rows at column 2 and row 1 has this place.
+const POINTS: &[(isize, isize, bool)] = &[(6, 5, true), (7, 5, false), (2, 1, true)];
+
+#[test]
 fn rectangles_have_places(rt: HostRuntime) {
-    let small = rect(2, 1, 5, 5);
-    check_equal(&rt, (small.end_x(), small.end_y()), (7, 6));
-    check_equal(&rt, small.iter_ys().count(), 5);
-    check_equal(&rt, small.top_row().height, 1);
-    assert!(rt; small.contains_point(6, 5));
-    assert!(rt; !small.contains_point(7, 5));
-    assert!(rt; Rect::default().is_empty());
+    let small = area_of(&rt, (2, 1, 5, 5));
+    check_equal(
+        &rt,
+        (small.end_x(), small.end_y(), small.is_empty()),
+        (7, 6, false),
+    );
+    check_equal(
+        &rt,
+        (small.iter_ys().count(), small.top_row()),
+        (5, rect(2, 1, 5, 1)),
+    );
+    for (x, y, expected) in POINTS {
+        check_equal(
+            &rt,
+            (*x, *y, small.contains_point(*x, *y)),
+            (*x, *y, *expected),
+        );
+    }
+    check_equal(
+        &rt,
+        (Rect::default().is_empty(), rect(5, 0, 0, 1).is_empty()),
+        (true, true),
+    );
+}
+
+/// Sizes and places of 16 bits.
+const SCREENS: &[(u16, u16, u16, u16)] = &[(1, 2, 3, 4), (2, 1, 5, 5)];
+
+/// Checks what the rectangle of `sides` is converted to.
+fn check_screen(rt: &impl Abort, sides: (u16, u16, u16, u16)) {
+    let (x, y, width, height) = sides;
+    let screen = ScreenRect {
+        x,
+        y,
+        width,
+        height,
+    };
+    let size = RectSize {
+        width: usize::from(width),
+        height: usize::from(height),
+    };
+    let whole = rect(x as isize, y as isize, size.width, size.height);
+    check_equal(rt, Rect::from(screen), whole);
+    check_equal(rt, RectSize::from(screen), size);
+    check_equal(rt, RectSize::from(whole), size);
 }
 
 #[test]
 fn sizes_are_converted(rt: HostRuntime) {
-    let screen = ScreenRect {
-        x: 1,
-        y: 2,
-        width: 3,
-        height: 4,
-    };
-    let size = RectSize {
-        width: 3,
-        height: 4,
-    };
-    check_equal(&rt, Rect::from(screen), rect(1, 2, 3, 4));
-    check_equal(&rt, RectSize::from(screen), size);
-    check_equal(&rt, RectSize::from(rect(1, 2, 3, 4)), size);
+    for sides in SCREENS {
+        check_screen(&rt, *sides);
+    }
     check_equal(&rt, RectSize::default().width, 0);
 }
+
+/// Returns the columns and rows of `mask`: where they begin, and how many they are.
+fn sides_of(mask: Mask) -> (isize, isize, Option<usize>, Option<usize>) {
+    (mask.x, mask.y, mask.width, mask.height)
+}
+
+/// A mask of three rows, and all columns from column 1 on.
+const OPEN: Mask = Mask {
+    x: 1,
+    y: 2,
+    width: None,
+    height: Some(3),
+};
+
+/// A mask of five columns, and all rows.
+const COLUMNS_ONLY: Mask = Mask {
+    x: 2,
+    y: 0,
+    width: Some(5),
+    height: None,
+};
 
 #[test]
 fn masks_let_places_through(rt: HostRuntime) {
     let closed = Mask::from(rect(1, 2, 3, 4));
-    check_equal(&rt, (closed.x, closed.y), (1, 2));
-    check_equal(&rt, (closed.width, closed.height), (Some(3), Some(4)));
+    check_equal(&rt, sides_of(closed), (1, 2, Some(3), Some(4)));
     check_equal(&rt, (closed.end_x(), closed.end_y()), (Some(4), Some(6)));
-    let open = Mask {
-        x: 1,
-        y: 2,
-        width: None,
-        height: Some(3),
-    };
-    check_equal(&rt, open.end_x(), None);
-    check_equal(&rt, open.apply(rect(0, 0, 10, 10)), rect(1, 2, 9, 3));
-    let default = Mask::default();
-    check_equal(&rt, (default.x, default.y), (0, 0));
-    check_equal(&rt, (default.width, default.height), (None, None));
+    check_equal(&rt, OPEN.end_x(), None);
+    check_equal(&rt, OPEN.apply(rect(0, 0, 10, 10)), rect(1, 2, 9, 3));
+    check_equal(
+        &rt,
+        (COLUMNS_ONLY.end_x(), COLUMNS_ONLY.end_y()),
+        (Some(7), None),
+    );
+    check_equal(&rt, COLUMNS_ONLY.apply(WHOLE), rect(2, 0, 2, 2));
+    check_equal(&rt, Mask::from(rect(2, 1, 5, 5)).width, Some(5));
+    check_equal(&rt, sides_of(Mask::default()), (0, 0, None, None));
 }
 
 /// Numbers of columns, and texts of as many columns with a bar between two of them.
@@ -127,41 +228,90 @@ fn columns_of_texts(rt: HostRuntime) {
 
 #[test]
 fn marks_have_a_column(rt: HostRuntime) {
-    let marks = "◐●±⋮…→⏎␀�┌─┐│└┘↓↑←•";
-    let mut count = 0;
-    for (mark, width) in Clusters::new(marks) {
+    let mut count = 0_usize;
+    for (mark, width) in Clusters::new("◐●±⋮…→⏎␀�┌─┐│└┘↓↑←•") {
         check_equal(&rt, (mark, width), (mark, 1));
-        assert!(rt; count < 100);
-        count += 1;
+        count = count.saturating_add(1);
     }
     check_equal(&rt, count, 19);
+    check_equal(&rt, Clusters::new("日a").next(), Some(("日", 2)));
 }
 
-/// Checks that the texts of `spans` are `texts`.
-fn check_pieces(rt: &impl Abort, spans: &[Span<'_>], texts: &[&str]) {
-    check_equal(rt, spans.len(), texts.len());
-    for (span, text) in spans.iter().zip(texts) {
-        check_equal(rt, span.0, *text);
+/// Returns the spans of `line`.
+pub(crate) fn line_spans<'a>(alloc: Global, line: &'a str) -> Result<Vec<Span<'a>>, RecordError> {
+    let mut spans = Vec::new(alloc);
+    push_spans_from_line(line, &mut spans)?;
+    Ok(spans)
+}
+
+/// Lines with a bar between two of them, and the spans of each: a tab, a delete, and
+/// the later controls.
+const TEXTS: &[(&str, &[Span<'static>])] = &[
+    ("a\tb", &[Span("a"), Span("→   "), Span("b")]),
+    ("a\u{7F}", &[Span("a"), Span("␡")]),
+    ("a\n", &[Span("a"), Span("⏎")]),
+    (
+        "a\u{80}|a\u{81}|a\u{82}|a\u{83}|a\u{84}|a\u{85}|a\u{86}|a\u{87}|a\u{88}|a\u{89}|a\u{8A}",
+        &[Span("a"), Span("\u{FFFD}")],
+    ),
+    (
+        "a\u{8B}|a\u{8C}|a\u{8D}|a\u{8E}|a\u{8F}|a\u{90}|a\u{91}|a\u{92}|a\u{93}|a\u{94}|a\u{95}",
+        &[Span("a"), Span("\u{FFFD}")],
+    ),
+    (
+        "a\u{96}|a\u{97}|a\u{98}|a\u{99}|a\u{9A}|a\u{9B}|a\u{9C}|a\u{9D}|a\u{9E}|a\u{9F}",
+        &[Span("a"), Span("\u{FFFD}")],
+    ),
+];
+
+/// Checks the spans of each of `lines`, which have a bar between two of them.
+fn check_lines(
+    rt: &impl Abort,
+    alloc: Global,
+    lines: &str,
+    spans: &[Span<'_>],
+) -> Result<(), RecordError> {
+    for line in lines.split('|') {
+        check_equal(rt, line_spans(alloc, line)?.as_slice(), spans);
     }
-}
-
-#[test]
-fn spans_of_a_line(rt: HostRuntime) -> Result<(), RecordError> {
-    let mut spans = Vec::new(rt.alloc());
-    push_spans_from_line("a\tb", &mut spans)?;
-    let line = Line(spans);
-    check_pieces(&rt, line.0.as_slice(), &["a", "→   ", "b"]);
     Ok(())
 }
 
 #[test]
+fn texts_of_spans(rt: HostRuntime) -> Result<(), RecordError> {
+    for (lines, spans) in TEXTS {
+        check_lines(&rt, rt.alloc(), *lines, *spans)?;
+    }
+    Ok(())
+}
+
+/// Lines, and a printable one's text and mark.
+const PRINTABLE: &[(&str, Option<(&str, &str)>)] = &[
+    ("a b\n", Some(("a b", "⏎"))),
+    ("\n", Some(("", "⏎"))),
+    ("a b", None),
+    ("a\tb\n", None),
+    ("ä\n", None),
+    ("", None),
+];
+
+#[test]
 fn texts_of_a_printable_line(rt: HostRuntime) {
-    check_equal(&rt, printable_line("a b\n"), Some(("a b", "⏎")));
-    check_equal(&rt, printable_line("\n"), Some(("", "⏎")));
-    check_equal(&rt, printable_line("a b"), None);
-    check_equal(&rt, printable_line("a\tb\n"), None);
-    check_equal(&rt, printable_line("ä\n"), None);
-    check_equal(&rt, printable_line(""), None);
+    for (line, expected) in PRINTABLE {
+        check_equal(&rt, printable_line(*line), *expected);
+    }
+}
+
+/// Returns the columns of `spans`, and checks that no character in them is still to be replaced.
+fn columns_shown(rt: &impl Abort, spans: &[Span<'_>]) -> usize {
+    let mut columns = 0_usize;
+    for span in spans {
+        for character in span.0.chars() {
+            check_equal(rt, replace_control_character(character), None);
+        }
+        columns = columns.saturating_add(text_width(span.0));
+    }
+    columns
 }
 
 /// Cuts `line` into spans, and checks that there are `pieces` spans of `columns` columns in all.
@@ -172,9 +322,8 @@ fn check_spans(
     pieces: usize,
     columns: usize,
 ) -> Result<(), RecordError> {
-    let mut spans = Vec::new(alloc);
-    push_spans_from_line(line, &mut spans)?;
-    let shown = (line, spans.len(), columns_shown(rt, &spans));
+    let spans = line_spans(alloc, line)?;
+    let shown = (line, spans.len(), columns_shown(rt, spans.as_slice()));
     check_equal(rt, shown, (line, pieces, columns));
     Ok(())
 }
@@ -210,44 +359,6 @@ fn spans_of_lines(rt: HostRuntime) -> Result<(), RecordError> {
     Ok(())
 }
 
-/// Cuts a line of a letter and `character`, and checks that `replacement` replaces the character.
-fn check_replaced(
-    rt: &impl Abort,
-    alloc: Global,
-    character: char,
-    replacement: &str,
-) -> Result<(), RecordError> {
-    let line = format!(in alloc; "a{character}")?;
-    let mut spans = Vec::new(alloc);
-    push_spans_from_line(line.as_str(), &mut spans)?;
-    check_equal(rt, (character, spans.len()), (character, 2));
-    check_pieces(rt, &spans, &["a", replacement]);
-    Ok(())
-}
-
-#[test]
-fn deletes_and_later_controls_are_replaced(rt: HostRuntime) -> Result<(), RecordError> {
-    check_replaced(&rt, rt.alloc(), '\u{7F}', "␡")?;
-    for code in 0x80..=0x9F_u8 {
-        check_replaced(&rt, rt.alloc(), char::from(code), "\u{FFFD}")?;
-    }
-    Ok(())
-}
-
-/// Returns the columns of `spans`, and checks that no character in them is still to be replaced.
-fn columns_shown(rt: &impl Abort, spans: &[Span<'_>]) -> usize {
-    let mut columns = 0;
-    for span in spans {
-        for character in span.0.chars() {
-            assert!(rt; replace_control_character(character).is_none());
-        }
-        let width = text_width(span.0);
-        assert!(rt; width < 100 && columns < 100);
-        columns += width;
-    }
-    columns
-}
-
 /// Puts `text` on row `row` of `grid`, and checks first that the grid has the row and the columns
 /// up to `high`.
 pub(crate) fn put(
@@ -259,92 +370,146 @@ pub(crate) fn put(
     low: usize,
     high: usize,
 ) -> Result<(), RecordError> {
-    assert!(rt; row < grid.height());
-    assert!(rt; high <= grid.width());
+    check_that(rt, row < grid.height());
+    check_that(rt, high <= grid.width());
     grid.put(row, column, text, low, high)
 }
 
-/// A column, a text that begins there, the first and the end of the columns that may change, and
-/// what the row shows.
-type Put = (isize, &'static str, usize, usize, &'static str);
-
-/// Puts the text of `row` on a cleared grid of one row, and checks what that shows.
-fn check_text(rt: &impl Abort, grid: &mut Grid, row: Put) -> Result<(), RecordError> {
-    grid.clear();
-    put(rt, grid, 0, row.0, row.1, row.2, row.3)?;
-    check_view(rt, grid, row.4)
-}
-
-/// Texts on a row of six columns.
-const PUTS: &[Put] = &[
-    (-1, "日a", 0, 6, "\" a    \"\n"),
-    (4, "a日b", 0, 6, "\"    a \"\n"),
-    (0, "a\nb", 0, 6, "\"ab    \"\n"),
-    (-2, "日a", 0, 6, "\"a     \"\n"),
-    (0, "日本語", 1, 5, "\"  本  \"\n"),
-    (0, "日本語", 3, 6, "\"    語\"\n"),
-    (2, "日", 3, 6, "\"      \"\n"),
-    (0, "abcdef", 2, 4, "\"  cd  \"\n"),
-    (0, "a日本c", 0, 4, "\"a日   \"\n"),
-    (0, "ab", 4, 2, "\"      \"\n"),
-    (7, "ab", 0, 6, "\"      \"\n"),
-    (isize::MAX, "ab", 0, 6, "\"      \"\n"),
-    (isize::MIN, "ab", 0, 6, "\"      \"\n"),
-    (0, "e\u{301}x", 0, 6, "\"e\u{301}x    \"\n"),
-    (-1, "👩\u{200D}👧b", 0, 6, "\" b    \"\n"),
-    (-2, "abc", 0, 6, "\"c     \"\n"),
-    (4, "abc", 0, 6, "\"    ab\"\n"),
-    (1, "abcd", 2, 4, "\"  bc  \"\n"),
-    (-3, "abc", 0, 6, "\"      \"\n"),
-    (-1, "[●]…⏎", 0, 6, "\"●]…⏎  \"\n"),
-    (1, "←±⋮→•", 2, 5, "\"  ±⋮→ \"\n"),
-];
-
-#[test]
-fn texts_on_a_grid(rt: HostRuntime) -> Result<(), RecordError> {
-    let mut grid = Grid::new(rt.alloc(), 6, 1)?;
-    for row in PUTS {
-        check_text(&rt, &mut grid, *row)?;
-    }
-    Ok(())
-}
-
-/// Checks that the view of a blank grid of `width` columns and `height` rows has `bytes` bytes.
-fn check_blank(
+/// Returns a grid of `width` columns and `height` rows, with `text` on its last row.
+pub(crate) fn grid_with(
     rt: &impl Abort,
     alloc: Global,
     width: u16,
     height: u16,
-    bytes: usize,
-) -> Result<(), RecordError> {
-    let grid = Grid::new(alloc, width, height)?;
-    check_equal(
-        rt,
-        (width, height, grid.view()?.len()),
-        (width, height, bytes),
-    );
-    Ok(())
-}
-
-/// Puts `text` on a row of 400 columns, and checks that its view has `bytes` bytes.
-fn check_long(rt: &impl Abort, alloc: Global, text: &str, bytes: usize) -> Result<(), RecordError> {
-    let mut grid = Grid::new(alloc, 400, 1)?;
-    put(rt, &mut grid, 0, 0, text, 0, 400)?;
-    check_equal(rt, grid.view()?.len(), bytes);
-    Ok(())
-}
-
-/// Cuts `text` into spans, and checks that there are `pieces` of them.
-fn check_pieces_of(
-    rt: &impl Abort,
-    alloc: Global,
     text: &str,
-    pieces: usize,
-) -> Result<(), RecordError> {
-    let mut spans = Vec::new(alloc);
-    push_spans_from_line(text, &mut spans)?;
-    check_equal(rt, spans.len(), pieces);
+) -> Result<Grid, RecordError> {
+    let mut grid = Grid::new(alloc, width, height)?;
+    put(
+        rt,
+        &mut grid,
+        usize::from(height.saturating_sub(1)),
+        0,
+        text,
+        0,
+        usize::from(width),
+    )?;
+    Ok(grid)
+}
+
+/// What is put on a row.
+#[derive(Clone, Copy)]
+enum What {
+    /// A text.
+    Text(&'static str),
+    /// A text, and its columns.
+    Measured(&'static str, usize),
+    /// A number of spaces.
+    Spaces(usize),
+}
+
+/// What the row shows before, a column, what is put there, the first and the end of the columns that
+/// may change, and what the row shows then.
+type Put = (&'static str, isize, What, usize, usize, &'static str);
+
+/// Puts on the first row of `grid` what `row` says.
+fn put_what(rt: &impl Abort, grid: &mut Grid, row: Put) -> Result<(), RecordError> {
+    let (_, column, what, low, high, _) = row;
+    check_that(rt, 0 < grid.height());
+    check_that(rt, high <= grid.width());
+    match what {
+        What::Text(text) => grid.put(0, column, text, low, high)?,
+        What::Measured(text, columns) => {
+            let measured = grid.put_measured(0, column, text, low, high)?;
+            check_equal(rt, (text, measured), (text, columns));
+        }
+        What::Spaces(width) => grid.put_blank(0, column, width, low, high),
+    }
     Ok(())
+}
+
+/// Puts on a row of `width` columns what `row` says, and checks what that shows.
+fn check_put(rt: &impl Abort, alloc: Global, width: u16, row: Put) -> Result<(), RecordError> {
+    let mut grid = grid_with(rt, alloc, width, 1, row.0)?;
+    put_what(rt, &mut grid, row)?;
+    check_view(rt, &grid, row.5)
+}
+
+/// Texts on a blank row of six columns, then texts and spaces over wide symbols.
+const PUTS: &[Put] = &[
+    ("", -1, What::Text("日a"), 0, 6, "\" a    \"\n"),
+    ("", 4, What::Text("a日b"), 0, 6, "\"    a \"\n"),
+    ("", 0, What::Text("a\nb"), 0, 6, "\"ab    \"\n"),
+    ("", -2, What::Text("日a"), 0, 6, "\"a     \"\n"),
+    ("", 0, What::Text("日本語"), 1, 5, "\"  本  \"\n"),
+    ("", 0, What::Text("日本語"), 3, 6, "\"    語\"\n"),
+    ("", 2, What::Text("日"), 3, 6, "\"      \"\n"),
+    ("", 0, What::Text("abcdef"), 2, 4, "\"  cd  \"\n"),
+    ("", 0, What::Text("a日本c"), 0, 4, "\"a日   \"\n"),
+    ("", 0, What::Text("ab"), 4, 2, "\"      \"\n"),
+    ("", 7, What::Text("ab"), 0, 6, "\"      \"\n"),
+    ("", isize::MAX, What::Text("ab"), 0, 6, "\"      \"\n"),
+    ("", isize::MIN, What::Text("ab"), 0, 6, "\"      \"\n"),
+    ("", 0, What::Text("e\u{301}x"), 0, 6, "\"e\u{301}x    \"\n"),
+    ("", -1, What::Text("👩\u{200D}👧b"), 0, 6, "\" b    \"\n"),
+    ("", -2, What::Text("abc"), 0, 6, "\"c     \"\n"),
+    ("", 4, What::Text("abc"), 0, 6, "\"    ab\"\n"),
+    ("", 1, What::Text("abcd"), 2, 4, "\"  bc  \"\n"),
+    ("", -3, What::Text("abc"), 0, 6, "\"      \"\n"),
+    ("", -1, What::Text("[●]…⏎"), 0, 6, "\"●]…⏎  \"\n"),
+    ("", 1, What::Text("←±⋮→•"), 2, 5, "\"  ±⋮→ \"\n"),
+    ("日本語", 1, What::Text("x"), 0, 6, "\" x本語\"\n"),
+    ("日本語", 0, What::Text("日"), 1, 6, "\"  本語\"\n"),
+    ("  本語", 3, What::Text("字"), 0, 6, "\"   字 \"\n"),
+    ("日本語", 2, What::Spaces(2), 0, 6, "\"日  語\"\n"),
+    ("日本語", 1, What::Spaces(2), 0, 6, "\"    語\"\n"),
+    ("日本語", 3, What::Spaces(1), 0, 6, "\"日  語\"\n"),
+    ("日本語", -3, What::Spaces(4), 0, 6, "\"  本語\"\n"),
+    ("日本語", -3, What::Spaces(3), 0, 6, "\"日本語\"\n"),
+    ("日本語", 5, What::Spaces(usize::MAX), 0, 6, "\"日本  \"\n"),
+    ("日本語", -1, What::Spaces(usize::MAX), 0, 6, "\"      \"\n"),
+    ("日本語", 0, What::Spaces(6), 2, 4, "\"日  語\"\n"),
+    ("日本語", 0, What::Spaces(6), 1, 3, "\"    語\"\n"),
+    ("日本語", 0, What::Spaces(6), 4, 2, "\"日本語\"\n"),
+    ("日本語", 0, What::Spaces(0), 0, 6, "\"日本語\"\n"),
+    ("日本語", 6, What::Spaces(1), 0, 6, "\"日本語\"\n"),
+    (
+        "日本語",
+        isize::MAX,
+        What::Spaces(usize::MAX),
+        0,
+        6,
+        "\"日本語\"\n",
+    ),
+    ("日本語", isize::MIN, What::Spaces(9), 0, 6, "\"日本語\"\n"),
+];
+
+/// Texts on a row of four columns, which are measured whole.
+const MEASURED: &[Put] = &[
+    ("", 0, What::Measured("", 0), 0, 4, "\"    \"\n"),
+    ("", 1, What::Measured("ab", 2), 0, 4, "\" ab \"\n"),
+    ("", 2, What::Measured("abcd", 4), 0, 4, "\"  ab\"\n"),
+    ("", -1, What::Measured("日本語", 6), 0, 4, "\" 本 \"\n"),
+    ("", 9, What::Measured("e\u{301}日", 3), 0, 4, "\"    \"\n"),
+];
+
+#[test]
+fn texts_on_a_grid(rt: HostRuntime) -> Result<(), RecordError> {
+    for row in PUTS {
+        check_put(&rt, rt.alloc(), 6, *row)?;
+    }
+    for row in MEASURED {
+        check_put(&rt, rt.alloc(), 4, *row)?;
+    }
+    Ok(())
+}
+
+#[test]
+fn rows_are_apart(rt: HostRuntime) -> Result<(), RecordError> {
+    let mut grid = grid_with(&rt, rt.alloc(), 6, 2, "   字")?;
+    check_view(&rt, &grid, "\"      \"\n\"   字 \"\n")?;
+    put(&rt, &mut grid, 0, 0, "abcdef", 0, 6)?;
+    check_equal(&rt, (grid.width(), grid.height()), (6, 2));
+    check_view(&rt, &grid, "\"abcdef\"\n\"   字 \"\n")
 }
 
 /// Returns `text`, repeated `times` times.
@@ -354,6 +519,11 @@ pub(crate) fn repeated(alloc: Global, text: &str, times: usize) -> Result<String
         long.push_str(text)?;
     }
     Ok(long)
+}
+
+/// Returns the number of bytes of the view of `grid`.
+fn bytes_of(grid: &Grid) -> Result<usize, RecordError> {
+    Ok(grid.view()?.len())
 }
 
 /// Columns and rows of blank grids, and the bytes of their views.
@@ -374,42 +544,30 @@ const LONG: &[Long] = &[
 ];
 
 /// Checks the text of `row`, repeated.
-fn check_repeated(rt: &impl Abort, alloc: Global, row: Long) -> Result<(), RecordError> {
+fn check_long(rt: &impl Abort, alloc: Global, row: Long) -> Result<(), RecordError> {
     let long = repeated(alloc, row.0, row.1)?;
-    check_long(rt, alloc, long.as_str(), row.2)?;
-    check_pieces_of(rt, alloc, long.as_str(), row.3)
+    let bytes = bytes_of(&grid_with(rt, alloc, 400, 1, long.as_str())?)?;
+    check_equal(rt, (row.0, bytes), (row.0, row.2));
+    check_equal(rt, line_spans(alloc, long.as_str())?.len(), row.3);
+    Ok(())
 }
 
 #[test]
 fn empty_small_and_large_values(rt: HostRuntime) -> Result<(), RecordError> {
     for (width, height, bytes) in BLANK {
-        check_blank(&rt, rt.alloc(), *width, *height, *bytes)?;
+        let found = bytes_of(&Grid::new(rt.alloc(), *width, *height)?)?;
+        check_equal(&rt, (*width, *height, found), (*width, *height, *bytes));
     }
     for row in LONG {
-        check_repeated(&rt, rt.alloc(), *row)?;
+        check_long(&rt, rt.alloc(), *row)?;
     }
     Ok(())
 }
 
-#[test]
-fn symbols_under_others(rt: HostRuntime) -> Result<(), RecordError> {
-    let mut grid = Grid::new(rt.alloc(), 6, 1)?;
-    put(&rt, &mut grid, 0, 0, "日本語", 0, 6)?;
-    put(&rt, &mut grid, 0, 1, "x", 0, 6)?;
-    check_view(&rt, &grid, "\" x本語\"\n")
-}
-
-/// Checks the symbol of the column at `index`, and its byte if it is printable ASCII.
-fn check_column(
-    rt: &impl Abort,
-    columns: &[Column],
-    index: usize,
-    symbol: &str,
-    ascii: Option<u8>,
-) {
-    assert!(rt; index < columns.len());
-    let column = &columns[index];
-    check_equal(rt, (column.symbol(), column.ascii()), (symbol, ascii));
+/// Returns the symbol of the column at `index`, and its byte if it is printable ASCII.
+fn symbol_of(columns: &[Column], index: usize) -> Option<(&str, Option<u8>)> {
+    let column = columns.get(index)?;
+    Some((column.symbol(), column.ascii()))
 }
 
 /// Columns of a row, their symbols, and their bytes if they are printable ASCII.
@@ -424,74 +582,16 @@ const SYMBOLS: &[(usize, &str, Option<u8>)] = &[
     (7, " ", Some(b' ')),
 ];
 
-/// Checks the columns of the second row of `grid`.
+/// Checks the columns of the second row of `grid`, which has no third row.
 fn check_symbols(rt: &impl Abort, grid: &Grid) {
     for (index, symbol, ascii) in SYMBOLS {
-        check_column(rt, grid.columns(1), *index, *symbol, *ascii);
+        check_equal(
+            rt,
+            symbol_of(grid.columns(1), *index),
+            Some((*symbol, *ascii)),
+        );
     }
-}
-
-#[test]
-fn columns_of_a_row(rt: HostRuntime) -> Result<(), RecordError> {
-    let mut grid = Grid::new(rt.alloc(), 8, 2)?;
-    put(&rt, &mut grid, 1, 0, "a日 ~e\u{301}─", 0, 8)?;
-    check_symbols(&rt, &grid);
-    check_equal(&rt, grid.columns(2).len(), 0);
-    Ok(())
-}
-
-#[test]
-fn wide_symbols_under_others(rt: HostRuntime) -> Result<(), RecordError> {
-    let mut grid = Grid::new(rt.alloc(), 6, 2)?;
-    put(&rt, &mut grid, 1, 0, "日本語", 0, 6)?;
-    put(&rt, &mut grid, 1, 0, "日", 1, 6)?;
-    check_view(&rt, &grid, "\"      \"\n\"  本語\"\n")?;
-    put(&rt, &mut grid, 1, 3, "字", 0, 6)?;
-    check_view(&rt, &grid, "\"      \"\n\"   字 \"\n")?;
-    put(&rt, &mut grid, 0, 0, "abcdef", 0, 6)?;
-    check_view(&rt, &grid, "\"abcdef\"\n\"   字 \"\n")?;
-    check_equal(&rt, (grid.width(), grid.height()), (6, 2));
-    Ok(())
-}
-
-/// A column, a number of spaces from there on, the first and the end of the columns that may
-/// change, and what the row shows.
-type Spaces = (isize, usize, usize, usize, &'static str);
-
-/// Puts the spaces of `row` over three wide symbols of `grid`, and checks what that shows.
-fn check_spaces(rt: &impl Abort, grid: &mut Grid, row: Spaces) -> Result<(), RecordError> {
-    put(rt, grid, 0, 0, "日本語", 0, 6)?;
-    assert!(rt; 0 < grid.height());
-    assert!(rt; row.3 <= grid.width());
-    grid.put_blank(0, row.0, row.1, row.2, row.3);
-    check_view(rt, grid, row.4)
-}
-
-/// Spaces on a row of six columns.
-const SPACES: &[Spaces] = &[
-    (2, 2, 0, 6, "\"日  語\"\n"),
-    (1, 2, 0, 6, "\"    語\"\n"),
-    (3, 1, 0, 6, "\"日  語\"\n"),
-    (-3, 4, 0, 6, "\"  本語\"\n"),
-    (-3, 3, 0, 6, "\"日本語\"\n"),
-    (5, usize::MAX, 0, 6, "\"日本  \"\n"),
-    (-1, usize::MAX, 0, 6, "\"      \"\n"),
-    (0, 6, 2, 4, "\"日  語\"\n"),
-    (0, 6, 1, 3, "\"    語\"\n"),
-    (0, 6, 4, 2, "\"日本語\"\n"),
-    (0, 0, 0, 6, "\"日本語\"\n"),
-    (6, 1, 0, 6, "\"日本語\"\n"),
-    (isize::MAX, usize::MAX, 0, 6, "\"日本語\"\n"),
-    (isize::MIN, 9, 0, 6, "\"日本語\"\n"),
-];
-
-#[test]
-fn spaces_over_symbols(rt: HostRuntime) -> Result<(), RecordError> {
-    let mut grid = Grid::new(rt.alloc(), 6, 1)?;
-    for row in SPACES {
-        check_spaces(&rt, &mut grid, *row)?;
-    }
-    Ok(())
+    check_equal(rt, grid.columns(2).len(), 0);
 }
 
 /// Rows and columns of a grid of two rows and four columns, and the symbols there, if any.
@@ -514,55 +614,8 @@ fn check_places(rt: &impl Abort, grid: &Grid) {
 }
 
 #[test]
-fn symbols_with_their_columns(rt: HostRuntime) -> Result<(), RecordError> {
-    let mut grid = Grid::new(rt.alloc(), 4, 2)?;
-    put(&rt, &mut grid, 1, 0, "日e\u{301}", 0, 4)?;
-    check_places(&rt, &grid);
+fn columns_have_symbols(rt: HostRuntime) -> Result<(), RecordError> {
+    check_symbols(&rt, &grid_with(&rt, rt.alloc(), 8, 2, "a日 ~e\u{301}─")?);
+    check_places(&rt, &grid_with(&rt, rt.alloc(), 4, 2, "日e\u{301}")?);
     Ok(())
-}
-
-/// Puts `text` on the first row of a cleared grid, and returns the columns of the whole text.
-fn measured(
-    rt: &impl Abort,
-    grid: &mut Grid,
-    column: isize,
-    text: &str,
-) -> Result<usize, RecordError> {
-    grid.clear();
-    assert!(rt; 0 < grid.height());
-    grid.put_measured(0, column, text, 0, grid.width())
-}
-
-/// A column, a text that begins there, its columns, and what a row of four columns shows.
-type Measured = (isize, &'static str, usize, &'static str);
-
-/// Texts on a row of four columns.
-const MEASURED: &[Measured] = &[
-    (0, "", 0, "\"    \"\n"),
-    (1, "ab", 2, "\" ab \"\n"),
-    (2, "abcd", 4, "\"  ab\"\n"),
-    (-1, "日本語", 6, "\" 本 \"\n"),
-    (9, "e\u{301}日", 3, "\"    \"\n"),
-];
-
-/// Puts the text of `row` on the first row of `grid`, and checks its columns and what that shows.
-fn check_measured(rt: &impl Abort, grid: &mut Grid, row: Measured) -> Result<(), RecordError> {
-    let found = measured(rt, grid, row.0, row.1)?;
-    check_equal(rt, (row.1, found), (row.1, row.2));
-    check_view(rt, grid, row.3)
-}
-
-#[test]
-fn a_put_measures_its_whole_text(rt: HostRuntime) -> Result<(), RecordError> {
-    let mut grid = Grid::new(rt.alloc(), 4, 1)?;
-    for row in MEASURED {
-        check_measured(&rt, &mut grid, *row)?;
-    }
-    Ok(())
-}
-
-#[test]
-fn grids_without_columns_show_nothing(rt: HostRuntime) -> Result<(), RecordError> {
-    let narrow = Grid::new(rt.alloc(), 0, 3)?;
-    check_view(&rt, &narrow, "")
 }
