@@ -141,6 +141,9 @@ const OTHERS: &[&[u8]] = &[
     b"\x1b]11;rgb:cccc/aaaa/ffff\x07",
 ];
 
+/// A click in rxvt's form, where the button is 32 more than in xterm's SGR form.
+const RXVT_CLICK: &[u8] = b"\x1b[32;5;3M";
+
 /// Returns the event of a key that goes down.
 fn key(code: KeyCode, modifiers: KeyModifiers) -> TerminalEvent {
     TerminalEvent::Key(KeyEvent {
@@ -168,30 +171,25 @@ fn first_event(bytes: &[u8]) -> (Option<TerminalEvent>, usize) {
     (first, count)
 }
 
-/// Checks that the bytes of `row` are the one key that goes down with these modifiers.
-fn check_key(rt: &impl Abort, row: (&[u8], KeyCode, KeyModifiers)) {
-    check_equal(rt, first_event(row.0), (Some(key(row.1, row.2)), 1));
+/// Checks that the bytes of each row are the one key that goes down with these modifiers.
+fn check_keys(rt: &impl Abort, rows: &[(&[u8], KeyCode, KeyModifiers)]) {
+    for (bytes, code, modifiers) in rows {
+        check_equal(rt, first_event(*bytes), (Some(key(*code, *modifiers)), 1));
+    }
 }
 
 #[test]
 fn keys(rt: HostRuntime) {
-    for row in TMUX {
-        check_key(&rt, *row);
-    }
-}
-
-#[test]
-fn other_forms(rt: HostRuntime) {
-    for row in OTHER_FORMS {
-        check_key(&rt, *row);
-    }
-}
-
-#[test]
-fn others(rt: HostRuntime) {
+    check_keys(&rt, TMUX);
+    check_keys(&rt, OTHER_FORMS);
     for bytes in OTHERS {
-        check_equal(&rt, first_event(bytes), (Some(TerminalEvent::Other), 1));
+        check_equal(&rt, first_event(*bytes), (Some(TerminalEvent::Other), 1));
     }
+    check_equal(
+        &rt,
+        first_event(RXVT_CLICK),
+        (Some(event_of(Told::Click)), 1),
+    );
 }
 
 /// An event, as a constant.
@@ -230,21 +228,12 @@ fn event_of(told: Told) -> TerminalEvent {
 enum Step {
     /// Bytes.
     Bytes(&'static [u8]),
-    /// A silence of which no event comes.
-    Silence,
-    /// A silence of which this event comes.
-    SilenceTold(Told),
+    /// A silence, and the event that comes of it, if any.
+    Silence(Option<Told>),
     /// All events of bytes so far.
     All(&'static [Told]),
     /// The last event of bytes.
     Last(Told),
-}
-
-/// A click in rxvt's form, where the button is 32 more than in xterm's SGR form.
-#[test]
-fn a_click_of_rxvt(rt: HostRuntime) {
-    let click = event_of(Told::Click);
-    check_equal(&rt, first_event(b"\x1b[32;5;3M"), (Some(click), 1));
 }
 
 /// Checks that `events` are `wanted`.
@@ -264,8 +253,8 @@ fn take_step(
 ) -> Result<(), AllocError> {
     match step {
         Step::Bytes(bytes) => decoder.feed(bytes, events)?,
-        Step::Silence => check_equal(rt, decoder.idle(), None),
-        Step::SilenceTold(told) => check_equal(rt, decoder.idle(), Some(event_of(told))),
+        Step::Silence(None) => check_equal(rt, decoder.idle(), None),
+        Step::Silence(Some(told)) => check_equal(rt, decoder.idle(), Some(event_of(told))),
         Step::All(wanted) => check_all(rt, events.as_slice(), wanted),
         Step::Last(told) => check_equal(rt, events.last().copied(), Some(event_of(told))),
     }
@@ -294,32 +283,20 @@ const FRONT_END_KEYS: &[Step] = &[
     ]),
 ];
 
-#[test]
-fn front_end_keys(rt: HostRuntime) -> Result<(), Fail> {
-    check_session(&rt, rt.alloc(), FRONT_END_KEYS)?;
-    Ok(())
-}
-
 /// A click comes in two pieces, and an Esc after it.
 const CLICK: &[Step] = &[
     Step::Bytes(b"\x1b[<0;5"),
     Step::All(&[]),
     Step::Bytes(b";3M\x1b"),
     Step::All(&[Told::Click]),
-    Step::SilenceTold(Told::Plain(KeyCode::Esc)),
-    Step::Silence,
+    Step::Silence(Some(Told::Plain(KeyCode::Esc))),
+    Step::Silence(None),
 ];
-
-#[test]
-fn a_click_in_two_pieces(rt: HostRuntime) -> Result<(), Fail> {
-    check_session(&rt, rt.alloc(), CLICK)?;
-    Ok(())
-}
 
 /// A paste acts as no key.
 const PASTE: &[Step] = &[
     Step::Bytes(b"\x1b[200~q\x03\x1b[20"),
-    Step::Silence,
+    Step::Silence(None),
     Step::Bytes(b"1~\r"),
     Step::All(&[
         Told::Other,
@@ -330,40 +307,28 @@ const PASTE: &[Step] = &[
     ]),
 ];
 
-#[test]
-fn a_paste_acts_as_no_key(rt: HostRuntime) -> Result<(), Fail> {
-    check_session(&rt, rt.alloc(), PASTE)?;
-    Ok(())
-}
-
 /// A silence may tear the Up key anywhere, and be reported twice: its letter is no key.
 const TORN_ARROW: &[Step] = &[
     Step::Bytes(b"\x1b"),
-    Step::SilenceTold(Told::Plain(KeyCode::Esc)),
-    Step::Silence,
+    Step::Silence(Some(Told::Plain(KeyCode::Esc))),
+    Step::Silence(None),
     Step::Bytes(b"["),
-    Step::Silence,
+    Step::Silence(None),
     Step::Bytes(b"A\x1b[1;"),
-    Step::Silence,
+    Step::Silence(None),
     Step::Bytes(b"5A"),
     Step::All(&[Told::Plain(KeyCode::Up), Told::ControlUp]),
 ];
-
-#[test]
-fn a_torn_arrow_is_no_letter(rt: HostRuntime) -> Result<(), Fail> {
-    check_session(&rt, rt.alloc(), TORN_ARROW)?;
-    Ok(())
-}
 
 /// After a real Esc a letter is a key at once. Alt with a byte that begins a control string is no
 /// key, and hides none after a silence. The rest of a torn answer on colours is no key.
 const SILENCES: &[Step] = &[
     Step::Bytes(b"\x1b"),
-    Step::SilenceTold(Told::Plain(KeyCode::Esc)),
+    Step::Silence(Some(Told::Plain(KeyCode::Esc))),
     Step::Bytes(b"c\x1b]"),
-    Step::SilenceTold(Told::Other),
+    Step::Silence(Some(Told::Other)),
     Step::Bytes(b"q\x1b]11;rgb:c"),
-    Step::Silence,
+    Step::Silence(None),
     Step::Bytes(b"ccc\x07"),
     Step::All(&[
         Told::Plain(KeyCode::Char('c')),
@@ -372,20 +337,14 @@ const SILENCES: &[Step] = &[
     ]),
 ];
 
-#[test]
-fn keys_after_silences(rt: HostRuntime) -> Result<(), Fail> {
-    check_session(&rt, rt.alloc(), SILENCES)?;
-    Ok(())
-}
-
 /// A paste whose end mark is lost ends with Ctrl-C between two silences, and with no other Ctrl-C.
 const LOST_MARK: &[Step] = &[
     Step::Bytes(b"\x1b[200~a\x1b["),
-    Step::Silence,
+    Step::Silence(None),
     Step::Bytes(b"\x03q"),
-    Step::Silence,
+    Step::Silence(None),
     Step::Bytes(b"q\x03"),
-    Step::Silence,
+    Step::Silence(None),
     Step::All(&[
         Told::Other,
         Told::Other,
@@ -396,13 +355,25 @@ const LOST_MARK: &[Step] = &[
         Told::Other,
     ]),
     Step::Bytes(b"\x03"),
-    Step::SilenceTold(Told::Control('c')),
+    Step::Silence(Some(Told::Control('c'))),
     Step::Bytes(b"q"),
     Step::Last(Told::Plain(KeyCode::Char('q'))),
 ];
 
+/// All sessions.
+const SESSIONS: &[&[Step]] = &[
+    FRONT_END_KEYS,
+    CLICK,
+    PASTE,
+    TORN_ARROW,
+    SILENCES,
+    LOST_MARK,
+];
+
 #[test]
-fn a_lost_mark_locks_nobody_out(rt: HostRuntime) -> Result<(), Fail> {
-    check_session(&rt, rt.alloc(), LOST_MARK)?;
+fn keys_after_silences(rt: HostRuntime) -> Result<(), Fail> {
+    for steps in SESSIONS {
+        check_session(&rt, rt.alloc(), *steps)?;
+    }
     Ok(())
 }
