@@ -1,5 +1,5 @@
 -- What a run shows of two commits: screenshots are windows, clicks act on the owners of their places, and the store has screenshots alone.
-use Rattle.std.proofs.Common.{◌≡◌, ℕ, ◌+◌, ◌<◌, ◌≤◌, Bool, true, false, List, cond, inl, inr, Option, refl, ap, ◌∙◌, arith}
+use Rattle.std.proofs.Common.{◌≡◌, ℕ, ◌+◌, ◌<◌, ◌≤◌, Bool, true, false, List, [], cond, inl, inr, Option, refl, ap, ◌∙◌, arith}
 use Rattle.scm_types.specs.Limits.{max_scroll}
 use Rattle.scm_cells.specs.Screen.{view_of}
 use Rattle.scm_render.specs.Canvas.{Row}
@@ -13,17 +13,22 @@ use Rattle.scm_input.specs.declared.inputs.TerminalKind.{TerminalKind}
 use Rattle.scm_input.specs.declared.inputs.TerminalKind.TheVariants.{Testing}
 use Rattle.scm_input.specs.Store.{Store}
 use Rattle.scm_record.specs.Session.{Session, IsDrawable}
+use Rattle.scm_record.specs.Live.{Live}
+use Rattle.scm_record.specs.LiveCalls.{AreRuns, Call, last, resized}
+use Rattle.scm_record.specs.declared.live.Turn.TheVariants.{Waiting}
 use Rattle.scm_record.specs.Frames.{columns_of, rows_of, scene_of}
 use Rattle.scm_record.specs.FrameQueries.{hit, shot_of}
 use Rattle.scm_record.specs.Clicks.{after_click}
 use Rattle.scm_record.specs.Run.{World, after_change, after_screenshot, Before}
 use Rattle.scm_record.specs.Headline.{blank_text, Handling, IsShot, StoreHasShots}
+use Rattle.scm_record.proofs.AcceptedLemmas.{start-drawable}
 use Rattle.scm_record.proofs.BatchLemmas.{cleared-by-redraw, handling-reached}
 use Rattle.scm_record.proofs.DrawableLemmas.{reaches-drawable}
 use Rattle.scm_record.proofs.FrameLemmas.{free-is}
+use Rattle.scm_record.proofs.LiveLemmas.{sessions-are-runs}
 use Rattle.scm_record.proofs.ShotLemmas.{hit-on_screen}
 use Rattle.scm_beside_laws.specs.Laws.{AppsShowWindowsBeside, IsBeside}
-use Rattle.scm_beside_laws.specs.Runs.{ClicksHitOwnersBeside, IsAdjacent, IsShotBeside, ScreensShowBeside, ShotsAreWindowsBeside, ShowsBeside, StoreHasShotsBeside, drawn_owner, drawn_window, shot_text_beside}
+use Rattle.scm_beside_laws.specs.Runs.{ClicksHitOwnersBeside, IsAdjacent, IsShotBeside, ScreensShowBeside, SessionsHitOwnersBeside, ShotsAreWindowsBeside, ShowsBeside, StoreHasShotsBeside, drawn_owner, drawn_window, shot_text_beside}
 use Rattle.scm_beside_laws.proofs.BesideOwnerLemmas.{finds-beside}
 
 -- ---- a screen
@@ -74,6 +79,18 @@ module _ (windows : AppsShowWindowsBeside) (apart : IdsAreToldApart) (kind : Ter
 
 pub screens-show : AppsShowWindowsBeside → IdsAreToldApart → ScreensShowBeside
 screens-show windows apart kind drawn two = shows-beside windows apart kind drawn two
+
+-- ---- live sessions
+
+-- a live session that waits can be drawn
+waiting-drawable : {s : Session} {kind : TerminalKind} {calls : List Call} {l : Live} → IsDrawable s → AreRuns s kind calls (Waiting l) → IsDrawable l.session
+waiting-drawable drawable (last k run) = let led = run.leads [] [] in reaches-drawable led.3 drawable
+waiting-drawable drawable (resized k run runs) = let led = run.leads [] [] in waiting-drawable (reaches-drawable led.3 drawable) runs
+
+pub sessions-hit : ScreensShowBeside → SessionsHitOwnersBeside
+sessions-hit screens given kind calls l row column accepted path two is_row is_column =
+    let low = (waiting-drawable (start-drawable given accepted) (sessions-are-runs given kind calls accepted (Waiting l) path)).scroll in
+    (screens l.kind l.session two).hits l.session.scroll row column low is_row is_column
 
 -- ---- runs
 

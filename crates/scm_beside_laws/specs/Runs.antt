@@ -1,8 +1,9 @@
 -- What runs and live sessions show of two commits beside each other: the clauses `shots`, `stored` and `clicks` of the headline, with the
 -- window of two commits in the place of the inline one.
-use Rattle.std.specs.Prelude.{◌≡◌, ℕ, ◌+◌, ◌<◌, ◌≤◌, List, ◌∷◌, slice_get, ◌⊎◌, Option, Some, if◌then◌else◌}
+use Rattle.std.specs.Prelude.{◌≡◌, ℕ, ◌+◌, ◌<◌, ◌≤◌, IsTrue, List, ◌∷◌, slice_get, ◌⊎◌, Option, Some, if◌then◌else◌}
 use Rattle.std.specs.List.{list_any}
-use Rattle.scm_types.specs.Limits.{max_scroll}
+use Rattle.scm_types.specs.declared.state.RecordState.{RecordState}
+use Rattle.scm_types.specs.Limits.{is_accepted_state, max_scroll}
 use Rattle.scm_cells.specs.Screen.{view_of}
 use Rattle.scm_render.specs.Canvas.{Row}
 use Rattle.scm_widgets.specs.declared.ids.ComponentId.{ComponentId}
@@ -13,7 +14,10 @@ use Rattle.scm_input.specs.declared.events.TestingScreenshot.{TestingScreenshot}
 use Rattle.scm_input.specs.declared.inputs.TerminalKind.{TerminalKind}
 use Rattle.scm_input.specs.Store.{Store}
 use Rattle.scm_screen.specs.Beside.{owner_beside, window_beside}
-use Rattle.scm_record.specs.Session.{Session}
+use Rattle.scm_record.specs.Session.{Session, start}
+use Rattle.scm_record.specs.Live.{Live}
+use Rattle.scm_record.specs.LiveCalls.{Call, Path}
+use Rattle.scm_record.specs.declared.live.Turn.TheVariants.{Waiting}
 use Rattle.scm_record.specs.Frames.{columns_of, rows_of, scene_of}
 use Rattle.scm_record.specs.FrameQueries.{hit}
 use Rattle.scm_record.specs.Clicks.{after_click}
@@ -50,6 +54,15 @@ pub record ShowsBeside (kind : TerminalKind) (drawn : Session) : Type 0 where
 -- Each screen that shows two commits shows them so.
 abbrev pub ScreensShowBeside : Type 0
 ScreensShowBeside = (kind : TerminalKind) (drawn : Session) → IsAdjacent kind drawn → ShowsBeside kind drawn
+
+-- A click on the screen of each live session that shows two commits hits the owner of its place. Calls have led to the session from the
+-- start of an accepted state.
+abbrev pub SessionsHitOwnersBeside : Type 0
+SessionsHitOwnersBeside =
+    (given : RecordState) (kind : TerminalKind) (calls : List Call) (l : Live) (row column : ℕ)
+    → IsTrue (is_accepted_state given) → Path (Waiting (record { session = start given; kind = kind })) calls (Waiting l)
+    → IsAdjacent l.kind l.session → row < rows_of l.kind → column < columns_of l.kind
+    → hit (scene_of l.kind l.session) l.session.scroll row column ≡ drawn_owner l.kind l.session (l.session.scroll + row) column
 
 -- ---- screenshots
 

@@ -3,7 +3,7 @@ ghost use Rattle.scm_input.specs.Store.{Store};
 ghost use Rattle.scm_record.specs.Headline.{StoreHasShots};
 ghost use Rattle.scm_record.specs.Run.{Before, World};
 ghost use Rattle.scm_record.specs.Session.{IsDrawable};
-ghost use Rattle.scm_beside_laws.specs.Runs.{ClicksHitOwnersBeside, ScreensShowBeside, ShotsAreWindowsBeside, StoreHasShotsBeside};
+ghost use Rattle.scm_beside_laws.specs.Runs.{ClicksHitOwnersBeside, ScreensShowBeside, SessionsHitOwnersBeside, ShotsAreWindowsBeside, StoreHasShotsBeside};
 
 use crate::laws::apps_show_windows_beside;
 use scm_view::laws::ids_are_told_apart;
@@ -11,7 +11,7 @@ use scm_view::laws::ids_are_told_apart;
 /// Proves that a screen of at least 21 columns and two rows that shows two commits has the rows of their window, and
 /// that a click there hits the owner that the window names.
 ///
-/// The screen and the owners of a [`LiveSession`](scm_record::LiveSession) are these.
+/// The grid of a [`LiveSession`](scm_record::LiveSession) has these rows.
 ///
 /// This is a law: the function does nothing, and is there for its contract.
 pub fn screens_show_beside()
@@ -19,6 +19,16 @@ pub fn screens_show_beside()
 {
     apps_show_windows_beside();
     ids_are_told_apart();
+}
+
+/// Proves of each live session what [`owner`](scm_record::LiveSession::owner) returns of two commits on at least 21
+/// columns and two rows: the owner that their window names at the place.
+///
+/// This is a law: the function does nothing, and is there for its contract.
+pub fn sessions_hit_owners_beside()
+    ensures { SessionsHitOwnersBeside }
+{
+    screens_show_beside();
 }
 
 /// Proves of each run, as of a [`Recorder`](scm_record::Recorder), what its screenshots show of two commits: the
