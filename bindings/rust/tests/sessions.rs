@@ -402,7 +402,7 @@ fn a_pager_shows_what_accepting_gives() {
     assert_eq!(session.side_bytes(0, Side::Selected).unwrap(), b"same\ntwo\n");
     assert!(page.contains("  same") && page.contains("+ two") && page.contains("1-2/2"), "{page:?}");
     // the first line of the section is removed: the next one is on the second row of the side
-    session.show_in_pager(&mut pager, 1, 0, 2).unwrap();
+    session.show_in_pager(&mut pager, 2, 0, 2).unwrap();
     assert_eq!(pager.top(), 1);
     session.type_in_pager(&mut pager, b"P", 60, 8).unwrap();
     assert_eq!((pager.side(), pager.top(), pager.is_open()), (Side::Unselected, 0, true));
