@@ -222,7 +222,8 @@ PARTS = {
     "programs/merge-tool/gabrosty-merge-tool.1": lambda rows: man_page(rows, [it for it in LAYER if it not in OF_SECTIONS]),
     "programs/shared/keys.h": c_text,
     "programs/choosing/front_end.py": lambda rows: 'KEYS = """Keys:\n%s"""\n' % plain(first(rows)),
-    "tools/archive.md": lambda rows: markdown(first(rows)),
+    # the man pages, which the archive has, name the others
+    "tools/archive.md": lambda rows: markdown(named(rows, FIRST)),
 }
 
 
