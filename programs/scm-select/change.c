@@ -61,9 +61,43 @@ static gabro_shown shown_as(const change *change) {
     return shown;
 }
 
+/* Returns the bytes that are shown of a version. */
+static piece shown_bytes(const change *change, const version *version) {
+    bool gives_way = change->blanks != ALL_CHANGES && version == (change->blanks == BLANKS_OF_OLD ? &change->new : &change->old);
+    return gives_way ? (piece){change->lines.bytes, change->lines.length} : version->bytes;
+}
+
 /* Returns the lines of a version that is shown with this mode: of no file there are none. So no link is ever made of a part of its
  * target. */
-static piece lines_of(const version *version, size_t mode) { return mode == GABRO_ABSENT ? (piece){"", 0} : version->bytes; }
+static piece lines_of(const change *change, const version *version, size_t mode) {
+    return mode == GABRO_ABSENT ? (piece){"", 0} : shown_bytes(change, version);
+}
+
+/* ---- Changes of blanks ---- */
+
+/* Reads `of` without its changes of blanks against `from`. */
+static uint32_t read_without_blanks(piece from, piece of, text *into, size_t *left_out) {
+    size_t length = from.length < of.length ? of.length : from.length;
+    uint32_t code = GABRO_DONE;
+    do {
+        if (!make_room(into, length)) {
+            return GABRO_NO_MEMORY;
+        }
+        code = gabro_without_blank_changes(from.bytes, from.length, of.bytes, of.length, into->bytes, into->room, &length, left_out);
+    } while (code == GABRO_DONE && length > into->room);
+    end_at(into, code == GABRO_DONE ? length : 0);
+    return code;
+}
+
+uint32_t leave_out_blanks(change *change, blanks blanks) {
+    if (!change->has_lines || !is_file(&change->old) || !is_file(&change->new)) {
+        return GABRO_DONE;
+    }
+    piece old = change->old.bytes, new = change->new.bytes;
+    change->blanks = blanks;
+    return blanks == BLANKS_OF_OLD ? read_without_blanks(old, new, &change->lines, &change->left_out)
+                                   : read_without_blanks(new, old, &change->lines, &change->left_out);
+}
 
 /* ---- What the file is, in words ---- */
 
@@ -201,7 +235,7 @@ static uint32_t add_counts(text *note, const change *change) {
         return GABRO_DONE;
     }
     gabro_shown shown = shown_as(change);
-    piece old = lines_of(&change->old, shown.old_mode), new = lines_of(&change->new, shown.new_mode);
+    piece old = lines_of(change, &change->old, shown.old_mode), new = lines_of(change, &change->new, shown.new_mode);
     /* what is left has as many more lines as the whole text */
     leave_common(&old, &new);
     uint32_t code = count_changed(old, new, &changed);
@@ -235,6 +269,15 @@ static bool add_binary(text *note, const change *change) {
     return !is_binary || (add_word(note, true, "binary") && add_words(note, file->words.bytes, file->words.length));
 }
 
+/* Adds how many lines are left out, since they differ by blanks alone. */
+static uint32_t add_left_out(text *note, const change *change) {
+    size_t count = change->left_out;
+    const char *words = count == 1 ? "line differs" : "lines differ";
+    bool is_added = count == 0
+                    || (append(note, ", ", note->length > 0 ? 2 : 0) && append_words(note, "%zu %s by blanks alone", count, words));
+    return is_added ? GABRO_DONE : GABRO_NO_MEMORY;
+}
+
 /* Sets `note` to what the file is. */
 static uint32_t make_note(text *note, const change *change) {
     bool is_new = is_absent(&change->old), is_gone = is_absent(&change->new);
@@ -243,7 +286,8 @@ static uint32_t make_note(text *note, const change *change) {
     bool is_made = add_rename(note, change) && add_word(note, is_new, "new") && add_word(note, is_gone, "deleted")
                    && add_word(note, has_other_mode, "mode") && add_target(note, change) && add_binary(note, change)
                    && add_words(note, change->note.bytes, change->note.length);
-    return is_made ? add_counts(note, change) : GABRO_NO_MEMORY;
+    uint32_t code = is_made ? add_counts(note, change) : GABRO_NO_MEMORY;
+    return code == GABRO_DONE ? add_left_out(note, change) : code;
 }
 
 /* Sets `title` to the path of a change, and what the file is. */
@@ -278,7 +322,7 @@ static uint32_t add_items(gabro_session *session, piece title, const change *cha
 /* Adds a file by its two versions. */
 static uint32_t add_texts(gabro_session *session, piece path, const change *change) {
     gabro_shown shown = shown_as(change);
-    piece old = lines_of(&change->old, shown.old_mode), new = lines_of(&change->new, shown.new_mode);
+    piece old = lines_of(change, &change->old, shown.old_mode), new = lines_of(change, &change->new, shown.new_mode);
     return gabro_state_texts(session, path.bytes, path.length, change->old_path.bytes, change->old_path.length, old.bytes, old.length,
                            shown.old_mode, new.bytes, new.length, shown.new_mode);
 }

@@ -11,6 +11,9 @@ typedef struct version {
     piece words; /* describe contents that are no text, as "link to TARGET" or "12 bytes" */
 } version;
 
+/* Which changes of a file are shown: all, or not those of lines that differ by blanks alone, which are as the old or as the new version has them. */
+typedef enum blanks { ALL_CHANGES, BLANKS_OF_OLD, BLANKS_OF_NEW } blanks;
+
 /* A changed file. Its paths are as the user is to see them. */
 typedef struct change {
     piece path;
@@ -19,6 +22,9 @@ typedef struct change {
     version old, new;
     bool has_lines; /* its contents are shown by lines */
     bool has_modes; /* each change of a mode is an item of its own, as a state tells it */
+    blanks blanks;
+    text lines;      /* the bytes that are shown of the version that gives way, if changes of blanks are left out */
+    size_t left_out; /* how many lines are not as that version has them */
 } change;
 
 /* A side of a changed file, as a tree has it. Its contents are lines if `has_lines`. Else they are those of the new version if `is_new`,
@@ -46,8 +52,12 @@ void look_into(change *change);
 /* Has each change of a mode be an item of its own. A text in the place of a link, or a link in that of a text, has no lines then. */
 void show_modes(change *change);
 
-/* Adds a change to the state of `session`. Behind its path it says what the file is, and how many lines come and go. If a line is
- * too long, the contents are one item, and `change->has_lines` says so. Returns the code of the call. */
+/* Has the lines of a change that differ by blanks alone be as one of its versions has them, so that they are no items. Returns the code of the
+ * call. The caller frees `change->lines.bytes`. */
+uint32_t leave_out_blanks(change *change, blanks blanks);
+
+/* Adds a change to the state of `session`. Behind its path it says what the file is, how many lines come and go, and how many
+ * are left out. If a line is too long, the contents are one item, and `change->has_lines` says so. Returns the code of the call. */
 uint32_t add_change(gabro_session *session, change *change);
 
 /* Has the layer say of file `file`, counted from 0, which shows `change`, where it comes from: on the row of its path, in place of a mode

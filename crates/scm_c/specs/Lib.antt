@@ -1,5 +1,7 @@
 -- what the pointer of a C session owns
 pub mod Ownership
+-- what a call tells of a version without changes of blanks
+pub mod Blanks
 -- what calls tell of a merge
 pub mod Merges
 -- a side of a session's file, as trees take it

@@ -19,6 +19,7 @@ ghost use Rattle.scm_c_values.specs.EventWords.{HearsBytes, HearsSilence};
 ghost use Rattle.scm_open_session.specs.Paint.{Forgets, PaintsSession};
 ghost use Rattle.scm_open_session.specs.FrontKeys.{ChangesToKey};
 
+pub mod blank_calls;
 pub mod c_session;
 pub mod cell_calls;
 pub mod count_calls;

@@ -12,6 +12,7 @@ use Rattle.scm_types.specs.declared.section.Section.{Section}
 use Rattle.scm_types.specs.declared.section.Section.TheVariants.{Changed, FileMode}
 use Rattle.scm_types.specs.Split.{side_mode}
 use Rattle.scm_embed.specs.Lines.{lines_of}
+use Rattle.scm_diff.specs.Blanks.{count_other, kept_lines, squeezed}
 use Rattle.scm_diff.specs.Bytes.{bytes_of_text, has_nul, side_bytes, text_of_bytes}
 use Rattle.scm_diff.specs.Change.{checked, checked_line, mode_sections}
 use Rattle.scm_diff.specs.Pairs.{Pair, lines_in, unchecked_line}
@@ -241,3 +242,23 @@ without_sign = refl
 without_marked_sign : new_without (97 ∷ unequal) 0 (sign_span ∷ []) ≡ codes "ax"
 unfolding unicode_segmentation unequal sign_span
 without_marked_sign = refl
+
+-- ---- changes of blanks
+
+-- blanks are left out, a line end is not: `a`, a tab, `b`, CR, a line end
+without_blanks : squeezed (97 ∷ 9 ∷ 98 ∷ 13 ∷ 10 ∷ []) ≡ 97 ∷ 98 ∷ 10 ∷ []
+without_blanks = refl
+
+-- a no-break space (U+A0) is no blank
+no_break : squeezed (codes " " ++ encode_utf8 0xA0) ≡ encode_utf8 0xA0
+no_break = refl
+
+-- `a` became a blank and `a`, and `b` became `ab`: the first line stays as it was, and the second one is the new one
+of_two : kept_lines ((97 ∷ 10 ∷ []) ∷ (98 ∷ 10 ∷ []) ∷ []) ((32 ∷ 97 ∷ 10 ∷ []) ∷ (97 ∷ 98 ∷ 10 ∷ []) ∷ []) 0
+    (record { old_start = 1; old_end = 2; new_start = 1; new_end = 2 } ∷ [])
+    ≡ (97 ∷ 10 ∷ []) ∷ (97 ∷ 98 ∷ 10 ∷ []) ∷ []
+of_two = refl
+
+-- so one line of the new version is left out
+one_of_two : count_other ((97 ∷ 10 ∷ []) ∷ (97 ∷ 98 ∷ 10 ∷ []) ∷ []) ((32 ∷ 97 ∷ 10 ∷ []) ∷ (97 ∷ 98 ∷ 10 ∷ []) ∷ []) ≡ 1
+one_of_two = refl

@@ -14,6 +14,8 @@ pub mod ChangeLemmas
 pub mod SideLemmas
 -- bytes as a text, and back
 pub mod ByteLemmas
+-- a version without changes of blanks
+pub mod BlankLemmas
 -- the words of a line
 pub mod WordLemmas
 -- what two lines have in common at their ends

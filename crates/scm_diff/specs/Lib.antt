@@ -14,5 +14,7 @@ pub mod Bytes
 pub mod Change
 -- from file to file
 pub mod Files
+-- a version without changes of blanks
+pub mod Blanks
 -- the parts in which two lines differ
 pub mod Words

@@ -1,6 +1,7 @@
 //! The differences of two versions of a file, as a file of a state, and the texts of its sides.
 #![tactic(auto)]
 
+mod blanks;
 mod bytes;
 pub mod change;
 mod compare;
@@ -19,6 +20,7 @@ mod sides;
 mod slide;
 mod words;
 
+pub use blanks::{WithoutBlankChanges, without_blank_changes};
 pub use bytes::{bytes_of_text, has_nul, side_bytes, text_of_bytes};
 pub use change::{Version, changed_file};
 pub use compare::hunks;

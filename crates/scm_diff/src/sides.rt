@@ -2,7 +2,7 @@
 ghost use Rattle.std.specs.Prelude.{◌≡◌, ◌∷◌, [], IfOk, OnOk, false};
 ghost use Rattle.std.specs.List.{flat_map};
 ghost use Rattle.scm_types.specs.Split.{changed_lines, is_binary, section_lines, side_lines, tail_of, takes};
-ghost use Rattle.scm_diff.specs.Sides.{closed_text, has_line_end, nothing_yet, side_text, with_line, with_lines};
+ghost use Rattle.scm_diff.specs.Sides.{closed_text, has_line_end, nothing_yet, side_text, text_of, with_line, with_lines};
 
 use scm_types::{ChangeType, File, OwnedText, Section, SectionChangedLine, Text};
 use std::alloc::{AllocError, Global};
@@ -167,6 +167,19 @@ fn join(alloc: Global, sections: &[Section<'_>], selected: bool) -> Result<Joine
         joiner.push_section(section, selected)?;
     }
     Ok(joiner)
+}
+
+/// Returns the text of the lines. A line without a line end gets one where another line follows.
+///
+/// # Errors
+/// `AllocError`: an allocation failed.
+pub(crate) fn text_of(alloc: Global, lines: &[Text<'_>]) -> Result<OwnedText, AllocError>
+    ensures { IfOk result (λ text. text ≡ text_of lines.now) }
+{
+    let mut joiner = Joiner::new(alloc);
+    joiner.push_context(lines)?;
+    let Joiner { text, .. } = joiner;
+    Ok(OwnedText::from(text))
 }
 
 /// Returns the text of the selected side of `file` if `selected`, or of the other side.
