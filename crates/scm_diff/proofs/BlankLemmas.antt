@@ -13,7 +13,7 @@ cut-in-three : (xs : List (List ℕ)) (j run more : ℕ) → (take run (drop j x
 cut-in-three xs j run more =
     let rest : drop (j + run + more) xs ≡ drop more (drop (j + run) xs) = sym (drop-drop more (j + run) xs) in
     let second : take more (drop (j + run) xs) ++ drop (j + run + more) xs ≡ drop run (drop j xs) =
-      ap (λ ys. take more (drop (j + run) xs) ++ ys) rest ∙ take-append-drop more (drop (j + run) xs) ∙ sym (drop-drop run j xs) in
+    ap (λ ys. take more (drop (j + run) xs) ++ ys) rest ∙ take-append-drop more (drop (j + run) xs) ∙ sym (drop-drop run j xs) in
     append_assoc (take run (drop j xs)) (take more (drop (j + run) xs)) (drop (j + run + more) xs)
     ∙ ap (λ ys. take run (drop j xs) ++ ys) second
     ∙ take-append-drop run (drop j xs)
@@ -24,16 +24,16 @@ kept-from old new least i j [] r = sym (drop-map squeezed i old) ∙ r
 kept-from old new least i j (h ∷ hs) r =
     let n = r.0 in
     let before : map squeezed (slice_range old i h.old_start) ≡ take n.run (drop j (map squeezed new)) =
-      sym (take-map squeezed (h.old_start - i) (drop i old))
-      ∙ ap (λ xs. take (h.old_start - i) xs) (sym (drop-map squeezed i old))
-      ∙ ap (λ k. take k (drop i (map squeezed old))) (let e = n.old_begins in omega arith)
-      ∙ n.common in
+    sym (take-map squeezed (h.old_start - i) (drop i old))
+    ∙ ap (λ xs. take (h.old_start - i) xs) (sym (drop-map squeezed i old))
+    ∙ ap (λ k. take k (drop i (map squeezed old))) (let e = n.old_begins in omega arith)
+    ∙ n.common in
     let within : map squeezed (slice_range new h.new_start h.new_end) ≡ take (h.new_end - h.new_start) (drop (j + n.run) (map squeezed new)) =
-      sym (take-map squeezed (h.new_end - h.new_start) (drop h.new_start new))
-      ∙ ap (λ xs. take (h.new_end - h.new_start) xs) (sym (drop-map squeezed h.new_start new) ∙ ap (λ k. drop k (map squeezed new)) n.new_begins) in
+    sym (take-map squeezed (h.new_end - h.new_start) (drop h.new_start new))
+    ∙ ap (λ xs. take (h.new_end - h.new_start) xs) (sym (drop-map squeezed h.new_start new) ∙ ap (λ k. drop k (map squeezed new)) n.new_begins) in
     let after : map squeezed (kept_lines old new h.old_end hs) ≡ drop (j + n.run + (h.new_end - h.new_start)) (map squeezed new) =
-      kept-from old new 1 h.old_end h.new_end hs r.1
-      ∙ ap (λ k. drop k (map squeezed new)) (let e = n.new_begins in let o = n.new_order in omega arith) in
+    kept-from old new 1 h.old_end h.new_end hs r.1
+    ∙ ap (λ k. drop k (map squeezed new)) (let e = n.new_begins in let o = n.new_order in omega arith) in
     map-append squeezed (slice_range old i h.old_start ++ slice_range new h.new_start h.new_end) (kept_lines old new h.old_end hs)
     ∙ ap (λ xs. xs ++ map squeezed (kept_lines old new h.old_end hs)) (map-append squeezed (slice_range old i h.old_start) (slice_range new h.new_start h.new_end))
     ∙ ap (λ xs. (xs ++ map squeezed (slice_range new h.new_start h.new_end)) ++ map squeezed (kept_lines old new h.old_end hs)) before
@@ -61,9 +61,9 @@ count-end ls ms i h = ap (λ x. count_other x (drop i ms)) (drop_all i ls h)
 pub text-found : (old new : List ℕ) (olds news lines : List (List ℕ)) (hs : List Hunk) (text : List ℕ) (count : ℕ) → olds ≡ lines_of old → news ≡ lines_of new → AreHunks (map squeezed olds) (map squeezed news) hs → lines ≡ kept_lines olds news 0 hs → text ≡ text_of lines → count ≡ count_other lines news → IsTextWithoutBlankChanges old new text count
 text-found old new olds news lines hs text count o n h l t k =
     let found : AreHunks (map squeezed (lines_of old)) (map squeezed (lines_of new)) hs =
-      subst (λ x. AreHunks (map squeezed x) (map squeezed (lines_of new)) hs) o (subst (λ x. AreHunks (map squeezed olds) (map squeezed x) hs) n h) in
+    subst (λ x. AreHunks (map squeezed x) (map squeezed (lines_of new)) hs) o (subst (λ x. AreHunks (map squeezed olds) (map squeezed x) hs) n h) in
     let kept : lines ≡ kept_lines (lines_of old) (lines_of new) 0 hs =
-      l ∙ ap (λ x. kept_lines x news 0 hs) o ∙ ap (λ x. kept_lines (lines_of old) x 0 hs) n in
+    l ∙ ap (λ x. kept_lines x news 0 hs) o ∙ ap (λ x. kept_lines (lines_of old) x 0 hs) n in
     record {
       hunks = hs;
       are_hunks = found;

@@ -176,8 +176,11 @@ pub fn without_blank_changes(
 {
     let old_text = text_of_bytes(alloc, old)?;
     let new_text = text_of_bytes(alloc, new)?;
-    let Kept { text, left_out } =
-        text_without_blank_changes(alloc, old_text.as_str(), new_text.as_str())?;
+    let Kept { text, left_out } = text_without_blank_changes(
+        alloc,
+        old_text.as_str(),
+        new_text.as_str(),
+    )?;
     let bytes = bytes_of_text(alloc, text.as_str())?;
     Ok(WithoutBlankChanges { bytes, left_out })
 }
