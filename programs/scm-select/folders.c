@@ -22,6 +22,7 @@ bool show_difference(differing *file) {
 
 void free_difference(differing *file) {
     free(file->shown.bytes);
+    free(file->change.lines.bytes);
     free_found(&file->old);
     free_found(&file->new);
 }

@@ -112,6 +112,8 @@ static const char *follow(handed *handed, const record *record) {
         handed->is_read_only = true;
     } else if (is_word(record->word, "mark-all")) {
         handed->is_all_marked = true;
+    } else if (is_word(record->word, "blanks-of-old") || is_word(record->word, "blanks-of-new")) {
+        handed->blanks = is_word(record->word, "blanks-of-old") ? BLANKS_OF_OLD : BLANKS_OF_NEW;
     } else if (is_word(record->word, "folder") && is_whole_path(record->bytes)) {
         handed->folder = record->bytes;
     } else if (handed->count == 0 || !follow_part(&handed->changes[handed->count - 1], record)) {
@@ -146,6 +148,9 @@ const char *read_handed(piece bytes, handed *handed) {
 void free_handed(handed *handed) {
     for (size_t i = 0; i < handed->count * SHOWN_TEXTS; i++) {
         free(handed->changes[i / SHOWN_TEXTS].shown[i % SHOWN_TEXTS].bytes);
+    }
+    for (size_t i = 0; i < handed->count; i++) {
+        free(handed->changes[i].change.lines.bytes);
     }
     free(handed->changes);
 }

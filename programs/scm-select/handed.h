@@ -22,6 +22,7 @@ typedef struct handed_change {
 typedef struct handed {
     bool is_read_only;
     bool is_all_marked;
+    blanks blanks;
     piece folder; /* the whole path of the folder that the files of changes lie in, or nothing */
     piece messages[MOST_COMMITS];
     size_t commits;

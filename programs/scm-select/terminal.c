@@ -23,14 +23,15 @@
 #include <unistd.h>
 
 static const char HELP[] =
-    "usage: " NAME " [-o FILE] [--marks FILE] OLD NEW\n"
-    "       " NAME " -d [--marks FILE] LEFT RIGHT\n"
+    "usage: " NAME " [-w] [-o FILE] [--marks FILE] OLD NEW\n"
+    "       " NAME " [-w] -d [--marks FILE] LEFT RIGHT\n"
     "       " NAME " [-o FILE] STATE.json\n"
     "       " NAME " --changes CHANGES ACCEPTED\n"
     "       " NAME " --decide < ROWS\n\n"
     "Shows how the file NEW differs from OLD, and writes OLD with the changes that you mark to FILE, or to standard output.\n"
     "With -d, LEFT and RIGHT are folders, and RIGHT then has what LEFT has with the changes that you mark.\n"
     "A state has changes as JSON. With --json, what you accept is written in that form, also of files and folders.\n"
+    "With -w, lines that differ by blanks alone are shown as OLD or LEFT has them, and stay so.\n"
     "--marks takes up the marks of a run that was cut off: it says where they are.\n\n"
     "The status is 0 for accepted changes, 1 if you gave up, and 2 for an error.\n\n"
     KEYS
@@ -46,6 +47,7 @@ typedef enum form { A_STATE, TWO_FILES, TWO_FOLDERS, HANDED_IN } form;
 typedef struct task {
     form form;
     bool is_as_json;
+    blanks blanks;         /* which changes are shown */
     const char *from, *to; /* the paths of what is shown; `to` is NULL for a state */
     const char *output;    /* the file to write to, or NULL for standard output */
     target target;         /* that file, in a folder that is open */
@@ -69,6 +71,16 @@ static uint64_t known_version(uint64_t known, const version *version) {
     return known_by(known_by(known, (piece){(const char *)&mode, sizeof mode}), version->bytes);
 }
 
+/* Leaves out the changes of blanks, if the user or the program asks for it. Such changes are known by that, too: they have other items. */
+static void leave_out(task *task, change *change) {
+    static const char left_out[] = "without blanks";
+    blanks blanks = task->form == HANDED_IN ? task->handed.blanks : task->blanks;
+    if (blanks != ALL_CHANGES) {
+        check_code(leave_out_blanks(change, blanks), "the changes cannot be shown");
+        task->known = known_by(task->known, (piece){left_out, sizeof left_out});
+    }
+}
+
 /* Adds a change to the state. On a terminal it says meanwhile what takes long. If a line is too long to be shown, says so. */
 static void add(gabro_session *session, task *task, change *change) {
     if (task->form != HANDED_IN) {
@@ -77,6 +89,7 @@ static void add(gabro_session *session, task *task, change *change) {
     if (task->is_as_json && task->form != HANDED_IN) {
         show_modes(change);
     }
+    leave_out(task, change);
     bool had_lines = change->has_lines;
     bool is_long = change->old.bytes.length + change->new.bytes.length > MANY_BYTES && isatty(STDERR_FILENO);
     if (is_long) {
@@ -389,14 +402,14 @@ static int read_options(int argc, char **argv, task *task) {
     static const struct option options[] = {
         {"dir-diff", no_argument, NULL, 'd'}, {"output", required_argument, NULL, 'o'}, {"json", no_argument, NULL, 'j'},
         {"changes", no_argument, NULL, 'c'},  {"help", no_argument, NULL, 'h'},         {"version", no_argument, NULL, 'v'},
-        {"decide", no_argument, NULL, 'D'},   {"marks", required_argument, NULL, 'm'},
+        {"decide", no_argument, NULL, 'D'},   {"marks", required_argument, NULL, 'm'}, {"ignore-all-space", no_argument, NULL, 'w'},
         {0},
     };
     int letter;
     opterr = 0;
     task->form = TWO_FILES;
     /* behind the first path are paths alone: git hands in the name of a file, which may be that of an option */
-    while ((letter = getopt_long(argc, argv, "+do:h", options, NULL)) != -1) {
+    while ((letter = getopt_long(argc, argv, "+do:hw", options, NULL)) != -1) {
         check(letter != '?', "wrong arguments", "try " NAME " --help");
         switch (letter) {
         case 'd': task->form = TWO_FOLDERS; break;
@@ -404,6 +417,7 @@ static int read_options(int argc, char **argv, task *task) {
         case 'j': task->is_as_json = true; break;
         case 'o': task->output = optarg; break;
         case 'm': task->marks = optarg; break;
+        case 'w': task->blanks = BLANKS_OF_OLD; break;
         default: return letter;
         }
     }
@@ -415,7 +429,8 @@ static void read_paths(int count, char **paths, task *task) {
     bool is_state = task->form == TWO_FILES && count == 1;
     bool has_output = task->form == TWO_FOLDERS && !task->is_as_json && task->output;
     bool has_marks = task->marks && (is_state || task->form == HANDED_IN);
-    check((count == 2 || is_state) && !has_output && !has_marks, "wrong arguments", "try " NAME " --help");
+    bool has_blanks = task->blanks != ALL_CHANGES && (is_state || task->form == HANDED_IN);
+    check((count == 2 || is_state) && !has_output && !has_marks && !has_blanks, "wrong arguments", "try " NAME " --help");
     task->form = is_state ? A_STATE : task->form;
     task->from = paths[0];
     task->to = is_state ? NULL : paths[1];

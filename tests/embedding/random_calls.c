@@ -725,6 +725,13 @@ static uint32_t merge(void) {
         code = one_of(gabro_open_conflicts(files[0], sizes[0], files[1], sizes[1], files[2], sizes[2], marks, count, &open), wanted, wanted, wanted);
         assert(code == GABRO_DONE ? open <= conflicts : open == 77);
     }
+    size_t left_out = 77;
+    length = 77;
+    memset(out, GUARD, sizeof out);
+    code = one_of(gabro_without_blank_changes(files[0], sizes[0], files[1], sizes[1], out, room, &length, &left_out), GABRO_DONE, GABRO_DONE,
+                  GABRO_DONE);
+    check_buffer(out, room, length, code == GABRO_DONE);
+    assert(code == GABRO_DONE ? length <= sizes[0] + sizes[1] && left_out <= sizes[1] : length == 77 && left_out == 77);
     return code;
 }
 

@@ -702,6 +702,15 @@ def check_merges():
         assert refused(call, base, ours, theirs, marks[1:]) == "no_item"
 
 
+def check_blanks():
+    """A version without changes of blanks."""
+    old, new = b"a\n\tb\nc\xff\nend", b"a \n    b\nnew\nc\xff\r\nend\n"
+    assert scm.without_blank_changes(old, new) == (b"a\n\tb\nnew\nc\xff\nend\n", 3)
+    assert scm.without_blank_changes(new, old) == (b"a \n    b\nc\xff\r\nend", 3)
+    assert scm.without_blank_changes("", "") == (b"", 0) and scm.without_blank_changes("a\u00a0", "a") == (b"a", 0)
+    assert scm.without_blank_changes("x" * 9000, "x " * 9000) == (b"x" * 9000, 1)
+
+
 def check_docstrings():
     """All that is public has a docstring."""
     public = [(name, getattr(scm, name)) for name in scm.__all__]
@@ -774,6 +783,7 @@ def main():
     check_counts()
     check_trees()
     check_merges()
+    check_blanks()
     check_docstrings()
     run_in_threads()
     drive_a_layer()

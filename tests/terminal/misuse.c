@@ -1157,19 +1157,43 @@ static void merge_files(void) {
     assert(gabro_open_conflicts(NULL, 0, NULL, 0, NULL, 0, NULL, 0, &open) == GABRO_DONE && open == 0);
 }
 
+/* Looks that the version `new` without its changes of blanks is `wanted`, also in a buffer that is too short, and how many lines are left out. */
+static void without_blanks(const char *old, const char *new, const char *wanted, size_t count) {
+    char out[64];
+    size_t written = 77, left_out = 77, length = strlen(wanted);
+    memset(out, 'z', sizeof out);
+    assert(gabro_without_blank_changes(old, strlen(old), new, strlen(new), out, sizeof out, &written, &left_out) == GABRO_DONE);
+    assert(written == length && memcmp(out, wanted, length) == 0 && out[length] == 'z' && left_out == count);
+    memset(out, 'z', sizeof out);
+    assert(gabro_without_blank_changes(old, strlen(old), new, strlen(new), out, 1, &written, &left_out) == GABRO_DONE);
+    assert(written == length && left_out == count && out[1] == 'z');
+}
+
+/* A version without changes of blanks: each blank, what is none, and nothing. */
+static void leave_out_blanks(void) {
+    size_t written = 77, left_out = 77;
+    without_blanks("a\nb\n", " a\t\nb\v\f\r\n", "a\nb\n", 2);
+    without_blanks("a\nb\n", "a\nB \nb\n", "a\nB \nb\n", 0);
+    without_blanks("a", "a\n", "a\n", 0);
+    without_blanks("x y\n\xff\n", "xy\n\xff \n", "x y\n\xff\n", 2);
+    assert(gabro_without_blank_changes(NULL, 0, NULL, 0, NULL, 0, &written, &left_out) == GABRO_DONE && written == 0 && left_out == 0);
+}
+
 #ifdef __GLIBC__
-/* Makes one of the four calls. Returns its code, and leaves `written` as it was unless it was done. */
+/* Makes one of the five calls. Returns its code, and leaves `written` as it was unless it was done. */
 static uint32_t merge_by(int which, size_t *written) {
     char out[64];
+    size_t left_out = 77;
     return which == 0   ? gabro_merge_texts(MERGED, out, sizeof out, written)
            : which == 1 ? gabro_merged_bytes(MERGED, "\0\0\0", 3, out, sizeof out, written)
            : which == 2 ? gabro_marked_bytes(MERGED, "\0\1\0", 3, LABELS, 7, out, sizeof out, written)
-                        : gabro_open_conflicts(MERGED, "\0\0\0", 3, written);
+           : which == 3 ? gabro_open_conflicts(MERGED, "\0\0\0", 3, written)
+                        : gabro_without_blank_changes("a\n", 2, " a\nb\n", 5, out, sizeof out, written, &left_out);
 }
 
 /* Refuses one allocation after another of each call: it says so, or all is done. */
 static void merge_without_memory(void) {
-    for (int which = 0; which < 4; which++) {
+    for (int which = 0; which < 5; which++) {
         uint32_t code = GABRO_NO_MEMORY;
         for (long count = 0; code != GABRO_DONE; count++) {
             size_t written = 77;
@@ -1319,6 +1343,7 @@ int main(void) {
     decide_paths();
     decide_without_memory();
     merge_files();
+    leave_out_blanks();
     merge_without_memory();
     tell_path_faults();
     tell_sides();

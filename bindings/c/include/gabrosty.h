@@ -867,6 +867,20 @@ void gabro_tree_shown(const gabro_changed *changed, bool is_other, gabro_shown *
  * there where that file is not. A renamed file is at exactly one of its paths. */
 void gabro_tree_side(const gabro_changed *changed, bool selected, const gabro_side_info *side, gabro_in_tree *in_tree);
 
+/* ---- A version without changes of blanks ---- */
+
+/* Writes the version `new` of a file without the changes from the version `old` that are of blanks alone to `out`, clipped to `room` bytes,
+ * the number of its bytes to `written`, and how many lines are left out to `left_out`. A line that differs by blanks alone from the line of
+ * `old` that it is compared with is as `old` has it. A blank is a tab, a vertical tab, a form feed, a carriage return or a space; the line end
+ * is none. Bytes that are not UTF-8 come back.
+ *
+ * To show a file so, hand this version to gabro_state_texts in place of `new`: the lines that are left out are no items, so whatever is
+ * marked, they are as `old` has them. To have them be as `new` has them, hand in `old` without its changes from `new`.
+ *
+ * Returns GABRO_DONE or GABRO_NO_MEMORY. */
+GABRO_USE_CODE uint32_t gabro_without_blank_changes(const char *old, size_t old_length, const char *new_bytes, size_t new_length, char *out,
+                                                size_t room, size_t *written, size_t *left_out);
+
 /* ---- The merge of two changed files ----
  *
  * These calls need no session either, and have no state. Two files `ours` and `theirs` came from a file `base`, which may be empty.

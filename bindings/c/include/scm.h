@@ -78,6 +78,7 @@
 #define scm_type gabro_type
 #define scm_type_to_key gabro_type_to_key
 #define scm_version gabro_version
+#define scm_without_blank_changes gabro_without_blank_changes
 #define scm_words gabro_words
 
 #define SCM_ABSENT GABRO_ABSENT

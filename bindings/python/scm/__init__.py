@@ -17,6 +17,7 @@ Or it has the user choose, by one call:
 
 The library is the one that LIBSCM names, or where `tools/install`, `tools/build --shared` or a wheel puts it, or where the system
 looks. `scm.library` is the open library itself."""
+from ._blanks import without_blank_changes
 from ._library import (
     ABSENT, BY_ITEMS, BY_LINES, BY_ONE_ITEM, CODES, NO_INDEX, OF_NEW, OF_OLD, OF_SIDE, PATH_FAULTS, Error, InTree, Shown, decide, library,
     open_library, path_fault, tree_shown, tree_side, version, words,
@@ -40,5 +41,6 @@ __all__ = [
     "Contents", "Dialog", "EDITING", "ENDED", "ENDS", "Error", "FOLDS", "Folds", "InTree", "Item", "Key", "LinePlace", "Mark", "MergeLine",
     "NONE", "NO_INDEX", "OF_NEW", "OF_OLD", "OF_SIDE", "OWNERS", "PARTLY", "PATH_FAULTS", "Pager", "Path", "Session", "Shown", "Side", "Stage",
     "TEXT", "THEMES", "Text", "Theme", "UNCHANGED", "UNCHECKED", "WAITING", "__version__", "decide", "library", "marked_bytes",
-    "merge_texts", "merged_bytes", "open_conflicts", "open_library", "path_fault", "tree_shown", "tree_side", "words",
+    "merge_texts", "merged_bytes", "open_conflicts", "open_library", "path_fault", "tree_shown", "tree_side",
+    "without_blank_changes", "words",
 ]

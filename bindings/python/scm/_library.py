@@ -138,6 +138,8 @@ def declare() -> None:
         ("merge_texts", [*sized, told]), ("merged_bytes", [*sized, *sized, told]), ("open_conflicts", [*sized, told]),
         ("marked_bytes", [*sized, *sized, *sized, *sized, ctypes.c_size_t, *sized, told]),
     )
+    library.gabro_without_blank_changes.argtypes = [*sized, *sized, *sized, told, told]
+    library.gabro_without_blank_changes.restype = ctypes.c_uint32
     for name, others in merges:
         function = getattr(library, "gabro_" + name)
         function.argtypes, function.restype = [*sized, *sized, *sized, *others], ctypes.c_uint32

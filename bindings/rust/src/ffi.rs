@@ -189,6 +189,7 @@ extern "C" {
     pub fn gabro_merged_bytes(base: Bytes, base_length: usize, ours: Bytes, our_length: usize, theirs: Bytes, their_length: usize, marks: Bytes, count: usize, out: Room, room: usize, written: *mut usize) -> u32;
     pub fn gabro_open_conflicts(base: Bytes, base_length: usize, ours: Bytes, our_length: usize, theirs: Bytes, their_length: usize, marks: Bytes, count: usize, open: *mut usize) -> u32;
     pub fn gabro_marked_bytes(base: Bytes, base_length: usize, ours: Bytes, our_length: usize, theirs: Bytes, their_length: usize, marks: Bytes, count: usize, base_label: Bytes, base_label_length: usize, our_label: Bytes, our_label_length: usize, their_label: Bytes, their_label_length: usize, marker_length: usize, out: Room, room: usize, written: *mut usize) -> u32;
+    pub fn gabro_without_blank_changes(old: Bytes, old_length: usize, new: Bytes, new_length: usize, out: Room, room: usize, written: *mut usize, left_out: *mut usize) -> u32;
     pub fn gabro_words(code: u32, out: Room, length: usize) -> usize;
     pub fn gabro_version() -> u32;
     pub fn gabro_free(session: Session);

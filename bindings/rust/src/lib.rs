@@ -68,6 +68,7 @@ mod transfer;
 #[cfg(not(feature = "crossterm"))]
 mod typed;
 
+pub mod blanks;
 pub mod consts;
 pub mod helpers;
 pub mod merges;
