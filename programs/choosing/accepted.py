@@ -113,8 +113,9 @@ def side_in(file, side, change):
 
 
 def sides_of(change):
-    """Returns by what a change is known again."""
-    return [digest_of((change.old.mode, change.old_data)), digest_of((change.new.mode, change.new_data))]
+    """Returns by what a change is known again. It has other items if changes of blanks are left out."""
+    sides = [digest_of((change.old.mode, change.old_data)), digest_of((change.new.mode, change.new_data))]
+    return [*sides, "blanks of " + change.blanks_of] if change.blanks_of else sides
 
 
 def kept_in(path):

@@ -63,6 +63,8 @@ class Change:
 
     note = marks = ""
     file = b""
+    # the version, `old` or `new`, whose lines are shown where both differ by blanks alone, or nothing: then each such line is an item
+    blanks_of = ""
     # the words behind that of a side in the records that have the mode at each of its paths
     modes = "mode",
     # the renamed file of which this is one path

@@ -92,6 +92,7 @@ def records_of(changes, messages, settings, files_folder):
     opened, if there are such."""
     yield from (record("message", message) for message in messages)
     yield from (record(name) for name in settings)
+    yield from (record("blanks-of-" + version) for version in {change.blanks_of for change in changes if change.blanks_of})
     yield from [record("folder", os.fsencode(files_folder))] if files_folder else []
     yield from (change.records() for change in changes)
 

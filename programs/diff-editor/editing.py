@@ -31,6 +31,7 @@ def read_options():
     reader.add_argument("-o", "--output", metavar="OUTPUT", help="write what is chosen to this folder or file, and leave RIGHT")
     reader.add_argument("--mark-all", action="store_true", help="begin with every change marked")
     reader.add_argument("--marks", metavar="FILE", help="take up the marks that were kept in this file")
+    reader.add_argument("-w", "--ignore-all-space", action="store_true", help="leave lines that differ by blanks alone as LEFT has them")
     how = reader.add_mutually_exclusive_group()
     how.add_argument("--read-only", action="store_true", help="show the changes; nothing can be marked, and nothing is written")
     how.add_argument("--dry-run", action="store_true", help="say what would be written, and write nothing")
@@ -49,7 +50,7 @@ def change_of(path, pair):
     return Change(path, [Read(mode, data, "sha1") for mode, data in pair], {})
 
 
-def read(sides):
+def read(sides, options):
     """Returns what differs between two sides. Names what is left out, and each file with a conflict."""
     begun = time.monotonic()
     with waits("looking for changes ..", begun):
@@ -61,6 +62,7 @@ def read(sides):
     for change in changes:
         # the user may open its new version in an editor
         change.file = b"" if change.new.mode in NO_FILES else os.fsencode(change.path)
+        change.blanks_of = "old" if options.ignore_all_space else ""
     for change in filter(has_conflict, changes):
         say(conflict_note(change))
         change.note = "conflict markers"
@@ -179,7 +181,7 @@ def edit(options, folder):
 def show(options, are_folders, target, folder, kept):
     """Shows what differs, with the marks `kept` of a choice that ended, if any, and puts in place what is chosen. Returns the status, or FileChanged."""
     sides = compared(options, target, are_folders)
-    changes = read(sides)
+    changes = read(sides, options)
     if not options.read_only and not options.dry_run and sides.is_copied_back():
         warn_of_added(changes)
     if not changes and (options.read_only or not options.output):

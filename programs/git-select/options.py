@@ -71,6 +71,12 @@ OPTIONS = (
         "The message to begin with, for `--commit`, `--amend`, `--split` (of the first commit) and `--stash`.",
     ),
     Option(
+        ["-w", "--ignore-all-space"], None, "leave lines that differ by blanks alone as they are now",
+        "Shows lines that differ by blanks alone as they are now in what is written, and leaves them so, whatever you mark. Blanks are tabs, "
+        "vertical tabs, form feeds, carriage returns and spaces. The row of a file says how many such lines it has. It is not for `--stash`.",
+        None, None, {"action": "store_true"},
+    ),
+    Option(
         ["--only"], "PATH", "show only what this path or pathspec names; can be given again", "Shows only what *PATH* names, which is a "
         "pathspec of git (gitglossary). It can be given again, and is the same as *PATH* without an option. What is staged goes into a "
         "commit all the same.", None, "files", {"action": "append", "default": []},
@@ -170,7 +176,9 @@ def read_options(reader, words):
         reader.error("a message is for " + TOLD_WORDS)
     if options.edit and options.way not in (*EDITED, FINISH, UNDO):
         reader.error("the editor is for a choice that goes into the index")
-    if options.way in (FINISH, UNDO) and (options.paths or options.marks or options.edit or options.then):
+    if options.ignore_all_space and STASH in (options.way, THEN.get(options.then)):
+        reader.error("a stash has changes of blanks, too")
+    if options.way in (FINISH, UNDO) and (options.paths or options.marks or options.edit or options.then or options.ignore_all_space):
         reader.error("--%s takes nothing else" % options.way)
     if not is_text(options.message or ""):
         reader.error("the message is not UTF-8")

@@ -44,6 +44,9 @@ def read(way, begun):
     with waits("reading %s .." % counted(len(sides), "file"), begun):
         changes = read_changes(scratch, sides)
     name_files(way, changes)
+    for change in changes if way.options.ignore_all_space else ():
+        # lines that differ by blanks alone stay as they are now
+        change.blanks_of = way.use.now
     return changes
 
 
@@ -156,7 +159,7 @@ def use(way, accepted):
             say_each(way.notes)
             say(ending(error, "written by then: " + ", ".join(way.written) if way.written else way.nothing))
             if not way.written and not isinstance(error, HalfDone):
-                keep(accepted.kept(), way.words)
+                keep(accepted.kept(), words_again(way))
             return 1
         say_each(way.notes)
         tell(reports, "what was marked is %s, but its names cannot be written" % way.done if choices else way.nothing)
@@ -166,6 +169,11 @@ def use(way, accepted):
 def say_each(lines):
     for line in lines:
         say(line)
+
+
+def words_again(way):
+    """Returns the command that takes up marks of this choice."""
+    return [*way.words, "-w"] if way.options.ignore_all_space else way.words
 
 
 def looks(way):
@@ -212,7 +220,7 @@ def show(way, kept, folder, begun):
     say_each(way.before())
     marks = way.options.marks
     failed = "the marks were those of %s: nothing changed" % shown(marks) if marks else None
-    more = {"environment": {**looks(way), **way.environment()}, "words": way.words, "files_folder": os.path.abspath(way.repository.top)}
+    more = {"environment": {**looks(way), **way.environment()}, "words": words_again(way), "files_folder": os.path.abspath(way.repository.top)}
     return choose(changes, folder, "nothing changed", task, messages, failed, **more)
 
 

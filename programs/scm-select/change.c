@@ -342,6 +342,8 @@ uint32_t add_change(gabro_session *session, change *change) {
     uint32_t code = add_titled(session, change);
     if (code == GABRO_TOO_LONG && change->has_lines) {
         change->has_lines = false;
+        change->blanks = ALL_CHANGES;
+        change->left_out = 0;
         code = add_titled(session, change);
     }
     return code;

@@ -9,7 +9,7 @@ _git_select() {
     --then) ;;
     --untracked-files) ;;
     --marks) ;;
-    *) case $word in -*) words="--unstage --restore --stash --commit --amend --fixup --split --finish --undo -m --message --only --edit --then --untracked-files --no-untracked --read-all -v --verbose --marks --version -h --help" ;; esac ;;
+    *) case $word in -*) words="--unstage --restore --stash --commit --amend --fixup --split --finish --undo -m --message -w --ignore-all-space --only --edit --then --untracked-files --no-untracked --read-all -v --verbose --marks --version -h --help" ;; esac ;;
     esac
     # without words, files are completed
     COMPREPLY=()

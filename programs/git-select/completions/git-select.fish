@@ -9,6 +9,7 @@ complete -c git-select -l split -d 'make two commits of the last one: the first 
 complete -c git-select -l finish -d 'finish a restore or a stash that was cut off'
 complete -c git-select -l undo -d 'undo a restore or a stash that was cut off'
 complete -c git-select -s m -l message -x -d 'the message to begin with, for --commit, --amend, --split and --stash'
+complete -c git-select -s w -l ignore-all-space -d 'leave lines that differ by blanks alone as they are now'
 complete -c git-select -l only -r -F -d 'show only what this path or pathspec names; can be given again'
 complete -c git-select -l edit -d 'open what is chosen of a file in the editor before it is put in place'
 complete -c git-select -l then -x -d 'choose once more when that is done, of what is left: to stage, restore, stash, commit it'
