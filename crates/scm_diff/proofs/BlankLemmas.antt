@@ -3,7 +3,7 @@ use Rattle.std.proofs.Common.{◌≡◌, ℕ, ◌+◌, ◌-◌, ◌<◌, ◌≤�
 use Rattle.std.specs.Prelude.{slice_range}
 use Rattle.std.proofs.lemmas.List.{drop-map, take-map, length-map, map-append, drop-drop, drop_more, drop_all, take-append-drop}
 use Rattle.scm_diff.specs.declared.hunk.Hunk.{Hunk}
-use Rattle.scm_diff.specs.Hunks.{IsNextHunk, AreHunksFrom, AreHunks}
+use Rattle.scm_diff.specs.Hunks.{AreHunks, AreHunksFrom}
 use Rattle.scm_embed.specs.Lines.{lines_of}
 use Rattle.scm_diff.specs.Blanks.{IsTextWithoutBlankChanges, count_other, kept_lines, squeezed}
 use Rattle.scm_diff.specs.Sides.{text_of}

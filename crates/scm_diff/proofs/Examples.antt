@@ -247,10 +247,12 @@ without_marked_sign = refl
 
 -- blanks are left out, a line end is not: `a`, a tab, `b`, CR, a line end
 without_blanks : squeezed (97 ∷ 9 ∷ 98 ∷ 13 ∷ 10 ∷ []) ≡ 97 ∷ 98 ∷ 10 ∷ []
+unfolding chars encode_utf8
 without_blanks = refl
 
 -- a no-break space (U+A0) is no blank
 no_break : squeezed (codes " " ++ encode_utf8 0xA0) ≡ encode_utf8 0xA0
+unfolding chars encode_utf8
 no_break = refl
 
 -- `a` became a blank and `a`, and `b` became `ab`: the first line stays as it was, and the second one is the new one

@@ -6,6 +6,8 @@
 #[cfg(test)]
 mod additions;
 #[cfg(test)]
+mod blanks;
+#[cfg(test)]
 mod bytes;
 #[cfg(test)]
 mod checks;

@@ -1,5 +1,4 @@
-use Rattle.std.proofs.Common.{◌≡◌, ◌≤◌, ap, sym, ◌∙◌, arith, length, map, subst}
-use Rattle.scm_embed.specs.Lines.{lines_of}
+use Rattle.std.proofs.Common.{◌≡◌, ap, sym, ◌∙◌, arith, length, map}
 use Rattle.scm_diff.specs.Hunks.{AreHunks}
 use Rattle.scm_diff.specs.Blanks as blanks
 use Rattle.scm_diff.specs.Sides as sides
