@@ -11,6 +11,8 @@ NEW = b"if  x:\n    other\nz \t\r\nlast line\nadded\n"
 CHOSEN = b"if x:\n    other\nz\nlast line\nadded\n"
 # what stays of NEW where all changes that are shown are taken back
 TAKEN_BACK = b"if  x:\n    y\nz \t\r\nlast line\n"
+# from the file to its second section
+TO_THE_ADDED_LINE = "F", "j", "j", "j", "j"
 NAMES = {"app.py": OLD, "other.py": b"x\n"}
 EDITS = {"app.py": NEW, "other.py": b"x \n"}
 
@@ -22,10 +24,10 @@ def repository_of(place):
 def blanks_are_not_staged(place):
     """All that is shown is staged; lines that differ by blanks alone stay as the index has them, and in the working tree as they are."""
     for words in (["-w"], ["--ignore-all-space"]):
-        repository = repository_of(place)
+        repository = Repository(place, NAMES, EDITS, "by" + words[0])
         status, said = repository.select(*words, keys=["a", "c"])
         is_staged = repository.index_files() == {**NAMES, "app.py": CHOSEN}
-        if status or not is_staged or said != "git-select: staged: app.py\n" or repository.files() != EDITS or not repository.is_sound():
+        if status or not is_staged or said != "staged: app.py\n" or repository.files() != EDITS or not repository.is_sound():
             return False
     return True
 
@@ -34,7 +36,7 @@ def blanks_alone_are_nothing(place):
     """Where only blanks differ, nothing can be marked, and nothing is staged."""
     repository = Repository(place, NAMES, {**NAMES, "other.py": b"x \n"})
     status, said = repository.select("-w", keys=["a", "c"])
-    return (status, said) == (0, "git-select: nothing was marked, and nothing was staged\n") and repository.index() == repository.index_of()
+    return (status, said) == (0, "nothing was marked, and nothing was staged\n") and repository.index() == repository.index_of()
 
 
 def blanks_stay_staged(place):
@@ -50,9 +52,8 @@ def blanks_are_not_restored(place):
     repository = repository_of(place)
     status, _ = repository.select("--restore", "-w", keys=["a", "c"])
     is_back = status == 0 and repository.files() == {**EDITS, "app.py": TAKEN_BACK}
-    again = repository_of(place)
-    # from the file to its section, to the removed line, to the added one, and to the next section
-    status, _ = again.select("--restore", "-w", keys=["}", "}", "k", "space", "c"])
+    again = Repository(place, NAMES, EDITS, "again")
+    status, _ = again.select("--restore", "-w", keys=[*TO_THE_ADDED_LINE, "space", "c"])
     return is_back and status == 0 and again.files() == {**EDITS, "app.py": NEW.replace(b"added\n", b"")}
 
 
@@ -83,7 +84,7 @@ def marks_without_blanks(place):
     """Marks that were kept with -w are taken up with it alone: without it there are other items. The command that is said has it."""
     repository = repository_of(place)
     repository.git("config", "core.editor", "false")
-    status, said = repository.select("-w", "--edit", keys=["}", "}", "k", "space", "c"])
+    status, said = repository.select("-w", "--edit", keys=[*TO_THE_ADDED_LINE, "space", "c"])
     command = said[said.index("git-select -w --marks ") :].split()
     without, _ = repository.select("--marks", command[-1], keys=["c"])
     kept = repository.index() == repository.index_of()
@@ -98,11 +99,12 @@ def blanks_on_the_screen(place):
     """The row of a file says how many lines differ by blanks alone; these are shown as they stay, and are no items."""
     left, right = place.folder("left", NAMES), place.folder("right", EDITS)
     typed = Typed(["gabrosty-diff-editor", "-w", left, right], 80, 24, place.environment, place.top)
+    typed.press("F")
     screen = typed.screen()
     typed.press("q")
     typed.end()
     rows = [b"app.py\xc2\xa0(+2 -1, 2 lines differ by blanks alone)", b"other.py\xc2\xa0(1 line differs by blanks alone)"]
-    return all(row in screen for row in rows) and b"1 if x:" in screen and b"+     other" in screen and b"z \t" not in screen
+    return all(row in screen for row in rows) and b"1 if x:" in screen and b"+     other" in screen and b"if  x:" not in screen
 
 
 def blanks_of_left(place):
