@@ -1,7 +1,7 @@
 //! What becomes of paths, as records.
 ghost use Rattle.std.specs.Prelude.{◌≡◌, ◌++◌, IfOk, OnOk, Some, slice_get};
 ghost use Rattle.std.specs.Option.{option_map};
-ghost use Rattle.scm_tree.specs.Answers.{IsAnswer, IsAnswerTo, answer_of, letter_of, moved_to, path_or, reason_answer, record_bytes, refusal_answer, refusals_answer, row_answer, rows_answer};
+ghost use Rattle.scm_tree.specs.Answers.{IsAnswer, IsAnswerTo, answer_of, letter_of, moved_to, path_or, reason_answer, record_bytes, refusal_answer, refusals_answer, row_answer};
 
 use crate::adding::add;
 use crate::asked::{Asked, ReadError, read_records};
@@ -50,22 +50,6 @@ fn add_row(
     add_record(answer, letter_of(result_at(row, refused)), row.path)
 }
 
-/// Adds what becomes of the path of each row.
-fn add_rows(
-    answer: &mut Vec<u8>,
-    rows: &[Row<'_>],
-    refused: &[Option<Refusal>],
-    count: usize,
-) -> Result<(), AllocError>
-    ensures { OnOk result
-        (answer.new.items ≡ answer.old.items ++ rows_answer count refused.now rows.now) }
-{
-    for i in 0..rows.len() {
-        add_row(answer, &rows[i], refused, count)?;
-    }
-    Ok(())
-}
-
 /// Returns the path of row `i`, or none.
 fn path_or<'a>(rows: &[Row<'a>], i: usize) -> &'a [u8]
     ensures { result.now ≡ path_or rows.now i }
@@ -109,18 +93,13 @@ fn add_refusals(
 fn answer_of(alloc: Global, decision: &Decision<'_>, count: usize) -> Result<Vec<u8>, AllocError>
     ensures { IfOk result (λ answer. answer.items ≡ answer_of count decision.now) }
 {
+    let rows = decision.rows.as_slice();
+    let refused = decision.refused.as_slice();
     let mut answer = Vec::new(alloc);
-    add_rows(
-        &mut answer,
-        decision.rows.as_slice(),
-        decision.refused.as_slice(),
-        count,
-    )?;
-    add_refusals(
-        &mut answer,
-        decision.rows.as_slice(),
-        decision.refused.as_slice(),
-    )?;
+    for i in 0..rows.len() {
+        add_row(&mut answer, &rows[i], refused, count)?;
+    }
+    add_refusals(&mut answer, rows, refused)?;
     Ok(answer)
 }
 
@@ -169,8 +148,7 @@ fn reason_of<'a>(
     let Some((letter, path)) = reason_parts(moved, error) else {
         return Err(AllocError);
     };
-    let answer = fault_of(alloc, letter, path)?;
-    Ok(answer)
+    fault_of(alloc, letter, path)
 }
 
 /// Decides what becomes of the paths that records have.
@@ -186,14 +164,8 @@ fn decide_asked(alloc: Global, asked: &Asked<'_>) -> Result<Vec<u8>, AllocError>
         asked.count,
     );
     match decided {
-        Ok(decision) => {
-            let answer = answer_of(alloc, &decision, asked.count)?;
-            Ok(answer)
-        }
-        Err(error) => {
-            let answer = reason_of(alloc, asked.moved.as_slice(), error)?;
-            Ok(answer)
-        }
+        Ok(decision) => answer_of(alloc, &decision, asked.count),
+        Err(error) => reason_of(alloc, asked.moved.as_slice(), error),
     }
 }
 
@@ -206,14 +178,8 @@ pub fn decide_records(alloc: Global, bytes: &[u8]) -> Result<Vec<u8>, AllocError
     ensures { IfOk result (λ answer. IsAnswer bytes.now answer.items) }
 {
     match read_records(alloc, bytes) {
-        Ok(asked) => {
-            let answer = decide_asked(alloc, &asked)?;
-            Ok(answer)
-        }
-        Err(ReadError::NoRecord(record)) => {
-            let answer = fault_of(alloc, b'#', record)?;
-            Ok(answer)
-        }
+        Ok(asked) => decide_asked(alloc, &asked),
+        Err(ReadError::NoRecord(record)) => fault_of(alloc, b'#', record),
         Err(ReadError::OutOfMemory) => Err(AllocError),
     }
 }

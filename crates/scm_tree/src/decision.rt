@@ -226,25 +226,6 @@ fn outcome_at<'a>(rows: &[Row<'a>], refused: &[Option<Refusal>], i: usize) -> Ou
     }
 }
 
-/// Adds what becomes of each path to the empty `outcomes`.
-///
-/// # Errors
-/// `AllocError`: an allocation failed.
-fn add_outcomes<'a>(
-    outcomes: &mut Vec<Outcome<'a>>,
-    rows: &[Row<'a>],
-    refused: &[Option<Refusal>],
-) -> Result<(), AllocError>
-    requires { outcomes.old.items ≡ [] }
-    ensures { OnOk result
-        (AreOutcomes rows.now refused.now (length rows.now) outcomes.new.items) }
-{
-    for i in 0..rows.len() {
-        add(outcomes, outcome_at(rows, refused, i))?;
-    }
-    Ok(())
-}
-
 /// Returns what becomes of each path.
 ///
 /// # Errors
@@ -257,8 +238,10 @@ fn outcomes_of<'a>(
     ensures { IfOk result (λ outcomes.
         AreOutcomes rows.now refused.now (length rows.now) outcomes.items) }
 {
-    let mut outcomes = Vec::with_capacity(alloc, rows.len())?;
-    add_outcomes(&mut outcomes, rows, refused)?;
+    let mut outcomes = Vec::new(alloc);
+    for i in 0..rows.len() {
+        add(&mut outcomes, outcome_at(rows, refused, i))?;
+    }
     Ok(outcomes)
 }
 

@@ -67,28 +67,6 @@ fn place_at<'a>(places: &[Place<'a>], i: usize) -> Place<'a>
     places[i]
 }
 
-/// Adds sorted `places` to the empty `done`, each path once.
-///
-/// # Errors
-/// - `Twice`: one tree has two files of a path, or two marks have one.
-/// - `OutOfMemory`: an allocation failed.
-fn add_places<'a>(done: &mut Vec<Place<'a>>, places: &[Place<'a>]) -> Result<(), GatherError<'a>>
-    requires sorted { AreSorted places.now }
-    requires empty { done.old.items ≡ [] }
-    ensures { MatchResult result (λ _. IsGathered places.now done.new.items)
-        (IsPlaceFault places.now) }
-{
-    if places.is_empty() {
-        return Ok(());
-    }
-    let mut last = place_at(places, 0);
-    for i in 1..places.len() {
-        last = add_place(done, last, place_at(places, i))?;
-    }
-    add(done, last)?;
-    Ok(())
-}
-
 /// Returns the places of sorted ones, each path once.
 ///
 /// # Errors
@@ -103,6 +81,13 @@ pub(crate) fn gathered<'a>(
         (IsPlaceFault places.now) }
 {
     let mut done = Vec::new(alloc);
-    add_places(&mut done, places)?;
+    if places.is_empty() {
+        return Ok(done);
+    }
+    let mut last = place_at(places, 0);
+    for i in 1..places.len() {
+        last = add_place(&mut done, last, place_at(places, i))?;
+    }
+    add(&mut done, last)?;
     Ok(done)
 }

@@ -33,6 +33,5 @@ pub(crate) fn sort_places(places: &mut Vec<Place<'_>>) -> Result<(), AllocError>
     ensures moved { IsPermutation places.old.items places.new.items }
     ensures sorted { OnOk result (AreSorted places.new.items) }
 {
-    places.sort_by(|place, other| path_order(place.path, other.path))?;
-    Ok(())
+    places.sort_by(|place, other| path_order(place.path, other.path))
 }

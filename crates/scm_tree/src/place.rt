@@ -94,20 +94,6 @@ fn marked_place<'a>(marks: &[Mark<'a>], i: usize) -> Place<'a>
     }
 }
 
-/// Adds the places of all old entries to the empty `places`.
-///
-/// # Errors
-/// `AllocError`: an allocation failed.
-fn add_old<'a>(places: &mut Vec<Place<'a>>, old: &[Entry<'a>]) -> Result<(), AllocError>
-    requires { places.old.items ≡ [] }
-    ensures { OnOk result (AreListed old.now [] [] places.new.items) }
-{
-    for i in 0..old.len() {
-        add(places, old_place(old, i))?;
-    }
-    Ok(())
-}
-
 /// Adds the places of all new entries to `places`, which has those of old ones.
 ///
 /// # Errors
@@ -149,7 +135,9 @@ pub(crate) fn places_of<'a>(
     ensures { IfOk result (λ places. AreListed old.now new.now marks.now places.items) }
 {
     let mut places = Vec::new(alloc);
-    add_old(&mut places, old)?;
+    for i in 0..old.len() {
+        add(&mut places, old_place(old, i))?;
+    }
     add_new(&mut places, new)?;
     add_marks(&mut places, marks)?;
     Ok(places)

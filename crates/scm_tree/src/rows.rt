@@ -50,8 +50,7 @@ fn places_in_order<'a>(
 {
     let mut places = places_of(alloc, old, new, marks)?;
     sort_places(&mut places)?;
-    let done = gathered(alloc, places.as_slice())?;
-    Ok(done)
+    gathered(alloc, places.as_slice())
 }
 
 /// Returns whether neither tree has the path of place `i`.
@@ -114,27 +113,6 @@ fn add_row<'a>(
     Ok(())
 }
 
-/// Adds the rows of `places` to the empty `rows`.
-///
-/// # Errors
-/// - `Unknown`: a mark has a path that neither tree has.
-/// - `OutOfMemory`: an allocation failed.
-fn add_rows<'a>(
-    rows: &mut Vec<Row<'a>>,
-    count: usize,
-    places: &[Place<'a>],
-) -> Result<(), GatherError<'a>>
-    requires { rows.old.items ≡ [] }
-    ensures { MatchResult result
-        (λ _. AreRowsBelow count places.now (length places.now) rows.new.items)
-        (IsRowsFault places.now) }
-{
-    for i in 0..places.len() {
-        add_row(rows, count, places, i)?;
-    }
-    Ok(())
-}
-
 /// Returns the rows of `places`.
 ///
 /// # Errors
@@ -149,8 +127,10 @@ fn rows_of_places<'a>(
         (λ rows. AreRowsBelow count places.now (length places.now) rows.items)
         (IsRowsFault places.now) }
 {
-    let mut rows = Vec::with_capacity(alloc, places.len())?;
-    add_rows(&mut rows, count, places)?;
+    let mut rows = Vec::new(alloc);
+    for i in 0..places.len() {
+        add_row(&mut rows, count, places, i)?;
+    }
     Ok(rows)
 }
 
@@ -173,6 +153,5 @@ pub fn rows_of<'a>(
         (IsGatherFault old.now new.now marks.now) }
 {
     let places = places_in_order(alloc, old, new, marks)?;
-    let rows = rows_of_places(alloc, count, places.as_slice())?;
-    Ok(rows)
+    rows_of_places(alloc, count, places.as_slice())
 }

@@ -1,5 +1,5 @@
 use Rattle.std.proofs.Common.{List, subst}
-use Rattle.std.proofs.lemmas.Result.{err_from_is_err_and}
+use Rattle.std.proofs.lemmas.Result.{MatchResult-weaker}
 use Rattle.scm_tree.specs.declared.place.Place.{Place}
 use Rattle.scm_tree.specs.Places.{HaveSameFiles}
 use Rattle.scm_tree.specs.GatherFaults.{IsPlaceFault}
@@ -9,14 +9,16 @@ use Rattle.scm_tree.proofs.rows.places_in_order.Goals as goal
 
 pub returns-clause-listed : goal.returns-clause-listed
 returns-clause-listed c =
-    listed_gathered c.args.old.now c.args.new.now c.args.marks.now c.sort_places.new.places.items c.in_ok-done.done.items
+    MatchResult-weaker c.gathered.result c.gathered.ensures
+    (λ done gathered. listed_gathered c.args.old.now c.args.new.now c.args.marks.now c.sort_places.new.places.items done.items
     (listed_moved c.args.old.now c.args.new.now c.args.marks.now c.in_ok-places.places.items c.sort_places.new.places.items c.in_ok-places.ensures c.sort_places.ensures.moved)
-    (subst (λ (ps : List Place). HaveSameFiles ps c.in_ok-done.done.items) c.as_slice.ensures.value c.in_ok-done.ensures.same)
+    (subst (λ (ps : List Place). HaveSameFiles ps done.items) c.as_slice.ensures.value gathered.same))
+    (λ error fault. tt)
 
-pub returns-in_err-done-clause-fault : goal.returns-in_err-done-clause-fault
-returns-in_err-done-clause-fault c =
-    let error = err_from_is_err_and c.from_residual-in_err-done.result c.from_residual-in_err-done.ensures.1 in
-    rw (error.1, error.2)
-    (places_fault c.args.old.now c.args.new.now c.args.marks.now c.sort_places.new.places.items _
+pub returns-clause-fault : goal.returns-clause-fault
+returns-clause-fault c =
+    MatchResult-weaker c.gathered.result c.gathered.ensures
+    (λ done gathered. tt)
+    (λ error fault. places_fault c.args.old.now c.args.new.now c.args.marks.now c.sort_places.new.places.items error
     (listed_moved c.args.old.now c.args.new.now c.args.marks.now c.in_ok-places.places.items c.sort_places.new.places.items c.in_ok-places.ensures c.sort_places.ensures.moved)
-    (subst (λ (ps : List Place). IsPlaceFault ps c.in_err-done.field-0.0) c.as_slice.ensures.value c.in_err-done.ensures))
+    (subst (λ (ps : List Place). IsPlaceFault ps error) c.as_slice.ensures.value fault))

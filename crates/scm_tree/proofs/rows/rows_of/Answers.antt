@@ -1,5 +1,5 @@
 use Rattle.std.proofs.Common.{List, length, subst}
-use Rattle.std.proofs.lemmas.Result.{err_from_is_err_and}
+use Rattle.std.proofs.lemmas.Result.{MatchResult-weaker}
 use Rattle.scm_tree.specs.declared.place.Place.{Place}
 use Rattle.scm_tree.specs.Merge.{AreRowsBelow}
 use Rattle.scm_tree.specs.GatherFaults.{IsRowsFault}
@@ -8,13 +8,9 @@ use Rattle.scm_tree.proofs.rows.rows_of.Goals as goal
 
 pub returns : goal.returns
 returns c =
-    rows_merged c.args.count c.args.old.now c.args.new.now c.args.marks.now c.in_ok-places.places.items c.in_ok-rows.rows.items
+    MatchResult-weaker c.rows_of_places.result c.rows_of_places.ensures
+    (λ rs below. rows_merged c.args.count c.args.old.now c.args.new.now c.args.marks.now c.in_ok-places.places.items rs.items
     c.in_ok-places.ensures.in_order c.in_ok-places.ensures.listed
-    (subst (λ (ps : List Place). AreRowsBelow c.args.count ps (length ps) c.in_ok-rows.rows.items) c.as_slice.ensures.value c.in_ok-rows.ensures)
-
-pub returns-in_err-rows : goal.returns-in_err-rows
-returns-in_err-rows c =
-    let error = err_from_is_err_and c.from_residual-in_err-rows.result c.from_residual-in_err-rows.ensures.1 in
-    rw (error.1, error.2)
-    (rows_fault c.args.old.now c.args.new.now c.args.marks.now c.in_ok-places.places.items _ c.in_ok-places.ensures.in_order c.in_ok-places.ensures.listed
-    (subst (λ (ps : List Place). IsRowsFault ps c.in_err-rows.field-0.0) c.as_slice.ensures.value c.in_err-rows.ensures))
+    (subst (λ (ps : List Place). AreRowsBelow c.args.count ps (length ps) rs.items) c.as_slice.ensures.value below))
+    (λ error fault. rows_fault c.args.old.now c.args.new.now c.args.marks.now c.in_ok-places.places.items error c.in_ok-places.ensures.in_order c.in_ok-places.ensures.listed
+    (subst (λ (ps : List Place). IsRowsFault ps error) c.as_slice.ensures.value fault))

@@ -1,6 +1,6 @@
 use Rattle.std.proofs.Common.{◌<◌}
 use Rattle.scm_tree.specs.Places.{AreGathered}
-use Rattle.scm_tree.proofs.gather.add_places.Given as goal
+use Rattle.scm_tree.proofs.gather.gathered.Given as goal
 
 abbrev pub invariant-loop-i : goal.invariant-loop-i
 invariant-loop-i l = record {
