@@ -34,6 +34,8 @@ pub mod FindLemmas
 pub mod DecisionLemmas
 -- why nothing is decided
 pub mod ReasonLemmas
+-- a record and the letters of its bytes
+pub mod RecordLemmas
 -- what bytes hold, part by part
 pub mod ReadLemmas
 -- the records of what is decided

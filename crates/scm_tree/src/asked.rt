@@ -114,9 +114,9 @@ fn add_first<'a>(asked: &mut Asked<'a>, row: &Record<'a>) -> Result<(), AllocErr
     let Some(count) = asked.count.checked_add(1) else {
         return Err(AllocError);
     };
-    add(&mut asked.marks, mark_of(row, asked.count))?;
+    let mark = mark_of(row, asked.count);
     asked.count = count;
-    Ok(())
+    add(&mut asked.marks, mark)
 }
 
 /// Adds what the record's marks ask for, if its path is shown. Returns whether that goes.

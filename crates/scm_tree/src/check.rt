@@ -11,7 +11,7 @@ use crate::row::Row;
 use crate::scan::{Clash, Side, first_clash};
 
 /// What is wrong with rows.
-#[derive(Clone, Copy, Debug)]
+#[derive(Clone, Copy)]
 pub enum RowFault {
     /// The path of this row does not come after that of the row before.
     NotInOrder(usize),

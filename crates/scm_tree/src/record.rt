@@ -1,8 +1,8 @@
 //! A record of a path: four bytes that say which trees have it and what the marks ask for, and the path.
 
-ghost use Rattle.std.specs.Prelude.{◌≡◌};
+ghost use Rattle.std.specs.Prelude.{◌≡◌, ◌==◌, ◌||◌};
 ghost use Rattle.std.specs.Option.{option_map};
-ghost use Rattle.scm_tree.specs.Records.{ask_of, is_second, is_sound, is_there, record_of, seen_record, version_of, wanted_by};
+ghost use Rattle.scm_tree.specs.Records.{ask_of, is_sound, record_of, seen_record, version_of, wanted_by};
 
 use crate::Version;
 
@@ -44,30 +44,11 @@ pub(crate) struct Record<'a> {
     pub(crate) is_second: bool,
 }
 
-/// Returns whether `byte` is `letter`, or `None` if it is neither that nor a `-`.
-fn is_there(byte: u8, letter: u8) -> Option<bool>
-    ensures { result ≡ is_there byte letter }
+/// Returns whether `byte` is one of two letters.
+fn is_either(byte: u8, letter: u8, other: u8) -> bool
+    ensures { result ≡ (byte == letter || byte == other) }
 {
-    if byte == letter {
-        Some(true)
-    } else if byte == b'-' {
-        Some(false)
-    } else {
-        None
-    }
-}
-
-/// Returns whether the fourth byte of a record says that the path is the other one of a renamed file.
-fn is_second(byte: u8) -> Option<bool>
-    ensures { result ≡ is_second byte }
-{
-    if byte == b' ' {
-        Some(false)
-    } else if byte == b'+' {
-        Some(true)
-    } else {
-        None
-    }
+    (byte == letter) | (byte == other)
 }
 
 /// Returns what a byte asks for.
@@ -106,21 +87,23 @@ fn is_sound(row: &Record<'_>) -> bool
 pub(crate) fn record_of<'a>(bytes: &'a [u8]) -> Option<Record<'a>>
     ensures { option_map seen_record result ≡ record_of bytes.now }
 {
-    if bytes.len() < 4 {
+    let [old, new, ask, begin, path @ ..] = bytes else {
         return None;
-    }
-    let is_old = is_there(bytes[0], b'o')?;
-    let is_new = is_there(bytes[1], b'n')?;
-    let ask = ask_of(bytes[2])?;
-    let is_second = is_second(bytes[3])?;
-    let record = Record {
-        path: &bytes[4..],
-        is_old,
-        is_new,
-        ask,
-        is_second,
     };
-    if is_sound(&record) {
+    let Some(ask) = ask_of(*ask) else {
+        return None;
+    };
+    let is_readable = is_either(*old, b'o', b'-')
+        & is_either(*new, b'n', b'-')
+        & is_either(*begin, b' ', b'+');
+    let record = Record {
+        path,
+        is_old: *old == b'o',
+        is_new: *new == b'n',
+        ask,
+        is_second: *begin != b' ',
+    };
+    if is_readable & is_sound(&record) {
         Some(record)
     } else {
         None

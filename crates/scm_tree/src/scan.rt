@@ -19,7 +19,7 @@ pub(crate) enum Side {
 }
 
 /// Two rows, of which the second lies in the first.
-#[derive(Clone, Copy, Debug)]
+#[derive(Clone, Copy)]
 pub struct Clash {
     /// The row of the file that is in the place of a folder.
     pub outer: usize,
