@@ -7,7 +7,7 @@ use Rattle.std.proofs.lemmas.Bool.{false≢true, true≢false, cases_lt, or_case
 use Rattle.std.specs.Prelude.{is_some}
 use Rattle.std.specs.Option.{option_or}
 use Rattle.std.specs.List.{All}
-use Rattle.std.proofs.lemmas.List.{length-append, take_all, take_more}
+use Rattle.std.proofs.lemmas.List.{get_or_default, length-append, take_all, take_more}
 use Rattle.std.proofs.lemmas.List.Elements.{All-push}
 use Rattle.scm_tree.specs.Paths.{is_before}
 use Rattle.scm_tree.proofs.PathLemmas.{before_total, before_trans}
@@ -161,6 +161,9 @@ gathered_first xs last h is = record {
   where
     first_of : (xs : List Place) (last : Place) → 0 < length xs → ((d : Place) → get_or xs 0 d ≡ last) → take 1 xs ≡ last ∷ []
     first_of xs last h is = take_more xs 0 last h ∙ ap (λ (x : Place). take 0 xs ++ x ∷ []) (is last)
+
+pub gathered_begun : (xs done : List Place) (d : Place) → done ≡ [] → 0 < length xs → AreGathered xs 1 done (get_or xs 0 d)
+gathered_begun xs done d e h = subst (λ (ps : List Place). AreGathered xs 1 ps (get_or xs 0 d)) (sym e) (gathered_first xs (get_or xs 0 d) h (λ x. get_or_default xs 0 x d h))
 
 pub gathered_after : (xs : List Place) (i : ℕ) (done : List Place) (last y : Place) → AreSorted xs → AreGathered xs i done last → 0 < i → i < length xs → ((d : Place) → get_or xs i d ≡ y) → is_before y.path.now last.path.now ≡ false
 gathered_after xs i done last y s g pos h is =

@@ -1,3 +1,5 @@
+-- elements of a list
+pub mod ElementLemmas
 -- places of bytes
 pub mod ByteLemmas
 -- names that a file system takes for another name

@@ -1,5 +1,5 @@
 -- The rows of two trees and marks.
-use Rattle.std.proofs.Common.{◌≡◌, ℕ, ◌+◌, ◌<◌, ◌≤◌, List, [], ◌∷◌, ◌++◌, length, get_or, true, ◌&&◌, ◌||◌, Option, Some, None, refl, arith, sym, subst, ◌∙◌, ap, ◌⊎◌, inl, inr}
+use Rattle.std.proofs.Common.{◌≡◌, ℕ, ◌+◌, ◌<◌, ◌≤◌, List, [], ◌∷◌, ◌++◌, length, get_or, Bool, true, false, not, ◌&&◌, ◌||◌, Option, Some, None, refl, arith, sym, subst, ◌∙◌, ap, ◌⊎◌, inl, inr}
 use Rattle.std.specs.Prelude.{is_none, is_some}
 use Rattle.std.proofs.Math.ListN.{get_or-append}
 use Rattle.std.proofs.Math.Seq.{get_or-append_seam}
@@ -10,6 +10,7 @@ use Rattle.scm_tree.specs.declared.row.Version.{Version}
 use Rattle.scm_tree.specs.declared.row.Row.{Row}
 use Rattle.scm_tree.specs.Paths.{is_before}
 use Rattle.scm_tree.specs.Rows.{AreInOrder}
+use Rattle.scm_tree.proofs.ElementLemmas.{at_any}
 use Rattle.scm_tree.proofs.PathLemmas.{before_self}
 use Rattle.scm_tree.specs.declared.place.Entry.{Entry}
 use Rattle.scm_tree.specs.declared.place.Mark.{Mark}
@@ -54,6 +55,17 @@ none_both : (a b : Option Version) → (is_none a && is_none b) ≡ true → (a 
 none_both None None e = (refl, refl)
 none_both None (Some v) e = absurd (false≢true e)
 none_both (Some v) b e = absurd (false≢true e)
+
+-- whether neither tree has the place, by the answers to `is_none`
+none_is : (a : Option Version) (is : Bool) → is_some a ≡ not is → is_none a ≡ is
+none_is None true e = refl
+none_is None false e = absurd (false≢true e)
+none_is (Some v) true e = absurd (false≢true (sym e))
+none_is (Some v) false e = refl
+
+pub unknown_at : (places : List Place) (i : ℕ) (d : Place) (a b is : Bool) → i < length places → is_some (get_or places i d).current ≡ not a → is_some (get_or places i d).goal ≡ not b → (a && b) ≡ is → (e : Place) → is_unknown (get_or places i e) ≡ is
+unknown_at places i d a b is h m n s =
+    at_any is_unknown places i d is h (ap (λ (t : Bool). t && is_none (get_or places i d).goal) (none_is (get_or places i d).current a m) ∙ ap (λ (t : Bool). a && t) (none_is (get_or places i d).goal b n) ∙ s)
 
 pub unknown_fault : (places : List Place) (i : ℕ) (p : List ℕ) → i < length places → ((d : Place) → is_unknown (get_or places i d) ≡ true) → ((d : Place) → (get_or places i d).path.now ≡ p) → (k : ℕ) × ((k < length places) × IsInNoTree places k p)
 unknown_fault places i p h u e = (

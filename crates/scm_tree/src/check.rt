@@ -26,16 +26,6 @@ pub enum RowFault {
     NotOfTheTrees(usize),
 }
 
-/// Returns whether the path of row `i` comes before that of row `j`.
-fn comes_before(rows: &[Row<'_>], i: usize, j: usize) -> bool
-    requires first_within { i < length rows.now }
-    requires second_within { j < length rows.now }
-    ensures { (d : Row) → is_before (slice_index_or rows.now i d).path.now
-        (slice_index_or rows.now j d).path.now ≡ result }
-{
-    is_before(rows[i].path, rows[j].path)
-}
-
 /// Returns whether the path of row `i` comes after that of the row before, if there is one.
 fn follows(rows: &[Row<'_>], i: usize) -> bool
     requires { i < length rows.now }
@@ -45,7 +35,7 @@ fn follows(rows: &[Row<'_>], i: usize) -> bool
     if i == 0 {
         return true;
     }
-    comes_before(rows, i - 1, i)
+    is_before(rows[i - 1].path, rows[i].path)
 }
 
 /// Returns the first row whose path does not come after that of the row before.
@@ -70,21 +60,13 @@ fn is_row_of(count: usize, row: &Row<'_>) -> bool
     (row.file < count) & is_known
 }
 
-/// Returns whether row `i` is one of the trees and of `count` files.
-fn is_row_at(count: usize, rows: &[Row<'_>], i: usize) -> bool
-    requires { i < length rows.now }
-    ensures { (d : Row) → is_row_of count (slice_index_or rows.now i d) ≡ result }
-{
-    is_row_of(count, &rows[i])
-}
-
 /// Returns the first row that is none of the trees or of `count` files.
 fn row_fault(count: usize, rows: &[Row<'_>]) -> Option<usize>
     ensures none { result ≡ None → All (λ (r : Row). is_row_of count r ≡ true) rows.now }
     ensures some { IfSome result (IsNoRow count rows.now) }
 {
     for i in 0..rows.len() {
-        if !is_row_at(count, rows, i) {
+        if !is_row_of(count, &rows[i]) {
             return Some(i);
         }
     }

@@ -8,7 +8,7 @@ ghost use Rattle.scm_tree.specs.declared.decision.Moved.{Moved};
 ghost use Rattle.scm_tree.specs.declared.place.Entry.{Entry};
 ghost use Rattle.scm_tree.specs.declared.place.Mark.{Mark};
 ghost use Rattle.scm_tree.specs.Merge.{AreMerged};
-ghost use Rattle.scm_tree.specs.Decisions.{AreOutcomes, IsDecision, IsMoved, IsOutcome, IsPromise, is_shown, may_change, row_fault};
+ghost use Rattle.scm_tree.specs.Decisions.{AreOutcomes, IsDecision, IsMoved, IsOutcome, IsPromise, row_fault};
 ghost use Rattle.scm_tree.specs.DecideFaults.{IsDecideFault, IsMarkReason, IsMovedReason, IsPathReason, IsTreesReason, MarksFit, PathsFit, decide_error};
 
 use crate::adding::add;
@@ -105,14 +105,6 @@ impl<'a> From<GatherError<'a>> for DecideError<'a> {
     }
 }
 
-/// Returns whether the file of mark `i` is one of `count`.
-fn is_shown(count: usize, marks: &[Mark<'_>], i: usize) -> bool
-    requires { i < length marks.now }
-    ensures { (d : Mark) → is_shown count (slice_index_or marks.now i d) ≡ result }
-{
-    marks[i].wish.file < count
-}
-
 /// Checks that the file of each mark is one of `count`.
 ///
 /// # Errors
@@ -121,46 +113,23 @@ fn check_marks<'a>(count: usize, marks: &[Mark<'_>]) -> Result<(), DecideError<'
     ensures { MatchResult result (λ _. MarksFit count marks.now) (IsMarkReason count marks.now) }
 {
     for i in 0..marks.len() {
-        if !is_shown(count, marks, i) {
+        if marks[i].wish.file >= count {
             return Err(DecideError::File(i));
         }
     }
     Ok(())
 }
 
-/// Returns whether the path of `row` may get another version: no file is there now, or it is that of one of `count` shown
-/// files.
-fn may_change(count: usize, row: &Row<'_>) -> bool
-    ensures { result ≡ may_change count row.now }
-{
-    row.current.is_none() | (row.file < count)
-}
-
-/// Returns what is wrong with the path of `row`, if it may get another version.
+/// Returns what is wrong with the path of `row`, if it may get another version: no file is there now, or it is that of one of
+/// `count` shown files.
 fn row_fault(count: usize, row: &Row<'_>) -> Option<PathFault>
     ensures { result ≡ row_fault count row.now }
 {
-    if may_change(count, row) {
+    if row.current.is_none() | (row.file < count) {
         path_fault(row.path)
     } else {
         None
     }
-}
-
-/// Returns what is wrong with the path of row `i`, if it may get another version.
-fn path_fault_at(count: usize, rows: &[Row<'_>], i: usize) -> Option<PathFault>
-    requires { i < length rows.now }
-    ensures { (d : Row) → row_fault count (slice_index_or rows.now i d) ≡ result }
-{
-    row_fault(count, &rows[i])
-}
-
-/// Returns the path of row `i`.
-fn path_at<'a>(rows: &[Row<'a>], i: usize) -> &'a [u8]
-    requires { i < length rows.now }
-    ensures { (d : Row) → (slice_index_or rows.now i d).path.now ≡ result.now }
-{
-    rows[i].path
 }
 
 /// Checks that each path that would come, or is that of one of `count` shown files, names a file below the top folder.
@@ -171,8 +140,8 @@ fn check_paths<'a>(count: usize, rows: &[Row<'a>]) -> Result<(), DecideError<'a>
     ensures { MatchResult result (λ _. PathsFit count rows.now) (IsPathReason count rows.now) }
 {
     for i in 0..rows.len() {
-        if let Some(fault) = path_fault_at(count, rows, i) {
-            return Err(DecideError::Path(path_at(rows, i), fault));
+        if let Some(fault) = row_fault(count, &rows[i]) {
+            return Err(DecideError::Path(rows[i].path, fault));
         }
     }
     Ok(())

@@ -15,22 +15,6 @@ struct Span {
     high: usize,
 }
 
-/// Returns whether row `i` comes before `path`.
-fn starts_before(rows: &[Row<'_>], path: &[u8], i: usize) -> bool
-    requires { i < length rows.now }
-    ensures { (d : Row) → starts_before rows.now path.now i d ≡ result }
-{
-    is_before(rows[i].path, path)
-}
-
-/// Returns whether row `i` comes after `path`.
-fn starts_after(rows: &[Row<'_>], path: &[u8], i: usize) -> bool
-    requires { i < length rows.now }
-    ensures { (d : Row) → is_before path.now (slice_index_or rows.now i d).path.now ≡ result }
-{
-    is_before(path, rows[i].path)
-}
-
 /// Returns the row in the middle of `span`.
 fn middle_of(span: Span) -> usize
     requires { span.low < span.high }
@@ -51,7 +35,7 @@ fn half_of(rows: &[Row<'_>], path: &[u8], span: Span) -> Span
     ensures less { result.high - result.low < span.high - span.low }
 {
     let middle = middle_of(span);
-    if starts_before(rows, path, middle) {
+    if is_before(rows[middle].path, path) {
         Span {
             low: middle + 1,
             high: span.high,
@@ -80,7 +64,7 @@ pub fn row_number(rows: &[Row<'_>], path: &[u8]) -> Option<usize>
     if span.low >= rows.len() {
         return None;
     }
-    if starts_after(rows, path, span.low) {
+    if is_before(path, rows[span.low].path) {
         return None;
     }
     Some(span.low)

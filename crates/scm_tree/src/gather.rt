@@ -59,14 +59,6 @@ fn add_place<'a>(
     Ok(joined(&last, &place))
 }
 
-/// Returns place `i`.
-fn place_at<'a>(places: &[Place<'a>], i: usize) -> Place<'a>
-    requires { i < length places.now }
-    ensures { (d : Place) → slice_index_or places.now i d ≡ result }
-{
-    places[i]
-}
-
 /// Returns the places of sorted ones, each path once.
 ///
 /// # Errors
@@ -84,9 +76,9 @@ pub(crate) fn gathered<'a>(
     if places.is_empty() {
         return Ok(done);
     }
-    let mut last = place_at(places, 0);
+    let mut last = places[0];
     for i in 1..places.len() {
-        last = add_place(&mut done, last, place_at(places, i))?;
+        last = add_place(&mut done, last, places[i])?;
     }
     add(&mut done, last)?;
     Ok(done)

@@ -53,22 +53,6 @@ fn places_in_order<'a>(
     gathered(alloc, places.as_slice())
 }
 
-/// Returns whether neither tree has the path of place `i`.
-fn is_unknown(places: &[Place<'_>], i: usize) -> bool
-    requires { i < length places.now }
-    ensures { (d : Place) → is_unknown (slice_index_or places.now i d) ≡ result }
-{
-    places[i].current.is_none() & places[i].goal.is_none()
-}
-
-/// Returns the path of place `i`.
-fn path_at<'a>(places: &[Place<'a>], i: usize) -> &'a [u8]
-    requires { i < length places.now }
-    ensures { (d : Place) → (slice_index_or places.now i d).path.now ≡ result.now }
-{
-    places[i].path
-}
-
 /// Returns the row of place `i`, whose path a tree has. A path that is not shown keeps what is there, and has file `count`.
 fn row_at<'a>(count: usize, places: &[Place<'a>], i: usize) -> Row<'a>
     requires within { i < length places.now }
@@ -106,8 +90,8 @@ fn add_row<'a>(
         (λ _. AreRowsBelow count places.now (i + 1) rows.new.items)
         (IsRowsFault places.now) }
 {
-    if is_unknown(places, i) {
-        return Err(GatherError::Unknown(path_at(places, i)));
+    if places[i].current.is_none() & places[i].goal.is_none() {
+        return Err(GatherError::Unknown(places[i].path));
     }
     add(rows, row_at(count, places, i))?;
     Ok(())
