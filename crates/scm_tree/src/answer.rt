@@ -54,10 +54,7 @@ fn add_row(
 fn path_or<'a>(rows: &[Row<'a>], i: usize) -> &'a [u8]
     ensures { result.now ≡ path_or rows.now i }
 {
-    match rows.get(i) {
-        None => b"",
-        Some(row) => row.path,
-    }
+    if i < rows.len() { rows[i].path } else { b"" }
 }
 
 /// Adds why a file is left out, if it is: its path that would come, and the path beside which that cannot be.
@@ -116,10 +113,7 @@ fn fault_of(alloc: Global, letter: u8, path: &[u8]) -> Result<Vec<u8>, AllocErro
 fn moved_to<'a>(moved: &[Moved<'a>], i: usize) -> &'a [u8]
     ensures { result.now ≡ moved_to (slice_get moved.now i) }
 {
-    match moved.get(i) {
-        None => b"",
-        Some(moved) => moved.new,
-    }
+    if i < moved.len() { moved[i].new } else { b"" }
 }
 
 /// Returns the letter and the path of the record that says of `error` what is wrong, or `None` if an allocation failed.

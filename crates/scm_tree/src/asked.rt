@@ -2,13 +2,13 @@
 ghost use Rattle.std.specs.Prelude.{◌≡◌, ◌+◌, ◌-◌, ◌<◌, IfOk, IfSome, MatchResult, Ok, OnOk, Some, drop, length, slice_get, take};
 ghost use Rattle.std.specs.List.{position};
 ghost use Rattle.scm_tree.specs.declared.asked.ReadError.TheVariants.{OutOfMemory};
-ghost use Rattle.scm_tree.specs.Records.{held_by, is_nul, record_of, rows_in, seen_record, with_asked, with_files, with_first, with_record, with_second, last_shown, nothing_held, seen_mark, shown_path, with_shown};
+ghost use Rattle.scm_tree.specs.Records.{held_by, is_nul, record_of, rows_in, seen_record, with_asked, with_files, with_first, with_record, with_second, last_shown, nothing_held, seen_mark, shown_path, version_of, with_shown};
 ghost use Rattle.scm_tree.specs.Reading.{IsReadFault, held_if};
 
 use crate::adding::add;
 use crate::bytes::{after, before, first_place};
-use crate::record::{Ask, Record, asked_version, new_version, old_version, record_of};
-use crate::{Entry, Mark, Moved, Version, Wish};
+use crate::record::{Ask, NEW, OLD, Record, asked_version, record_of, version_of};
+use crate::{Entry, Mark, Moved, Wish};
 use std::alloc::{AllocError, Global};
 
 /// What records have. Each shown file has a number, in the order of the records.
@@ -41,13 +41,13 @@ impl From<AllocError> for ReadError<'_> {
     }
 }
 
-/// Returns the file that a tree has at the record's path.
-fn entry_of<'a>(row: &Record<'a>, version: Version) -> Entry<'a>
-    ensures { result ≡ record { path = row.now.path; version = version } }
+/// Returns the file at `path` whose version has this number.
+fn entry_of<'a>(path: &'a [u8], contents: usize) -> Entry<'a>
+    ensures { result ≡ record { path = path.entry; version = version_of contents } }
 {
     Entry {
-        path: row.path,
-        version,
+        path,
+        version: version_of(contents),
     }
 }
 
@@ -57,12 +57,13 @@ fn add_entries<'a>(asked: &mut Asked<'a>, row: &Record<'a>) -> Result<(), AllocE
         (held_by asked.exit.now ≡ with_files (seen_record row.now) (held_by asked.entry.now)) }
 {
     if row.is_old {
-        add(&mut asked.old, entry_of(row, old_version()))?;
+        add(&mut asked.old, entry_of(row.path, OLD))?;
     }
     if row.is_new {
-        add(&mut asked.new, entry_of(row, new_version()))?;
+        add(&mut asked.new, entry_of(row.path, NEW))
+    } else {
+        Ok(())
     }
-    Ok(())
 }
 
 /// Returns what the marks of file `file` ask for at the record's path.
@@ -82,9 +83,10 @@ fn mark_of<'a>(row: &Record<'a>, file: usize) -> Mark<'a>
 fn last_mark<'a>(marks: &[Mark<'a>]) -> Option<Mark<'a>>
     ensures { result ≡ slice_get marks.now (length marks.now - 1) }
 {
-    match marks.last() {
-        None => None,
-        Some(mark) => Some(*mark),
+    if marks.is_empty() {
+        None
+    } else {
+        Some(marks[marks.len() - 1])
     }
 }
 

@@ -40,10 +40,7 @@ fn is_ignorable(a: u8, b: u8, c: u8) -> bool
 fn byte_at(bytes: &[u8], i: usize) -> u8
     ensures { result ≡ slice_index bytes.now i }
 {
-    match bytes.get(i) {
-        None => 0,
-        Some(byte) => *byte,
-    }
+    if i < bytes.len() { bytes[i] } else { 0 }
 }
 
 /// Returns whether `bytes` begin with a code point that HFS+ passes over.
@@ -70,9 +67,10 @@ fn rest_from(bytes: &[u8], start: usize) -> &[u8]
 fn is_letter(word: &[u8], count: usize, byte: u8) -> bool
     ensures { result ≡ is_letter word.now count byte }
 {
-    match word.get(count) {
-        None => false,
-        Some(letter) => small(byte) == *letter,
+    if count < word.len() {
+        small(byte) == word[count]
+    } else {
+        false
     }
 }
 

@@ -111,33 +111,19 @@ pub(crate) fn record_of<'a>(bytes: &'a [u8]) -> Option<Record<'a>>
 }
 
 /// The version of the old tree, as a number of contents.
-const OLD: usize = 0;
+pub(crate) const OLD: usize = 0;
 
 /// The version of the new tree.
-const NEW: usize = 1;
+pub(crate) const NEW: usize = 1;
 
 /// A version that is chosen.
 const CHOSEN: usize = 2;
 
 /// Returns the version with this number.
-fn version_of(contents: usize) -> Version
+pub(crate) fn version_of(contents: usize) -> Version
     ensures { result ≡ version_of contents }
 {
     Version { mode: 0, contents }
-}
-
-/// Returns the version of a path that the old tree has.
-pub(crate) fn old_version() -> Version
-    ensures { result ≡ version_of 0 }
-{
-    version_of(OLD)
-}
-
-/// Returns the version of a path that the new tree has.
-pub(crate) fn new_version() -> Version
-    ensures { result ≡ version_of 1 }
-{
-    version_of(NEW)
 }
 
 /// Returns the version that marks ask for.

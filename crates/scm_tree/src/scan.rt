@@ -42,9 +42,10 @@ pub struct Refusal {
 pub(crate) fn is_refused(refused: &[Option<Refusal>], file: usize) -> bool
     ensures { result ≡ is_refused refused.now file }
 {
-    match refused.get(file) {
-        None => false,
-        Some(refusal) => refusal.is_some(),
+    if file < refused.len() {
+        refused[file].is_some()
+    } else {
+        false
     }
 }
 
