@@ -1,6 +1,6 @@
 -- What becomes of paths, as records of bytes.
-use Rattle.std.proofs.Common.{◌≡◌, ℕ, ◌+◌, ◌<◌, List, [], ◌∷◌, ◌++◌, length, take, get_or, Option, Some, refl, sym, subst, ◌∙◌, ap}
-use Rattle.std.proofs.lemmas.List.{append-nil, append_assoc, take_more}
+use Rattle.std.proofs.Common.{◌≡◌, ℕ, ◌+◌, ◌<◌, ◌≤◌, List, [], ◌∷◌, ◌++◌, length, take, get_or, Option, Some, refl, sym, subst, ◌∙◌, ap}
+use Rattle.std.proofs.lemmas.List.{append-nil, append_assoc, take_all, take_more}
 use Rattle.scm_tree.specs.declared.row.Row.{Row}
 use Rattle.scm_tree.specs.declared.scan.Refusal.{Refusal}
 use Rattle.scm_tree.specs.declared.place.Entry.{Entry}
@@ -57,6 +57,17 @@ rows_added count refused rows i d start before after h begun added =
 pub refusals_added : (rows : List Row) (refused : List (Option Refusal)) (i : ℕ) (d : Option Refusal) (start before after : List ℕ) → i < length refused → before ≡ start ++ refusals_answer rows (take i refused) → after ≡ before ++ refusal_answer rows (get_or refused i d) → after ≡ start ++ refusals_answer rows (take (i + 1) refused)
 refusals_added rows refused i d start before after h begun added =
     step start before after (refusal_answer rows (get_or refused i d)) (refusals_answer rows (take i refused)) (refusals_answer rows (take (i + 1) refused)) begun added (refusals_more rows refused i d h)
+
+-- all rows were looked at, and then all refusals
+pub answered : (count : ℕ) (d : Decision) (rows : List Row) (refused : List (Option Refusal)) (i : ℕ) (before after : List ℕ) → rows ≡ d.rows.items → refused ≡ d.refused.items → length rows ≤ i → before ≡ rows_answer count refused (take i rows) → after ≡ before ++ refusals_answer rows refused → after ≡ answer_of count d
+answered count d rows refused i before after r f h b a =
+    a
+    ∙ ap (λ (ys : List ℕ). ys ++ refusals_answer rows refused) (b ∙ ap (λ (rs : List Row). rows_answer count refused rs) (take_all i rows h))
+    ∙ ap (λ (rs : List Row). rows_answer count refused rs ++ refusals_answer rs refused) r
+    ∙ ap (λ (os : List (Option Refusal)). rows_answer count os d.rows.items ++ refusals_answer d.rows.items os) f
+
+pub refusals_answered : (rows : List Row) (refused : List (Option Refusal)) (i : ℕ) (start before : List ℕ) → length refused ≤ i → before ≡ start ++ refusals_answer rows (take i refused) → before ≡ start ++ refusals_answer rows refused
+refusals_answered rows refused i start before h b = b ∙ ap (λ (os : List (Option Refusal)). start ++ refusals_answer rows os) (take_all i refused h)
 
 -- ---- what is decided of the lists that are asked
 

@@ -28,8 +28,7 @@ fn letter_of(version: Option<Version>) -> u8
 fn add_record(answer: &mut Vec<u8>, letter: u8, path: &[u8]) -> Result<(), AllocError>
     ensures { OnOk result (answer.new.items ≡ answer.old.items ++ record_bytes letter path.now) }
 {
-    add(answer, letter)?;
-    add(answer, b' ')?;
+    answer.extend_from_slice(&[letter, b' '])?;
     answer.extend_from_slice(path)?;
     add(answer, 0)
 }
