@@ -1,6 +1,6 @@
 //! What a tree has of a changed file by a side of it.
 ghost use Rattle.std.specs.Prelude.{◌≡◌};
-ghost use Rattle.scm_tree_sides.specs.InTree.{bits_of_mode, contents_beside, contents_in, contents_of, in_tree, is_link_version, is_mode_of, is_new_item, item_mode, line_contents, mode_in, mode_of, renamed_contents};
+ghost use Rattle.scm_tree_sides.specs.InTree.{contents_beside, contents_in, contents_of, in_tree, is_link_version, is_mode_of, is_new_item, item_mode, line_contents, mode_in, renamed_contents};
 
 use crate::modes::{
     Modes, Side, files_of, is_link, link_beside, mode_in_tree, mode_on_side, renamed_modes,
@@ -41,23 +41,6 @@ fn contents_of(is_new: bool) -> Origin
     if is_new { Origin::OfNew } else { Origin::OfOld }
 }
 
-/// Returns the mode of the new version if `is_new`, or else of the old one.
-fn mode_of(is_new: bool, modes: Modes) -> Option<usize>
-    ensures { result ≡ mode_of is_new modes }
-{
-    if is_new { modes.new } else { modes.old }
-}
-
-/// Returns the bits of a side's mode, or `None` if the file does not exist there.
-fn bits_of_mode(mode: FileMode) -> Option<usize>
-    ensures { result ≡ bits_of_mode mode }
-{
-    match mode {
-        FileMode::Absent => None,
-        FileMode::Unix(bits) => Some(bits),
-    }
-}
-
 /// Returns whether a side's mode is that of a version.
 fn is_mode_of(mode: FileMode, version: Option<usize>) -> bool
     ensures { result ≡ is_mode_of mode version }
@@ -84,10 +67,16 @@ fn is_new_item(changed: Changed, side: Side) -> bool
 fn item_mode(changed: Changed, side: Side) -> Option<usize>
     ensures { result ≡ item_mode changed side }
 {
-    if is_whole(changed) {
-        mode_of(side.is_binary, changed.modes)
+    if !is_whole(changed) {
+        return match side.mode {
+            FileMode::Absent => None,
+            FileMode::Unix(bits) => Some(bits),
+        };
+    }
+    if side.is_binary {
+        changed.modes.new
     } else {
-        bits_of_mode(side.mode)
+        changed.modes.old
     }
 }
 

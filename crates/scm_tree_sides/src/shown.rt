@@ -1,6 +1,6 @@
 //! What a state is given of a changed file.
 ghost use Rattle.std.specs.Prelude.{◌≡◌};
-ghost use Rattle.scm_tree_sides.specs.Shown.{first_mode, go_along, is_by_lines, is_no_file, is_same, is_wanted_whole, is_whole, renamed_modes_of, shown_as, shown_modes};
+ghost use Rattle.scm_tree_sides.specs.Shown.{first_mode, go_along, is_by_lines, is_no_file, is_same, is_whole, renamed_modes_of, shown_as, shown_modes};
 
 use crate::modes::{Modes, files_of, is_link, link_beside};
 
@@ -98,22 +98,17 @@ pub(crate) fn is_by_lines(shown: Shown) -> bool
     }
 }
 
-/// Returns whether one item is wanted for all of a file.
-fn is_wanted_whole(shown: Shown) -> bool
-    ensures { result ≡ is_wanted_whole shown }
-{
-    match shown {
-        Shown::Whole => true,
-        Shown::Lines | Shown::Items => false,
-    }
-}
-
 /// Returns whether one item is for all of the file.
 pub(crate) fn is_whole(changed: Changed) -> bool
     ensures { result ≡ is_whole changed }
 {
-    let comes = changed.modes.new.is_some() & go_along(changed.modes);
-    is_wanted_whole(changed.shown) & (!changed.is_renamed & comes)
+    match changed.shown {
+        Shown::Whole => {
+            let comes = changed.modes.new.is_some() & go_along(changed.modes);
+            !changed.is_renamed & comes
+        }
+        Shown::Lines | Shown::Items => false,
+    }
 }
 
 /// Returns the modes that are shown: a link beside a file that is shown by lines counts as no file.
