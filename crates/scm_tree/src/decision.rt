@@ -8,7 +8,7 @@ ghost use Rattle.scm_tree.specs.declared.decision.Moved.{Moved};
 ghost use Rattle.scm_tree.specs.declared.place.Entry.{Entry};
 ghost use Rattle.scm_tree.specs.declared.place.Mark.{Mark};
 ghost use Rattle.scm_tree.specs.Merge.{AreMerged};
-ghost use Rattle.scm_tree.specs.Decisions.{AreOutcomes, IsDecision, IsMoved, IsOutcome, IsPromise, row_fault};
+ghost use Rattle.scm_tree.specs.Decisions.{AreOutcomes, IsDecision, IsMoved, IsOutcome, IsPromise, may_change, row_fault};
 ghost use Rattle.scm_tree.specs.DecideFaults.{IsDecideFault, IsMarkReason, IsMovedReason, IsPathReason, IsTreesReason, MarksFit, PathsFit, decide_error};
 
 use crate::adding::add;
@@ -120,12 +120,19 @@ fn check_marks<'a>(count: usize, marks: &[Mark<'_>]) -> Result<(), DecideError<'
     Ok(())
 }
 
-/// Returns what is wrong with the path of `row`, if it may get another version: no file is there now, or it is that of one of
-/// `count` shown files.
+/// Returns whether the path of `row` may get another version: no file is there now, or it is that of one of `count` shown
+/// files.
+fn may_change(count: usize, row: &Row<'_>) -> bool
+    ensures { result ≡ may_change count row.now }
+{
+    row.current.is_none() | (row.file < count)
+}
+
+/// Returns what is wrong with the path of `row`, if it may get another version.
 fn row_fault(count: usize, row: &Row<'_>) -> Option<PathFault>
     ensures { result ≡ row_fault count row.now }
 {
-    if row.current.is_none() | (row.file < count) {
+    if may_change(count, row) {
         path_fault(row.path)
     } else {
         None
