@@ -1,5 +1,5 @@
 //! Whether rows are those of two trees and a choice: what a caller hands in is looked at once.
-ghost use Rattle.std.specs.Prelude.{◌≡◌, ◌<◌, ◌≤◌, ℕ, IfSome, MatchResult, false, is_some, length, slice_index_or, true};
+ghost use Rattle.std.specs.Prelude.{◌≡◌, ◌<◌, ◌≤◌, ℕ, IfSome, MatchResult, false, is_some, length, true};
 ghost use Rattle.std.specs.List.{All};
 ghost use Rattle.scm_tree.specs.declared.row.Row.{Row};
 ghost use Rattle.scm_tree.specs.Paths.{is_before};
@@ -11,7 +11,7 @@ use crate::row::Row;
 use crate::scan::{Clash, Side, first_clash};
 
 /// What is wrong with rows.
-#[derive(Clone, Copy)]
+#[derive(Clone, Copy, Debug)]
 pub enum RowFault {
     /// The path of this row does not come after that of the row before.
     NotInOrder(usize),

@@ -1,5 +1,5 @@
 //! What becomes of each path.
-ghost use Rattle.std.specs.Prelude.{◌≡◌, ◌+◌, ◌<◌, ℕ, List, [], IfErr, IfOk, MatchResult, None, OnOk, false, length, slice_index_or, true};
+ghost use Rattle.std.specs.Prelude.{◌≡◌, ◌+◌, ◌<◌, ℕ, List, IfErr, IfOk, MatchResult, None, OnOk, false, length, slice_index_or, true};
 ghost use Rattle.std.specs.List.{All};
 ghost use Rattle.scm_tree.specs.declared.row.Row.{Row};
 ghost use Rattle.scm_tree.specs.Rows.{AreInOrder, AreRows};

@@ -1,9 +1,9 @@
 //! The row of a path.
-ghost use Rattle.std.specs.Prelude.{◌≡◌, ◌-◌, ◌<◌, ◌≤◌, ℕ, IfSome, false, length, slice_index_or, true};
+ghost use Rattle.std.specs.Prelude.{◌≡◌, ◌-◌, ◌<◌, ◌≤◌, ℕ, IfSome, false, true};
 ghost use Rattle.scm_tree.specs.declared.row.Row.{Row};
 ghost use Rattle.scm_tree.specs.Paths.{is_before};
 ghost use Rattle.scm_tree.specs.Rows.{AreInOrder};
-ghost use Rattle.scm_tree.specs.Find.{HasNoRow, IsRowFor, IsWithin, starts_before};
+ghost use Rattle.scm_tree.specs.Find.{HasNoRow, IsRowFor, IsWithin};
 
 use crate::path::is_before;
 use crate::row::Row;

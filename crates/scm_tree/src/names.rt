@@ -7,7 +7,7 @@ use crate::bytes::{after, before, first_place};
 use crate::folding::is_taken_for;
 
 /// What is wrong with a path.
-#[derive(Clone, Copy)]
+#[derive(Clone, Copy, Debug)]
 pub enum PathFault {
     /// The path or a name in it is empty: so is one with `/` at its begin or end, or twice in a row.
     EmptyName,

@@ -1,5 +1,5 @@
 //! The files of two trees and what marks ask for, path by path.
-ghost use Rattle.std.specs.Prelude.{◌≡◌, ◌<◌, List, [], IfOk, OnOk, length};
+ghost use Rattle.std.specs.Prelude.{◌<◌, List, [], IfOk, OnOk, length};
 ghost use Rattle.scm_tree.specs.declared.place.Entry.{Entry};
 ghost use Rattle.scm_tree.specs.Places.{AreListed, IsOfMark, IsOfNew, IsOfOld};
 

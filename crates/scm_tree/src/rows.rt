@@ -1,5 +1,5 @@
 //! Two trees and marks as rows.
-ghost use Rattle.std.specs.Prelude.{◌≡◌, ◌+◌, ◌<◌, [], IfErr, IfOk, MatchResult, false, length, slice_index_or};
+ghost use Rattle.std.specs.Prelude.{◌≡◌, ◌+◌, ◌<◌, IfErr, IfOk, MatchResult, false, length, slice_index_or};
 ghost use Rattle.scm_tree.specs.declared.rows.GatherError.TheVariants.{OutOfMemory};
 ghost use Rattle.scm_tree.specs.GatherFaults.{IsGatherFault, IsRowsFault, is_unknown};
 ghost use Rattle.scm_tree.specs.Places.{AreListed, ArePlacesInOrder, AreSorted, HaveSameFiles};

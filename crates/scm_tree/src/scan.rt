@@ -19,7 +19,7 @@ pub(crate) enum Side {
 }
 
 /// Two rows, of which the second lies in the first.
-#[derive(Clone, Copy)]
+#[derive(Clone, Copy, Debug)]
 pub struct Clash {
     /// The row of the file that is in the place of a folder.
     pub outer: usize,
