@@ -5,6 +5,7 @@ ghost use Rattle.scm_types.specs.Limits.{is_short_option, is_short_text};
 ghost use Rattle.scm_view.specs.ComponentRanges.{are_short_buttons, is_short_button, is_short_item, is_short_menu, text_of_line};
 ghost use Rattle.scm_screen_tests.specs.Corner.{IsAtCorner, SightIsAtCorner};
 
+use crate::checks::made;
 use crate::views::check_screen;
 use scm_cells::{Grid, Mask, Rect};
 use scm_render::Viewport;
@@ -29,9 +30,9 @@ pub(crate) fn viewport_under(
     alloc: Global,
     left: isize,
     width: usize,
-) -> Result<Viewport<ComponentId>, RecordError> {
-    let grid = Grid::new(alloc, 20, 3)?;
-    Ok(viewport_on(rt, alloc, grid, left, width))
+) -> Viewport<ComponentId> {
+    let grid = made(rt, Grid::new(alloc, 20, 3));
+    viewport_on(rt, alloc, grid, left, width)
 }
 
 /// Returns a viewport on a grid of 20 columns and 3 rows, under a mask of `width` columns from
@@ -89,13 +90,11 @@ pub(crate) fn check_sight(rt: &impl Abort, viewport: &Viewport<ComponentId>)
 /// Checks that the screen shows `rows`, and that the counted rows and calls are `counts`.
 pub(crate) fn check_drawing(
     rt: &impl Abort,
-    alloc: Global,
     viewport: Viewport<ComponentId>,
     rows: &str,
     counts: (usize, usize),
-) -> Result<(), RecordError> {
-    let grid = viewport.into_grid();
-    check_screen(rt, alloc, &grid, rows, counts)
+) {
+    check_screen(rt, &viewport.into_grid(), rows, counts);
 }
 
 // ---- buttons
@@ -107,14 +106,13 @@ fn draw_button(
     x: isize,
     y: isize,
     button: &Button<'_, ComponentId>,
-) -> Result<(), RecordError> {
+) {
     check_near(rt, x);
     check_near(rt, y);
     assert!(rt; button.label.len() <= 1_000_000);
     laws::components_are_in_range();
     scm_render::laws::parts_are_in_range::<ComponentId>();
-    let _ = viewport.draw_component(x, y, button)?;
-    Ok(())
+    let _ = made(rt, viewport.draw_component(x, y, button));
 }
 
 // ---- lines
@@ -136,15 +134,14 @@ fn draw_line(
     x: isize,
     y: isize,
     view: &SectionLineView<'_>,
-) -> Result<(), RecordError> {
+) {
     check_sight(rt, viewport);
     check_near(rt, x);
     check_near(rt, y);
     assert!(rt; is_short_line(view));
     laws::components_are_in_range();
     scm_render::laws::parts_are_in_range::<ComponentId>();
-    let _ = viewport.draw_component(x, y, view)?;
-    Ok(())
+    let _ = made(rt, viewport.draw_component(x, y, view));
 }
 
 /// The key of each line.
@@ -210,28 +207,24 @@ pub(crate) fn has_short_menus(menus: &[Menu<'_>]) -> bool
 }
 
 /// Returns the items of a menu.
-fn items_of(
-    alloc: Global,
-    labels: &[&'static str],
-) -> Result<Items<MenuItem<'static>>, RecordError> {
+fn items_of(rt: &impl Abort, alloc: Global, labels: &[&'static str]) -> Items<MenuItem<'static>> {
     let mut items = Items::new(alloc);
     for label in labels {
-        items.push(MenuItem {
-            label: Text::from(*label),
-        })?;
+        let label = Text::from(*label);
+        made(rt, items.push(MenuItem { label }));
     }
-    Ok(items)
+    items
 }
 
 /// The label of a menu, and those of its items.
 type Labels = (&'static str, &'static [&'static str]);
 
 /// Returns the menu with these labels.
-fn menu_of(alloc: Global, labels: Labels) -> Result<Menu<'static>, RecordError> {
-    Ok(Menu {
+fn menu_of(rt: &impl Abort, alloc: Global, labels: Labels) -> Menu<'static> {
+    Menu {
         label: Text::from(labels.0),
-        items: items_of(alloc, labels.1)?,
-    })
+        items: items_of(rt, alloc, labels.1),
+    }
 }
 
 /// A menu of two items.
@@ -247,34 +240,30 @@ fn draw_menu(
     x: isize,
     y: isize,
     menu: &Menu<'_>,
-) -> Result<(), RecordError> {
+) {
     check_near(rt, x);
     check_near(rt, y);
     assert!(rt; is_short_menu(menu));
     laws::components_are_in_range();
     scm_render::laws::parts_are_in_range::<ComponentId>();
-    let _ = viewport.draw_component(x, y, menu)?;
-    Ok(())
+    let _ = made(rt, viewport.draw_component(x, y, menu));
 }
 
 /// Returns the menus of `MENUS`.
-fn menus_of(alloc: Global) -> Result<Items<Menu<'static>>, RecordError> {
+fn menus_of(rt: &impl Abort, alloc: Global) -> Items<Menu<'static>> {
     let mut menus = Items::new(alloc);
     for labels in MENUS {
-        menus.push(menu_of(alloc, *labels)?)?;
+        made(rt, menus.push(menu_of(rt, alloc, *labels)));
     }
-    Ok(menus)
+    menus
 }
 
 /// Returns a bar of two menus, of which `expanded_menu_idx` is open, if any.
-fn bar_of(
-    alloc: Global,
-    expanded_menu_idx: Option<usize>,
-) -> Result<MenuBar<'static>, RecordError> {
-    Ok(MenuBar {
-        menus: menus_of(alloc)?,
+fn bar_of(rt: &impl Abort, alloc: Global, expanded_menu_idx: Option<usize>) -> MenuBar<'static> {
+    MenuBar {
+        menus: menus_of(rt, alloc),
         expanded_menu_idx,
-    })
+    }
 }
 
 /// Draws a bar of short menus.
@@ -284,7 +273,7 @@ fn draw_bar(
     x: isize,
     y: isize,
     bar: &MenuBar<'_>,
-) -> Result<(), RecordError> {
+) {
     check_sight(rt, viewport);
     check_near(rt, x);
     check_near(rt, y);
@@ -292,8 +281,7 @@ fn draw_bar(
     assert!(rt; has_short_menus(bar.menus.as_slice()));
     laws::components_are_in_range();
     scm_render::laws::parts_are_in_range::<ComponentId>();
-    let _ = viewport.draw_component(x, y, bar)?;
-    Ok(())
+    let _ = made(rt, viewport.draw_component(x, y, bar));
 }
 
 // ---- dialogs
@@ -317,13 +305,12 @@ fn draw_dialog(
     rt: &impl Abort,
     viewport: &mut Viewport<ComponentId>,
     dialog: &Dialog<'_, ComponentId>,
-) -> Result<(), RecordError> {
+) {
     check_sight(rt, viewport);
     assert!(rt; are_short_buttons(dialog.buttons));
     laws::components_are_in_range();
     scm_render::laws::parts_are_in_range::<ComponentId>();
-    let _ = viewport.draw_component(0, 0, dialog)?;
-    Ok(())
+    let _ = made(rt, viewport.draw_component(0, 0, dialog));
 }
 
 /// Draws the dialog that asks whether to quit, for a session without changes.
@@ -331,12 +318,11 @@ fn draw_quit(
     rt: &impl Abort,
     viewport: &mut Viewport<ComponentId>,
     dialog: &QuitDialog,
-) -> Result<(), RecordError> {
+) {
     check_sight(rt, viewport);
     laws::components_are_in_range();
     scm_render::laws::parts_are_in_range::<ComponentId>();
-    let _ = viewport.draw_component(0, 0, dialog)?;
-    Ok(())
+    let _ = made(rt, viewport.draw_component(0, 0, dialog));
 }
 
 /// Draws the help dialog.
@@ -344,12 +330,11 @@ fn draw_help(
     rt: &impl Abort,
     viewport: &mut Viewport<ComponentId>,
     dialog: &HelpDialog,
-) -> Result<(), RecordError> {
+) {
     check_sight(rt, viewport);
     laws::components_are_in_range();
     scm_render::laws::parts_are_in_range::<ComponentId>();
-    let _ = viewport.draw_component(0, 0, dialog)?;
-    Ok(())
+    let _ = made(rt, viewport.draw_component(0, 0, dialog));
 }
 
 // ---- messages
@@ -361,15 +346,14 @@ fn draw_message(
     x: isize,
     y: isize,
     view: &CommitMessageView<'_>,
-) -> Result<(), RecordError> {
+) {
     check_sight(rt, viewport);
     check_near(rt, x);
     check_near(rt, y);
     assert!(rt; has_short_message(&view.commit.message));
     laws::components_are_in_range();
     scm_render::laws::parts_are_in_range::<ComponentId>();
-    let _ = viewport.draw_component(x, y, view)?;
-    Ok(())
+    let _ = made(rt, viewport.draw_component(x, y, view));
 }
 
 /// Returns whether `message` is within the limit of a state's texts.
@@ -421,17 +405,14 @@ fn button_of(
 }
 
 /// Draws a dialog with a body of one line, and one button.
-fn draw_line_and_button(
-    rt: &impl Abort,
-    viewport: &mut Viewport<ComponentId>,
-) -> Result<(), RecordError> {
+fn draw_line_and_button(rt: &impl Abort, viewport: &mut Viewport<ComponentId>) {
     let dialog = Dialog {
         id: ComponentId::App,
         title: Text::from("T"),
         body: &["hi"],
         buttons: &[button_of(ComponentId::MenuBar, "Ok", false)],
     };
-    draw_dialog(rt, viewport, &dialog)
+    draw_dialog(rt, viewport, &dialog);
 }
 
 /// The dialog that asks whether to quit a session without changes.
@@ -449,15 +430,15 @@ fn draw_text(
     x: isize,
     y: isize,
     text: &str,
-) -> Result<(), RecordError> {
+) {
     let commit = Commit {
-        message: Some(owned(alloc, text)?),
+        message: Some(made(rt, owned(alloc, text))),
     };
     let view = CommitMessageView {
         commit_idx: 0,
         commit: &commit,
     };
-    draw_message(rt, viewport, x, y, &view)
+    draw_message(rt, viewport, x, y, &view);
 }
 
 /// Draws a button.
@@ -467,9 +448,32 @@ fn draw_go(
     x: isize,
     y: isize,
     is_focused: bool,
-) -> Result<(), RecordError> {
+) {
     let button = button_of(ComponentId::App, "Go", is_focused);
-    draw_button(rt, viewport, x, y, &button)
+    draw_button(rt, viewport, x, y, &button);
+}
+
+/// Draws the menu `MENU`.
+fn draw_items(
+    rt: &impl Abort,
+    alloc: Global,
+    viewport: &mut Viewport<ComponentId>,
+    x: isize,
+    y: isize,
+) {
+    draw_menu(rt, viewport, x, y, &menu_of(rt, alloc, MENU));
+}
+
+/// Draws a bar of two menus, of which `open` is open, if any.
+fn draw_menus(
+    rt: &impl Abort,
+    alloc: Global,
+    viewport: &mut Viewport<ComponentId>,
+    x: isize,
+    y: isize,
+    open: Option<usize>,
+) {
+    draw_bar(rt, viewport, x, y, &bar_of(rt, alloc, open));
 }
 
 /// Draws the component `shown`. A dialog is in the middle of the screen.
@@ -480,13 +484,13 @@ fn draw_shown(
     x: isize,
     y: isize,
     shown: Shown,
-) -> Result<(), RecordError> {
+) {
     match shown {
         Shown::Button(is_focused) => draw_go(rt, viewport, x, y, is_focused),
         Shown::Changed(change_type) => draw_line(rt, viewport, x, y, &changed_line(change_type)),
         Shown::Context(line_num) => draw_line(rt, viewport, x, y, &context_line(line_num)),
-        Shown::Menu => draw_menu(rt, viewport, x, y, &menu_of(alloc, MENU)?),
-        Shown::Bar(open) => draw_bar(rt, viewport, x, y, &bar_of(alloc, open)?),
+        Shown::Menu => draw_items(rt, alloc, viewport, x, y),
+        Shown::Bar(open) => draw_menus(rt, alloc, viewport, x, y, open),
         Shown::Dialog => draw_line_and_button(rt, viewport),
         Shown::Quit => draw_quit(rt, viewport, &QUIT),
         Shown::Help => draw_help(rt, viewport, &HelpDialog()),
@@ -503,11 +507,11 @@ pub(crate) fn check_shown(
     alloc: Global,
     grid: Grid,
     row: Row,
-) -> Result<(), RecordError> {
+) {
     let (shown, (left, width, x, y), rows, counts) = row;
     let mut viewport = viewport_on(rt, alloc, grid, left, width);
-    draw_shown(rt, alloc, &mut viewport, x, y, shown)?;
-    check_drawing(rt, alloc, viewport, rows, counts)
+    draw_shown(rt, alloc, &mut viewport, x, y, shown);
+    check_drawing(rt, viewport, rows, counts);
 }
 
 /// A message of two lines.
@@ -661,16 +665,15 @@ const ROWS: &[Row] = &[
 ];
 
 /// Draws the component of `row` on a blank screen, and checks it.
-fn check_alone(rt: &impl Abort, alloc: Global, row: Row) -> Result<(), RecordError> {
-    check_shown(rt, alloc, Grid::new(alloc, 20, 3)?, row)
+fn check_alone(rt: &impl Abort, alloc: Global, row: Row) {
+    check_shown(rt, alloc, made(rt, Grid::new(alloc, 20, 3)), row);
 }
 
 #[test]
-fn components_are_drawn_alone(rt: HostRuntime) -> Result<(), RecordError> {
+fn components_are_drawn_alone(rt: HostRuntime) {
     for row in ROWS {
-        check_alone(&rt, rt.alloc(), *row)?;
+        check_alone(&rt, rt.alloc(), *row);
     }
-    Ok(())
 }
 
 /// Returns a viewport on 32 columns and 3 rows.
@@ -685,11 +688,13 @@ fn wide_viewport(alloc: Global) -> Result<Viewport<ComponentId>, RecordError> {
     Ok(Viewport::new(alloc, grid, rect))
 }
 
+/// The dialog that asks whether to quit, on 32 columns.
+const WIDE: &str =
+    "┌Quit──────────────────────────┐\n│Are you sure you want to quit?│\n└──────────────[Go Back]─(Quit)┘\n";
+
 #[test]
-fn a_question_without_counts_is_shown_whole(rt: HostRuntime) -> Result<(), RecordError> {
-    let mut viewport = wide_viewport(rt.alloc())?;
-    draw_quit(&rt, &mut viewport, &QUIT)?;
-    let rows =
-        "┌Quit──────────────────────────┐\n│Are you sure you want to quit?│\n└──────────────[Go Back]─(Quit)┘\n";
-    check_drawing(&rt, rt.alloc(), viewport, rows, (0, 3))
+fn a_question_without_counts_is_shown_whole(rt: HostRuntime) {
+    let mut viewport = made(&rt, wide_viewport(rt.alloc()));
+    draw_quit(&rt, &mut viewport, &QUIT);
+    check_drawing(&rt, viewport, WIDE, (0, 3));
 }

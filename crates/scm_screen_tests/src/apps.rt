@@ -4,6 +4,8 @@ ghost use Rattle.scm_view.specs.ComponentRanges.{IsShortApp};
 ghost use Rattle.scm_screen_tests.specs.Small.{AreSmallCommits};
 
 use crate::alone::{check_drawing, check_near, check_sight, has_short_menus, viewport_under};
+use crate::checks::made;
+use crate::painted::draw;
 use crate::views::{check_commit, check_screen};
 use scm_cells::Grid;
 use scm_render::Viewport;
@@ -15,43 +17,25 @@ use scm_view_state::ViewState;
 use std::alloc::Global;
 use std::process::Abort;
 
-/// Draws the view of `state`, with all files folded, on a grid that shows the document from row
-/// `scroll` on.
-fn draw_app(
-    rt: &impl Abort,
-    alloc: Global,
-    grid: &mut Grid,
-    scroll: usize,
-    state: RecordState<'_>,
-) -> Result<(), RecordError> {
-    assert!(rt; state.is_accepted());
-    assert!(rt; scroll <= 1000);
-    assert!(rt; grid.width() <= 100);
-    assert!(rt; grid.height() <= 100);
-    let view_state = ViewState::new(state, SelectionKey::None, KeySet::new(alloc));
-    let view = view_state.app_view(alloc)?;
-    laws::apps_are_in_range();
-    let _ = Viewport::render_top_level(alloc, grid, 0, scroll as isize, &view)?;
-    Ok(())
-}
-
-/// Returns a state of one file with an added line, which is unchecked.
-fn sample_state(alloc: Global) -> Result<RecordState<'static>, RecordError> {
-    let mut state = RecordState::empty(alloc);
-    state
-        .files
-        .push(file_with(alloc, &["a\n"], &[(false, ADDED, "b\n")])?)?;
-    Ok(state)
+/// Returns a view state over one file with an added line, which is unchecked, with all files folded.
+fn sample(rt: &impl Abort, alloc: Global) -> ViewState<'static> {
+    let file = made(rt, file_with(alloc, &["a\n"], &[(false, ADDED, "b\n")]));
+    let state = RecordState {
+        is_read_only: false,
+        commits: Items::new(alloc),
+        files: Items::from(made(rt, vec![in alloc; file])),
+    };
+    ViewState::new(state, SelectionKey::None, KeySet::new(alloc))
 }
 
 /// The first row of the document on the screen, the screen's rows, and the counted rows and calls.
 type Row = (usize, &'static str, (usize, usize));
 
-/// Draws `sample_state` as `row` says, on 30 columns and 3 rows. Checks the screen and the counts.
-fn check_app(rt: &impl Abort, alloc: Global, row: Row) -> Result<(), RecordError> {
-    let mut grid = Grid::new(alloc, 30, 3)?;
-    draw_app(rt, alloc, &mut grid, row.0, sample_state(alloc)?)?;
-    check_screen(rt, alloc, &grid, row.1, row.2)
+/// Draws `view_state` as `row` says, on 30 columns and 3 rows. Checks the screen and the counts.
+fn check_app(rt: &impl Abort, alloc: Global, view_state: &ViewState<'_>, row: Row) {
+    let mut grid = made(rt, Grid::new(alloc, 30, 3));
+    let _ = made(rt, draw(rt, alloc, view_state, &mut grid, row.0));
+    check_screen(rt, &grid, row.1, row.2);
 }
 
 /// The menu bar.
@@ -70,11 +54,11 @@ const ROWS: &[Row] = &[
 ];
 
 #[test]
-fn apps_are_drawn_alone(rt: HostRuntime) -> Result<(), RecordError> {
+fn apps_are_drawn_alone(rt: HostRuntime) {
+    let view_state = sample(&rt, rt.alloc());
     for row in ROWS {
-        check_app(&rt, rt.alloc(), *row)?;
+        check_app(&rt, rt.alloc(), &view_state, *row);
     }
-    Ok(())
 }
 
 // ---- under a mask
@@ -105,38 +89,37 @@ fn draw_view(
     viewport: &mut Viewport<ComponentId>,
     x: isize,
     view: &AppView<'_>,
-) -> Result<(), RecordError> {
+) {
     check_sight(rt, viewport);
     check_near(rt, x);
     check_view(rt, view);
     laws::components_are_in_range();
     scm_render::laws::parts_are_in_range::<ComponentId>();
-    let _ = viewport.draw_component(x, 0, view)?;
-    Ok(())
+    let _ = made(rt, viewport.draw_component(x, 0, view));
 }
 
-/// Draws the view of `state`, with all files folded, from column `x` on.
+/// Draws `view_state` from column `x` on.
 fn draw_state(
     rt: &impl Abort,
     alloc: Global,
     viewport: &mut Viewport<ComponentId>,
     x: isize,
-    state: RecordState<'_>,
+    view_state: &ViewState<'_>,
 ) -> Result<(), RecordError> {
-    assert!(rt; state.is_accepted());
-    let view_state = ViewState::new(state, SelectionKey::None, KeySet::new(alloc));
+    assert!(rt; view_state.state.is_accepted());
     let view = view_state.app_view(alloc)?;
-    draw_view(rt, viewport, x, &view)
+    draw_view(rt, viewport, x, &view);
+    Ok(())
 }
 
 /// A mask's first column and its number of columns, the view's first column, and the screen's rows.
 type Masked = (isize, usize, isize, &'static str);
 
-/// Draws `sample_state` as `row` says, on 20 columns and 3 rows. Checks the screen.
-fn check_masked(rt: &impl Abort, alloc: Global, row: Masked) -> Result<(), RecordError> {
-    let mut viewport = viewport_under(rt, alloc, row.0, row.1)?;
-    draw_state(rt, alloc, &mut viewport, row.2, sample_state(alloc)?)?;
-    check_drawing(rt, alloc, viewport, row.3, (1, 9))
+/// Draws `view_state` as `row` says, on 20 columns and 3 rows. Checks the screen.
+fn check_masked(rt: &impl Abort, alloc: Global, view_state: &ViewState<'_>, row: Masked) {
+    let mut viewport = viewport_under(rt, alloc, row.0, row.1);
+    made(rt, draw_state(rt, alloc, &mut viewport, row.2, view_state));
+    check_drawing(rt, viewport, row.3, (1, 9));
 }
 
 /// The mask clips the menu bar. The document sets a mask of its own, which replaces it.
@@ -148,9 +131,9 @@ const MASKED: &[Masked] = &[
 ];
 
 #[test]
-fn apps_are_drawn_under_masks(rt: HostRuntime) -> Result<(), RecordError> {
+fn apps_are_drawn_under_masks(rt: HostRuntime) {
+    let view_state = sample(&rt, rt.alloc());
     for row in MASKED {
-        check_masked(&rt, rt.alloc(), *row)?;
+        check_masked(&rt, rt.alloc(), &view_state, *row);
     }
-    Ok(())
 }

@@ -1,27 +1,22 @@
 //! The first spans of a line beside all of its spans: eight columns show the same of both.
 use crate::cells::{line_spans, put, repeated};
-use crate::checks::{check_equal, check_view};
+use crate::checks::{check_equal, check_view, made};
 use scm_cells::{Grid, Span, push_first_spans, text_width};
-use scm_errors::RecordError;
 use std::alloc::Global;
 use std::process::Abort;
 
 /// Puts `spans` side by side on a row of eight columns, and checks that it shows `view`. Returns the
 /// columns of all spans.
-fn check_row(
-    rt: &impl Abort,
-    alloc: Global,
-    spans: &[Span<'_>],
-    view: &str,
-) -> Result<usize, RecordError> {
-    let mut grid = Grid::new(alloc, 8, 1)?;
+fn check_row(rt: &impl Abort, alloc: Global, spans: &[Span<'_>], view: &str) -> usize {
+    let mut grid = made(rt, Grid::new(alloc, 8, 1));
     let mut column = 0_usize;
     for span in spans {
-        put(rt, &mut grid, 0, column.min(10_000) as isize, span.0, 0, 8)?;
+        let first = column.min(10_000) as isize;
+        made(rt, put(rt, &mut grid, 0, first, span.0, 0, 8));
         column = column.saturating_add(text_width(span.0));
     }
-    check_view(rt, &grid, view)?;
-    Ok(column)
+    check_view(rt, &grid, view);
+    column
 }
 
 /// A line: a text and how many times it is repeated, the number of its first spans, the most bytes
@@ -37,26 +32,21 @@ fn check_short(rt: &impl Abort, spans: &[Span<'_>], row: Row) {
 }
 
 /// Puts the first spans of `line`, the line of `row`, on a row, as `check_row` does.
-fn check_first(rt: &impl Abort, alloc: Global, line: &str, row: Row) -> Result<usize, RecordError> {
+fn check_first(rt: &impl Abort, alloc: Global, line: &str, row: Row) -> usize {
     let mut spans = Vec::new(alloc);
-    push_first_spans(line, 8, &mut spans)?;
+    made(rt, push_first_spans(line, 8, &mut spans));
     check_short(rt, spans.as_slice(), row);
     check_row(rt, alloc, spans.as_slice(), row.4)
 }
 
 /// Checks that all spans of the line of `row` show the same as the first ones. Those exceed the
 /// columns if all do.
-fn check_line(rt: &impl Abort, alloc: Global, row: Row) -> Result<(), RecordError> {
-    let line = repeated(alloc, row.0, row.1)?;
-    let columns = check_row(
-        rt,
-        alloc,
-        line_spans(alloc, line.as_str())?.as_slice(),
-        row.4,
-    )?;
-    let first_columns = check_first(rt, alloc, line.as_str(), row)?;
+fn check_line(rt: &impl Abort, alloc: Global, row: Row) {
+    let line = repeated(rt, alloc, row.0, row.1);
+    let all = line_spans(rt, alloc, line.as_str());
+    let columns = check_row(rt, alloc, all.as_slice(), row.4);
+    let first_columns = check_first(rt, alloc, line.as_str(), row);
     check_equal(rt, (row.0, 8 < first_columns), (row.0, 8 < columns));
-    Ok(())
 }
 
 /// The lines.
@@ -83,9 +73,8 @@ const ROWS: &[Row] = &[
 ];
 
 #[test]
-fn first_spans_show_what_all_spans_show(rt: HostRuntime) -> Result<(), RecordError> {
+fn first_spans_show_what_all_spans_show(rt: HostRuntime) {
     for row in ROWS {
-        check_line(&rt, rt.alloc(), *row)?;
+        check_line(&rt, rt.alloc(), *row);
     }
-    Ok(())
 }

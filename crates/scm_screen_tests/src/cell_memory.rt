@@ -3,7 +3,7 @@
 //! `OutOfMemory`.
 use crate::cells::put;
 use crate::checks::check_equal;
-use scm_cells::{Grid, push_spans_from_line};
+use scm_cells::{Grid, Span, push_spans_from_line};
 use scm_errors::RecordError;
 use std::process::Abort;
 
@@ -23,13 +23,19 @@ fn refused_memory_keeps_rows(rt: HostRuntime) -> Result<(), RecordError> {
     check_put(&rt, &mut grid, "e\u{301}\u{302}\u{303}\u{304}字")
 }
 
+/// Adds the spans of a line behind the first one of `spans`: all twelve are there, or memory is refused
+/// and the first one is.
+fn check_push(rt: &impl Abort, spans: &mut Vec<Span<'static>>) -> Result<(), RecordError> {
+    let outcome = push_spans_from_line("a\u{1}b\u{2}c\u{3}d\u{4}e\u{5}f", spans);
+    let count = if outcome.is_ok() { 12 } else { 1 };
+    let first = spans.first().map(|span| span.0);
+    check_equal(rt, (spans.len(), first), (count, Some("a")));
+    outcome
+}
+
 #[test]
 fn refused_memory_keeps_spans(rt: HostRuntime) -> Result<(), RecordError> {
     let mut spans = Vec::new(rt.alloc());
     push_spans_from_line("a", &mut spans)?;
-    let outcome = push_spans_from_line("a\u{1}b\u{2}c\u{3}d\u{4}e\u{5}f", &mut spans);
-    let count = if outcome.is_ok() { 12 } else { 1 };
-    check_equal(&rt, spans.len(), count);
-    check_equal(&rt, spans.first().map(|span| span.0), Some("a"));
-    outcome
+    check_push(&rt, &mut spans)
 }

@@ -3,7 +3,7 @@
 ghost use Rattle.std.specs.Prelude.{◌≡◌};
 ghost use Rattle.scm_cells.specs.Rect.{RectInRange};
 
-use crate::checks::{check_equal, check_that, check_view};
+use crate::checks::{check_equal, check_that, check_view, made};
 use scm_cells::{
     Clusters, Column, Grid, Mask, Rect, RectSize, ScreenRect, Span, printable_line,
     push_spans_from_line, replace_control_character, text_width,
@@ -82,48 +82,31 @@ fn check_joined(rt: &impl Abort, one: Rect, other: Rect, both: Rect, around: Rec
     );
 }
 
-#[test]
-fn rectangles_are_joined(rt: HostRuntime) {
+/// Checks intersections of rectangles, and the least rectangles around them.
+pub(crate) fn check_rectangles(rt: &impl Abort) {
     for (one, other, both, around) in JOINED {
-        let one = area_of(&rt, *one);
-        check_joined(
-            &rt,
-            one,
-            area_of(&rt, *other),
-            rect_of(*both),
-            rect_of(*around),
-        );
+        let one = area_of(rt, *one);
+        let other = area_of(rt, *other);
+        check_joined(rt, one, other, rect_of(*both), rect_of(*around));
     }
 }
 
 /// Columns and rows, and whether a rectangle of five columns and rows at column 2 and row 1 has this place.
 const POINTS: &[(isize, isize, bool)] = &[(6, 5, true), (7, 5, false), (2, 1, true)];
 
-#[test]
-fn rectangles_have_places(rt: HostRuntime) {
-    let small = area_of(&rt, (2, 1, 5, 5));
-    check_equal(
-        &rt,
-        (small.end_x(), small.end_y(), small.is_empty()),
-        (7, 6, false),
-    );
-    check_equal(
-        &rt,
-        (small.iter_ys().count(), small.top_row()),
-        (5, rect(2, 1, 5, 1)),
-    );
+/// Checks the places of a rectangle of five columns and rows.
+pub(crate) fn check_points(rt: &impl Abort) {
+    let small = area_of(rt, (2, 1, 5, 5));
+    let ends = (small.end_x(), small.end_y());
+    check_equal(rt, (ends, small.is_empty()), ((7, 6), false));
+    let rows = (small.iter_ys().count(), small.top_row());
+    check_equal(rt, rows, (5, rect(2, 1, 5, 1)));
     for (x, y, expected) in POINTS {
-        check_equal(
-            &rt,
-            (*x, *y, small.contains_point(*x, *y)),
-            (*x, *y, *expected),
-        );
+        let found = small.contains_point(*x, *y);
+        check_equal(rt, (*x, *y, found), (*x, *y, *expected));
     }
-    check_equal(
-        &rt,
-        (Rect::default().is_empty(), rect(5, 0, 0, 1).is_empty()),
-        (true, true),
-    );
+    let empty = (Rect::default().is_empty(), rect(5, 0, 0, 1).is_empty());
+    check_equal(rt, empty, (true, true));
 }
 
 /// Sizes and places of 16 bits.
@@ -148,12 +131,12 @@ fn check_screen(rt: &impl Abort, sides: (u16, u16, u16, u16)) {
     check_equal(rt, RectSize::from(whole), size);
 }
 
-#[test]
-fn sizes_are_converted(rt: HostRuntime) {
+/// Checks what rectangles of a screen are converted to.
+pub(crate) fn check_sizes(rt: &impl Abort) {
     for sides in SCREENS {
-        check_screen(&rt, *sides);
+        check_screen(rt, *sides);
     }
-    check_equal(&rt, RectSize::default().width, 0);
+    check_equal(rt, RectSize::default().width, 0);
 }
 
 /// Returns the columns and rows of `mask`: where they begin, and how many they are.
@@ -177,21 +160,18 @@ const COLUMNS_ONLY: Mask = Mask {
     height: None,
 };
 
-#[test]
-fn masks_let_places_through(rt: HostRuntime) {
+/// Checks which places masks let through.
+pub(crate) fn check_masks(rt: &impl Abort) {
     let closed = Mask::from(rect(1, 2, 3, 4));
-    check_equal(&rt, sides_of(closed), (1, 2, Some(3), Some(4)));
-    check_equal(&rt, (closed.end_x(), closed.end_y()), (Some(4), Some(6)));
-    check_equal(&rt, OPEN.end_x(), None);
-    check_equal(&rt, OPEN.apply(rect(0, 0, 10, 10)), rect(1, 2, 9, 3));
-    check_equal(
-        &rt,
-        (COLUMNS_ONLY.end_x(), COLUMNS_ONLY.end_y()),
-        (Some(7), None),
-    );
-    check_equal(&rt, COLUMNS_ONLY.apply(WHOLE), rect(2, 0, 2, 2));
-    check_equal(&rt, Mask::from(rect(2, 1, 5, 5)).width, Some(5));
-    check_equal(&rt, sides_of(Mask::default()), (0, 0, None, None));
+    check_equal(rt, sides_of(closed), (1, 2, Some(3), Some(4)));
+    check_equal(rt, (closed.end_x(), closed.end_y()), (Some(4), Some(6)));
+    check_equal(rt, OPEN.end_x(), None);
+    check_equal(rt, OPEN.apply(rect(0, 0, 10, 10)), rect(1, 2, 9, 3));
+    let ends = (COLUMNS_ONLY.end_x(), COLUMNS_ONLY.end_y());
+    check_equal(rt, ends, (Some(7), None));
+    check_equal(rt, COLUMNS_ONLY.apply(WHOLE), rect(2, 0, 2, 2));
+    check_equal(rt, Mask::from(rect(2, 1, 5, 5)).width, Some(5));
+    check_equal(rt, sides_of(Mask::default()), (0, 0, None, None));
 }
 
 /// Numbers of columns, and texts of as many columns with a bar between two of them.
@@ -207,7 +187,7 @@ const COLUMNS: &[(usize, &str)] = &[
         "⌚|⏰|😀|👍🏽|👩\u{200D}👩\u{200D}👧|🏳\u{FE0F}\u{200D}🌈|❤\u{FE0F}|1\u{FE0F}\u{20E3}|🇩🇪",
     ),
     (2, "a\tb|a\nb|a\u{85}b"),
-    (3, "abc|日a|ｱｲｳ|αβγ|ไทย|😀a|\u{1B}[0m"),
+    (3, "e\u{301}日|abc|日a|ｱｲｳ|αβγ|ไทย|😀a|\u{1B}[0m"),
     (4, "한글|שלום|🇩🇪🇫🇷"),
     (6, "日本語|中文字|アイウ|привет"),
 ];
@@ -219,29 +199,31 @@ fn check_columns(rt: &impl Abort, columns: usize, texts: &str) {
     }
 }
 
-#[test]
-fn columns_of_texts(rt: HostRuntime) {
+/// Checks the columns of texts.
+pub(crate) fn check_texts(rt: &impl Abort) {
     for (columns, texts) in COLUMNS {
-        check_columns(&rt, *columns, *texts);
+        check_columns(rt, *columns, *texts);
     }
 }
 
-#[test]
-fn marks_have_a_column(rt: HostRuntime) {
+/// Checks that each mark has a column, and which characters are replaced.
+pub(crate) fn check_marks(rt: &impl Abort) {
     let mut count = 0_usize;
     for (mark, width) in Clusters::new("◐●±⋮…→⏎␀�┌─┐│└┘↓↑←•") {
-        check_equal(&rt, (mark, width), (mark, 1));
+        check_equal(rt, (mark, width), (mark, 1));
         count = count.saturating_add(1);
     }
-    check_equal(&rt, count, 19);
-    check_equal(&rt, Clusters::new("日a").next(), Some(("日", 2)));
+    check_equal(rt, count, 19);
+    check_equal(rt, Clusters::new("日a").next(), Some(("日", 2)));
+    check_equal(rt, replace_control_character('\n'), Some("⏎"));
+    check_equal(rt, replace_control_character('a'), None);
 }
 
 /// Returns the spans of `line`.
-pub(crate) fn line_spans<'a>(alloc: Global, line: &'a str) -> Result<Vec<Span<'a>>, RecordError> {
+pub(crate) fn line_spans<'a>(rt: &impl Abort, alloc: Global, line: &'a str) -> Vec<Span<'a>> {
     let mut spans = Vec::new(alloc);
-    push_spans_from_line(line, &mut spans)?;
-    Ok(spans)
+    made(rt, push_spans_from_line(line, &mut spans));
+    spans
 }
 
 /// Lines with a bar between two of them, and the spans of each: a tab, a delete, and
@@ -265,24 +247,17 @@ const TEXTS: &[(&str, &[Span<'static>])] = &[
 ];
 
 /// Checks the spans of each of `lines`, which have a bar between two of them.
-fn check_lines(
-    rt: &impl Abort,
-    alloc: Global,
-    lines: &str,
-    spans: &[Span<'_>],
-) -> Result<(), RecordError> {
+fn check_lines(rt: &impl Abort, alloc: Global, lines: &str, spans: &[Span<'_>]) {
     for line in lines.split('|') {
-        check_equal(rt, line_spans(alloc, line)?.as_slice(), spans);
+        check_equal(rt, line_spans(rt, alloc, line).as_slice(), &*spans);
     }
-    Ok(())
 }
 
 #[test]
-fn texts_of_spans(rt: HostRuntime) -> Result<(), RecordError> {
+fn texts_of_spans(rt: HostRuntime) {
     for (lines, spans) in TEXTS {
-        check_lines(&rt, rt.alloc(), *lines, *spans)?;
+        check_lines(&rt, rt.alloc(), *lines, *spans);
     }
-    Ok(())
 }
 
 /// Lines, and a printable one's text and mark.
@@ -315,17 +290,10 @@ fn columns_shown(rt: &impl Abort, spans: &[Span<'_>]) -> usize {
 }
 
 /// Cuts `line` into spans, and checks that there are `pieces` spans of `columns` columns in all.
-fn check_spans(
-    rt: &impl Abort,
-    alloc: Global,
-    line: &str,
-    pieces: usize,
-    columns: usize,
-) -> Result<(), RecordError> {
-    let spans = line_spans(alloc, line)?;
+fn check_spans(rt: &impl Abort, alloc: Global, line: &str, pieces: usize, columns: usize) {
+    let spans = line_spans(rt, alloc, line);
     let shown = (line, spans.len(), columns_shown(rt, spans.as_slice()));
     check_equal(rt, shown, (line, pieces, columns));
-    Ok(())
 }
 
 /// Lines, the numbers of their spans, and the columns of all of them.
@@ -352,11 +320,10 @@ const SPANS: &[(&str, usize, usize)] = &[
 ];
 
 #[test]
-fn spans_of_lines(rt: HostRuntime) -> Result<(), RecordError> {
+fn spans_of_lines(rt: HostRuntime) {
     for (line, pieces, columns) in SPANS {
-        check_spans(&rt, rt.alloc(), *line, *pieces, *columns)?;
+        check_spans(&rt, rt.alloc(), *line, *pieces, *columns);
     }
-    Ok(())
 }
 
 /// Puts `text` on row `row` of `grid`, and checks first that the grid has the row and the columns
@@ -382,18 +349,11 @@ pub(crate) fn grid_with(
     width: u16,
     height: u16,
     text: &str,
-) -> Result<Grid, RecordError> {
-    let mut grid = Grid::new(alloc, width, height)?;
-    put(
-        rt,
-        &mut grid,
-        usize::from(height.saturating_sub(1)),
-        0,
-        text,
-        0,
-        usize::from(width),
-    )?;
-    Ok(grid)
+) -> Grid {
+    let mut grid = made(rt, Grid::new(alloc, width, height));
+    let row = usize::from(height.saturating_sub(1));
+    made(rt, put(rt, &mut grid, row, 0, text, 0, usize::from(width)));
+    grid
 }
 
 /// What is put on a row.
@@ -412,26 +372,25 @@ enum What {
 type Put = (&'static str, isize, What, usize, usize, &'static str);
 
 /// Puts on the first row of `grid` what `row` says.
-fn put_what(rt: &impl Abort, grid: &mut Grid, row: Put) -> Result<(), RecordError> {
+fn put_what(rt: &impl Abort, grid: &mut Grid, row: Put) {
     let (_, column, what, low, high, _) = row;
     check_that(rt, 0 < grid.height());
     check_that(rt, high <= grid.width());
     match what {
-        What::Text(text) => grid.put(0, column, text, low, high)?,
+        What::Text(text) => made(rt, grid.put(0, column, text, low, high)),
         What::Measured(text, columns) => {
-            let measured = grid.put_measured(0, column, text, low, high)?;
+            let measured = made(rt, grid.put_measured(0, column, text, low, high));
             check_equal(rt, (text, measured), (text, columns));
         }
         What::Spaces(width) => grid.put_blank(0, column, width, low, high),
     }
-    Ok(())
 }
 
 /// Puts on a row of `width` columns what `row` says, and checks what that shows.
-fn check_put(rt: &impl Abort, alloc: Global, width: u16, row: Put) -> Result<(), RecordError> {
-    let mut grid = grid_with(rt, alloc, width, 1, row.0)?;
-    put_what(rt, &mut grid, row)?;
-    check_view(rt, &grid, row.5)
+fn check_put(rt: &impl Abort, alloc: Global, width: u16, row: Put) {
+    let mut grid = grid_with(rt, alloc, width, 1, row.0);
+    put_what(rt, &mut grid, row);
+    check_view(rt, &grid, row.5);
 }
 
 /// Texts on a blank row of six columns, then texts and spaces over wide symbols.
@@ -493,37 +452,36 @@ const MEASURED: &[Put] = &[
 ];
 
 #[test]
-fn texts_on_a_grid(rt: HostRuntime) -> Result<(), RecordError> {
+fn texts_on_a_grid(rt: HostRuntime) {
     for row in PUTS {
-        check_put(&rt, rt.alloc(), 6, *row)?;
+        check_put(&rt, rt.alloc(), 6, *row);
     }
     for row in MEASURED {
-        check_put(&rt, rt.alloc(), 4, *row)?;
+        check_put(&rt, rt.alloc(), 4, *row);
     }
-    Ok(())
 }
 
 #[test]
-fn rows_are_apart(rt: HostRuntime) -> Result<(), RecordError> {
-    let mut grid = grid_with(&rt, rt.alloc(), 6, 2, "   字")?;
-    check_view(&rt, &grid, "\"      \"\n\"   字 \"\n")?;
-    put(&rt, &mut grid, 0, 0, "abcdef", 0, 6)?;
+fn rows_are_apart(rt: HostRuntime) {
+    let mut grid = grid_with(&rt, rt.alloc(), 6, 2, "   字");
+    check_view(&rt, &grid, "\"      \"\n\"   字 \"\n");
+    made(&rt, put(&rt, &mut grid, 0, 0, "abcdef", 0, 6));
     check_equal(&rt, (grid.width(), grid.height()), (6, 2));
-    check_view(&rt, &grid, "\"abcdef\"\n\"   字 \"\n")
+    check_view(&rt, &grid, "\"abcdef\"\n\"   字 \"\n");
 }
 
 /// Returns `text`, repeated `times` times.
-pub(crate) fn repeated(alloc: Global, text: &str, times: usize) -> Result<String, RecordError> {
+pub(crate) fn repeated(rt: &impl Abort, alloc: Global, text: &str, times: usize) -> String {
     let mut long = String::new(alloc);
     for _ in 0..times {
-        long.push_str(text)?;
+        made(rt, long.push_str(text));
     }
-    Ok(long)
+    long
 }
 
 /// Returns the number of bytes of the view of `grid`.
-fn bytes_of(grid: &Grid) -> Result<usize, RecordError> {
-    Ok(grid.view()?.len())
+fn bytes_of(rt: &impl Abort, grid: &Grid) -> usize {
+    made(rt, grid.view()).len()
 }
 
 /// Columns and rows of blank grids, and the bytes of their views.
@@ -544,24 +502,28 @@ const LONG: &[Long] = &[
 ];
 
 /// Checks the text of `row`, repeated.
-fn check_long(rt: &impl Abort, alloc: Global, row: Long) -> Result<(), RecordError> {
-    let long = repeated(alloc, row.0, row.1)?;
-    let bytes = bytes_of(&grid_with(rt, alloc, 400, 1, long.as_str())?)?;
-    check_equal(rt, (row.0, bytes), (row.0, row.2));
-    check_equal(rt, line_spans(alloc, long.as_str())?.len(), row.3);
-    Ok(())
+fn check_long(rt: &impl Abort, alloc: Global, row: Long) {
+    let long = repeated(rt, alloc, row.0, row.1);
+    let bytes = bytes_of(rt, &grid_with(rt, alloc, 400, 1, long.as_str()));
+    let spans = line_spans(rt, alloc, long.as_str()).len();
+    check_equal(rt, (row.0, bytes, spans), (row.0, row.2, row.3));
+}
+
+/// Checks the bytes of the view of a blank grid.
+fn check_blank(rt: &impl Abort, alloc: Global, row: (u16, u16, usize)) {
+    let (width, height, bytes) = row;
+    let found = bytes_of(rt, &made(rt, Grid::new(alloc, width, height)));
+    check_equal(rt, (width, height, found), (width, height, bytes));
 }
 
 #[test]
-fn empty_small_and_large_values(rt: HostRuntime) -> Result<(), RecordError> {
-    for (width, height, bytes) in BLANK {
-        let found = bytes_of(&Grid::new(rt.alloc(), *width, *height)?)?;
-        check_equal(&rt, (*width, *height, found), (*width, *height, *bytes));
+fn empty_small_and_large_values(rt: HostRuntime) {
+    for row in BLANK {
+        check_blank(&rt, rt.alloc(), *row);
     }
     for row in LONG {
-        check_long(&rt, rt.alloc(), *row)?;
+        check_long(&rt, rt.alloc(), *row);
     }
-    Ok(())
 }
 
 /// Returns the symbol of the column at `index`, and its byte if it is printable ASCII.
@@ -614,8 +576,7 @@ fn check_places(rt: &impl Abort, grid: &Grid) {
 }
 
 #[test]
-fn columns_have_symbols(rt: HostRuntime) -> Result<(), RecordError> {
-    check_symbols(&rt, &grid_with(&rt, rt.alloc(), 8, 2, "a日 ~e\u{301}─")?);
-    check_places(&rt, &grid_with(&rt, rt.alloc(), 4, 2, "日e\u{301}")?);
-    Ok(())
+fn columns_have_symbols(rt: HostRuntime) {
+    check_symbols(&rt, &grid_with(&rt, rt.alloc(), 8, 2, "a日 ~e\u{301}─"));
+    check_places(&rt, &grid_with(&rt, rt.alloc(), 4, 2, "日e\u{301}"));
 }

@@ -3,18 +3,17 @@ ghost use Rattle.std.specs.Prelude.{◌≡◌, IsTrue};
 ghost use Rattle.scm_layout.specs.Layouts.{layout_of};
 ghost use Rattle.scm_types.specs.Limits.{is_accepted_state};
 
-use crate::checks::check_equal;
+use crate::checks::{check_equal, check_that, check_view, made};
+use crate::rows::painted;
+use crate::states::{Part, state_of};
 use scm_cells::Grid;
 use scm_layout::Layout;
-use scm_samples::{
-    ADDED, DEFAULT, REMOVED, binary, changed, commits_of, context, deletion, file_of,
-};
+use scm_samples::{ADDED, REMOVED};
 use scm_screen::{document_row, paint_document, paint_window, pinned_header};
-use scm_selection::key_set::{KeySet, key_set_of};
-use scm_strips::{Area, Shown, paint_row};
-use scm_types::{
-    File, FileKey, Items, LineKey, RecordError, RecordState, SectionKey, SelectionKey,
-};
+use scm_selection::key_set::key_set_of;
+use scm_strips::{Area, Shown};
+use scm_types::{FileKey, LineKey, RecordError, RecordState, SectionKey, SelectionKey};
+use scm_view::CommitViewMode;
 use scm_view_state::ViewState;
 use std::alloc::Global;
 use std::process::Abort;
@@ -108,101 +107,50 @@ const WINDOW: &str =
 /// The rows and draw calls that it counts: a pinned header and three rows, and the menu bar.
 const COUNTS: (usize, usize) = (4, 15);
 
-/// Returns a file with a section of each kind.
-fn file(alloc: Global) -> Result<File<'static>, RecordError> {
-    let mut sections = Vec::new(alloc);
-    sections.push(context(alloc, &["a\n", "b\n", "c\n", "d\n", "e\n"])?)?;
-    sections.push(changed(alloc, &[(true, ADDED, "new\n"), (false, REMOVED, "old\n")])?)?;
-    sections.push(deletion())?;
-    sections.push(binary(false))?;
-    Ok(file_of(DEFAULT, sections))
+/// A section of each kind.
+const PARTS: &[Part] = &[
+    Part::Context(&["a\n", "b\n", "c\n", "d\n", "e\n"]),
+    Part::Changes(&[(true, ADDED, "new\n"), (false, REMOVED, "old\n")]),
+    Part::Deletion,
+    Part::Bytes(false),
+];
+
+/// The keys of the file and of its changed lines.
+const UNFOLDED: &[SelectionKey] = &[SelectionKey::File(FILE), SelectionKey::Section(CHANGED)];
+
+/// Returns a view state of a file of `parts`, if there are any, in which the changed lines are unfolded.
+fn view_state(rt: &impl Abort, alloc: Global, parts: &[Part]) -> ViewState<'static> {
+    let unfolded = made(rt, key_set_of(alloc, UNFOLDED));
+    let selected = SelectionKey::Line(SELECTED);
+    ViewState::new(state_of(rt, alloc, parts), selected, unfolded)
 }
 
-/// Returns a state of one commit with a message and `files`.
-fn state(alloc: Global, files: Items<File<'static>>) -> Result<RecordState<'static>, RecordError> {
-    Ok(RecordState {
-        is_read_only: false,
-        commits: commits_of(alloc, "message")?,
-        files,
-    })
-}
-
-/// Returns the keys of the file and of its changed lines.
-fn unfolded(alloc: Global) -> Result<KeySet, RecordError> {
-    Ok(key_set_of(
-        alloc,
-        &[SelectionKey::File(FILE), SelectionKey::Section(CHANGED)],
-    )?)
-}
-
-/// Returns a view state of such a state, in which the changed lines are unfolded.
-fn view_state(
-    alloc: Global,
-    files: Items<File<'static>>,
-) -> Result<ViewState<'static>, RecordError> {
-    Ok(ViewState::new(
-        state(alloc, files)?,
-        SelectionKey::Line(SELECTED),
-        unfolded(alloc)?,
-    ))
-}
-
-/// Returns what 24 columns show of `what`, painted over dots, or an empty text if there is nothing.
-fn painted(alloc: Global, what: &Option<Shown<'_>>) -> Result<String, RecordError> {
+/// Checks what `what` shows, painted over dots. Nothing shows an empty text.
+fn check_row(rt: &impl Abort, alloc: Global, what: &Option<Shown<'_>>, row: Row) {
     match what {
-        None => Ok(String::new(alloc)),
-        Some(shown) => {
-            let mut grid = Grid::new(alloc, 24, 1)?;
-            grid.put(0, 0, "........................", 0, 24)?;
-            paint_row(alloc, &mut grid, 0, AREA, shown)?;
-            Ok(grid.view()?)
-        }
+        None => check_equal(rt, row, (row.0, "")),
+        Some(shown) => check_view(rt, &painted(rt, alloc, AREA, shown), row.1),
     }
 }
 
-/// Checks what a row shows.
-fn check_row(
-    rt: &impl Abort,
-    alloc: Global,
-    what: &Option<Shown<'_>>,
-    row: Row,
-) -> Result<(), RecordError> {
-    let (at, expected) = row;
-    let text = painted(alloc, what)?;
-    check_equal(rt, (at, text.as_str()), (at, expected));
-    Ok(())
-}
-
 /// Checks the rows of a document.
-fn check_rows(
-    rt: &impl Abort,
-    alloc: Global,
-    shown: &ViewState<'_>,
-    layout: &Layout,
-) -> Result<(), RecordError>
+fn check_rows(rt: &impl Abort, alloc: Global, shown: &ViewState<'_>, layout: &Layout)
     requires accepted { IsTrue (is_accepted_state shown.now.state) }
     requires layout { layout.now ≡ layout_of shown.now.state shown.now.expanded }
 {
     for row in ROWS {
-        check_row(rt, alloc, &document_row(&*shown, layout, row.0), *row)?;
+        check_row(rt, alloc, &document_row(&*shown, layout, row.0), *row);
     }
-    Ok(())
 }
 
 /// Checks the pinned headers of a document.
-fn check_pinned(
-    rt: &impl Abort,
-    alloc: Global,
-    shown: &ViewState<'_>,
-    layout: &Layout,
-) -> Result<(), RecordError>
+fn check_pinned(rt: &impl Abort, alloc: Global, shown: &ViewState<'_>, layout: &Layout)
     requires accepted { IsTrue (is_accepted_state shown.now.state) }
     requires layout { layout.now ≡ layout_of shown.now.state shown.now.expanded }
 {
     for row in PINNED {
-        check_row(rt, alloc, &pinned_header(&*shown, layout, row.0), *row)?;
+        check_row(rt, alloc, &pinned_header(&*shown, layout, row.0), *row);
     }
-    Ok(())
 }
 
 /// Checks a screen of a document.
@@ -213,17 +161,16 @@ fn check_screen(
     shown: &ViewState<'_>,
     layout: &Layout,
     screen: Row,
-) -> Result<(), RecordError>
+)
     requires accepted { IsTrue (is_accepted_state shown.now.state) }
     requires layout { layout.now ≡ layout_of shown.now.state shown.now.expanded }
 {
     let (scroll, expected) = screen;
-    assert!(rt; scroll <= RecordState::MAX_SCROLL);
-    let mut grid = Grid::new(alloc, 24, 5)?;
-    paint_document(alloc, &mut grid, AREA, &*shown, layout, scroll)?;
-    let text = grid.view()?;
-    check_equal(rt, (scroll, text.as_str()), (scroll, expected));
-    Ok(())
+    check_that(rt, scroll <= RecordState::MAX_SCROLL);
+    let mut grid = made(rt, Grid::new(alloc, 24, 5));
+    check_that(rt, 24 <= grid.width());
+    made(rt, paint_document(alloc, &mut grid, AREA, &*shown, layout, scroll));
+    check_view(rt, &grid, expected);
 }
 
 /// Checks screens of a document.
@@ -236,45 +183,69 @@ fn check_screens(
     assert!(rt; shown.state.is_accepted());
     let layout = shown.layout(alloc)?;
     for screen in screens {
-        check_screen(rt, alloc, shown, &layout, *screen)?;
+        check_screen(rt, alloc, shown, &layout, *screen);
     }
     Ok(())
 }
 
-#[test]
-fn rows_of_documents_are_found(rt: HostRuntime) -> Result<(), RecordError> {
-    let mut files = Items::new(rt.alloc());
-    files.push(file(rt.alloc())?)?;
-    let shown = view_state(rt.alloc(), files)?;
+/// Checks the rows and the pinned headers of a document.
+fn check_document(
+    rt: &impl Abort,
+    alloc: Global,
+    shown: &ViewState<'_>,
+) -> Result<(), RecordError> {
     assert!(rt; shown.state.is_accepted());
-    let layout = shown.layout(rt.alloc())?;
-    check_rows(&rt, rt.alloc(), &shown, &layout)?;
-    check_pinned(&rt, rt.alloc(), &shown, &layout)
-}
-
-#[test]
-fn documents_are_painted(rt: HostRuntime) -> Result<(), RecordError> {
-    let mut files = Items::new(rt.alloc());
-    files.push(file(rt.alloc())?)?;
-    check_screens(&rt, rt.alloc(), &view_state(rt.alloc(), files)?, SCREENS)?;
-    let bare = view_state(rt.alloc(), Items::new(rt.alloc()))?;
-    check_screens(&rt, rt.alloc(), &bare, BARE)
-}
-
-#[test]
-#[tactic(auto, unfolding(scm_types::specs::Limits::max_items, scm_types::specs::Limits::max_scroll))]
-fn windows_are_painted(rt: HostRuntime) -> Result<(), RecordError> {
-    let mut files = Items::new(rt.alloc());
-    files.push(file(rt.alloc())?)?;
-    let state = state(rt.alloc(), files)?;
-    let shown = ViewState::new(state, SelectionKey::Line(SELECTED), unfolded(rt.alloc())?);
-    assert!(rt; shown.state.is_accepted());
-    let layout = shown.layout(rt.alloc())?;
-    let view = shown.overlay_view(rt.alloc())?;
-    let mut grid = Grid::new(rt.alloc(), 24, 5)?;
-    paint_window(rt.alloc(), &mut grid, &shown, &layout, &view, 8)?;
-    let text = grid.view()?;
-    check_equal(&rt, text.as_str(), WINDOW);
-    check_equal(&rt, (grid.rows_drawn(), grid.calls()), COUNTS);
+    let layout = shown.layout(alloc)?;
+    check_rows(rt, alloc, shown, &layout);
+    check_pinned(rt, alloc, shown, &layout);
     Ok(())
+}
+
+/// Checks a screen of a document with its menu bar, from row 8 on.
+#[tactic(auto, unfolding(scm_types::specs::Limits::max_items, scm_types::specs::Limits::max_scroll))]
+fn check_overlaid(
+    rt: &impl Abort,
+    alloc: Global,
+    shown: &ViewState<'_>,
+    layout: &Layout,
+) -> Result<(), RecordError>
+    requires accepted { IsTrue (is_accepted_state shown.now.state) }
+    requires layout { layout.now ≡ layout_of shown.now.state shown.now.expanded }
+{
+    assert!(rt; matches!(&shown.view_mode, CommitViewMode::Inline));
+    let view = shown.overlay_view(alloc)?;
+    let mut grid = made(rt, Grid::new(alloc, 24, 5));
+    check_that(rt, 10 <= grid.width());
+    check_that(rt, 2 <= grid.height());
+    made(rt, paint_window(alloc, &mut grid, &*shown, layout, &view, 8));
+    check_view(rt, &grid, WINDOW);
+    check_equal(rt, (grid.rows_drawn(), grid.calls()), COUNTS);
+    Ok(())
+}
+
+/// Checks a window of a document.
+fn check_window(rt: &impl Abort, alloc: Global, shown: &ViewState<'_>) -> Result<(), RecordError> {
+    assert!(rt; shown.state.is_accepted());
+    let layout = shown.layout(alloc)?;
+    check_overlaid(rt, alloc, shown, &layout)
+}
+
+#[test]
+fn rows_of_documents_are_found(rt: HostRuntime) {
+    let shown = view_state(&rt, rt.alloc(), PARTS);
+    made(&rt, check_document(&rt, rt.alloc(), &shown));
+}
+
+#[test]
+fn documents_are_painted(rt: HostRuntime) {
+    let shown = view_state(&rt, rt.alloc(), PARTS);
+    made(&rt, check_screens(&rt, rt.alloc(), &shown, SCREENS));
+    let bare = view_state(&rt, rt.alloc(), &[]);
+    made(&rt, check_screens(&rt, rt.alloc(), &bare, BARE));
+}
+
+#[test]
+fn windows_are_painted(rt: HostRuntime) {
+    let shown = view_state(&rt, rt.alloc(), PARTS);
+    made(&rt, check_window(&rt, rt.alloc(), &shown));
 }

@@ -1,6 +1,10 @@
-//! What is on each row of a document, who owns each place of a frame, and which rows each key has.
-use crate::checks::check_equal;
+//! What is on each row of a document, who owns each place of a frame, and which rows each key has. An
+//! index by the layout answers what the index of the view does.
+use crate::checks::{check_equal, check_that, made};
 use crate::shown::{key_of, owner_of, place_of, shown};
+use scm_cells::Rect;
+use scm_layout_index::owner_runs::rect_end;
+use scm_layout_index::{FrameRows, LayoutIndex};
 use scm_samples::number_of;
 use scm_types::{RecordError, RecordState};
 use scm_view::{CommitViewMode, FrameIndex, RowIndex};
@@ -98,33 +102,53 @@ fn frame_index(
     FrameIndex::new(alloc, &view, width, height, scroll)
 }
 
-/// Checks what is on each row of the document `given`.
-fn check_places(
+/// Returns the index of such a frame by its layout.
+#[tactic(auto, unfolding(scm_types::specs::Limits::max_items, scm_types::specs::Limits::max_scroll))]
+fn layout_index(
     rt: &impl Abort,
     alloc: Global,
-    given: &str,
-    wanted: &str,
-) -> Result<(), RecordError> {
-    let index = row_index(rt, alloc, &shown(alloc, given)?)?;
+    view_state: &ViewState<'_>,
+    size: (u16, u16),
+    scroll: usize,
+) -> Result<LayoutIndex, RecordError> {
+    let (width, height) = size;
+    assert!(rt; 10 <= width);
+    assert!(rt; 2 <= height);
+    assert!(rt; scroll <= RecordState::MAX_SCROLL);
+    assert!(rt; view_state.state.is_accepted());
+    assert!(rt; matches!(&view_state.view_mode, CommitViewMode::Inline));
+    let view = view_state.app_view(alloc)?;
+    let layout = view_state.layout(alloc)?;
+    let rows = FrameRows::new().share(alloc, &layout.rows)?;
+    LayoutIndex::new(alloc, view_state, &view.menu_bar, rows, width, height, scroll)
+}
+
+/// Checks what is on each row of `index`, from row 0 on.
+fn check_places(rt: &impl Abort, index: &RowIndex, wanted: &str) {
     for (row, word) in wanted.split_whitespace().enumerate() {
-        check_equal(
-            rt,
-            (given, row, index.place(row)),
-            (given, row, place_of(word)),
-        );
+        check_equal(rt, (row, word, index.place(row)), (row, word, place_of(word)));
     }
-    Ok(())
+}
+
+/// Checks the document in `row`, which has words, ` => ` and what is on each row.
+fn check_document(rt: &impl Abort, alloc: Global, row: &str) {
+    let (given, wanted) = row.split_once(" => ").unwrap_or((row, ""));
+    let view_state = shown(rt, alloc, given);
+    check_places(rt, &made(rt, row_index(rt, alloc, &view_state)), wanted);
+}
+
+/// Returns whether `line` is a row of a table, and no comment.
+fn is_row(line: &str) -> bool {
+    !line.is_empty() && !line.starts_with('#')
 }
 
 #[test]
-fn each_row_has_its_place(rt: HostRuntime) -> Result<(), RecordError> {
+fn each_row_has_its_place(rt: HostRuntime) {
     for row in PLACES.lines() {
-        if !row.is_empty() && !row.starts_with('#') {
-            let (given, wanted) = row.split_once(" => ").unwrap_or((row, ""));
-            check_places(&rt, rt.alloc(), given, wanted)?;
+        if is_row(row) {
+            check_document(&rt, rt.alloc(), row);
         }
     }
-    Ok(())
 }
 
 /// Returns the first row and the number of rows that `word` names, or `None` for `-`.
@@ -133,49 +157,50 @@ fn rows_of(word: &str) -> Option<(usize, usize)> {
     Some((number_of(Some(top)), number_of(Some(rows))))
 }
 
-/// Checks the rows of the key in `word`, in both indexes.
-fn check_key(rt: &impl Abort, index: &RowIndex, frame: &FrameIndex, word: &str) {
+/// Checks the rows of the key in `word`.
+fn check_key(rt: &impl Abort, index: &RowIndex, word: &str) {
     let (name, wanted) = word.split_once('=').unwrap_or((word, ""));
     let key = key_of(name);
-    let wanted = rows_of(wanted);
-    check_equal(rt, (word, frame.span(key)), (word, wanted));
-    check_equal(
-        rt,
-        (word, index.top(key)),
-        (word, wanted.map(|(top, _)| top)),
-    );
-    check_equal(
-        rt,
-        (word, index.rows(key)),
-        (word, wanted.map(|(_, rows)| rows)),
-    );
+    let (top, rows) = match rows_of(wanted) {
+        Some((top, rows)) => (Some(top), Some(rows)),
+        None => (None, None),
+    };
+    check_equal(rt, (word, index.top(key), index.rows(key)), (word, top, rows));
 }
 
-/// Checks the rows of the keys in `wanted`.
-fn check_keys(
-    rt: &impl Abort,
-    alloc: Global,
-    given: &str,
-    wanted: &str,
-) -> Result<(), RecordError> {
-    let view_state = shown(alloc, given)?;
-    let index = row_index(rt, alloc, &view_state)?;
-    let frame = frame_index(rt, alloc, &view_state, (24, 8), 0)?;
+/// Checks the rows of the keys in `wanted`, in the index of a document.
+fn check_keys(rt: &impl Abort, index: &RowIndex, wanted: &str) {
     for word in wanted.split_whitespace() {
-        check_key(rt, &index, &frame, word);
+        check_key(rt, index, word);
     }
-    Ok(())
+}
+
+/// Checks the rows of the keys in `wanted`, in both indexes of a frame.
+fn check_spans(rt: &impl Abort, frame: &FrameIndex, layout: &LayoutIndex, wanted: &str) {
+    for word in wanted.split_whitespace() {
+        let (name, rows) = word.split_once('=').unwrap_or((word, ""));
+        let spans = (frame.span(key_of(name)), layout.span(key_of(name)));
+        check_equal(rt, (word, spans), (word, (rows_of(rows), rows_of(rows))));
+    }
+}
+
+/// Checks the rows of the keys of the document in `row`.
+fn check_all_keys(rt: &impl Abort, alloc: Global, row: &str) {
+    let (given, wanted) = row.split_once(" => ").unwrap_or((row, ""));
+    let view_state = shown(rt, alloc, given);
+    check_keys(rt, &made(rt, row_index(rt, alloc, &view_state)), wanted);
+    let frame = made(rt, frame_index(rt, alloc, &view_state, (24, 8), 0));
+    let layout = made(rt, layout_index(rt, alloc, &view_state, (24, 8), 0));
+    check_spans(rt, &frame, &layout, wanted);
 }
 
 #[test]
-fn keys_have_their_rows(rt: HostRuntime) -> Result<(), RecordError> {
+fn keys_have_their_rows(rt: HostRuntime) {
     for row in SPANS.lines() {
-        if !row.is_empty() && !row.starts_with('#') {
-            let (given, wanted) = row.split_once(" => ").unwrap_or((row, ""));
-            check_keys(&rt, rt.alloc(), given, wanted)?;
+        if is_row(row) {
+            check_all_keys(&rt, rt.alloc(), row);
         }
     }
-    Ok(())
 }
 
 /// Returns the row and the column of the place in `word`, and its owner in words.
@@ -185,53 +210,82 @@ pub(crate) fn owned_place(word: &str) -> (usize, usize, &str) {
     (number_of(Some(row)), number_of(Some(column)), owner)
 }
 
-/// Checks the owner of the place in `word`.
-fn check_owner(rt: &impl Abort, frame: &FrameIndex, word: &str) {
+/// Checks the owner of the place in `word`, by both indexes of the frame, and as that of a run of columns.
+fn check_owner(rt: &impl Abort, frame: &FrameIndex, layout: &LayoutIndex, word: &str) {
     let (row, column, owner) = owned_place(word);
-    check_equal(
-        rt,
-        (word, frame.owner(row, column)),
-        (word, owner_of(owner)),
-    );
+    check_that(rt, column < 65_536);
+    let wanted = owner_of(owner);
+    let run = layout.run_on(&layout.row_owners(row), column);
+    check_equal(rt, (word, frame.owner(row, column)), (word, wanted));
+    check_equal(rt, (word, layout.owner(row, column)), (word, wanted));
+    check_equal(rt, (word, run.owner), (word, wanted));
 }
 
-/// Returns the index of the frame `given`.
-fn frame_in(rt: &impl Abort, alloc: Global, given: &str) -> Result<FrameIndex, RecordError> {
-    let (words, screen) = given.split_once(" on ").unwrap_or((given, ""));
-    let mut numbers = screen.split(' ');
+/// Checks how many rows a frame spans, and its owners, by both of its indexes.
+fn check_frame(rt: &impl Abort, frame: &FrameIndex, layout: &LayoutIndex, wanted: &str) {
+    let mut words = wanted.split_whitespace();
+    let extent = number_of(words.next());
+    let found = (frame.extent(), layout.extent(), layout.ends_above(usize::MAX));
+    check_equal(rt, (wanted, found), (wanted, (extent, extent, true)));
+    for word in words {
+        check_owner(rt, frame, layout, word);
+    }
+}
+
+/// Returns the columns and rows of a screen, and its first row of the document.
+pub(crate) fn screen_of(words: &str) -> ((u16, u16), usize) {
+    let mut numbers = words.split(' ');
     let width = number_of(numbers.next()).min(65_535) as u16;
     let height = number_of(numbers.next()).min(65_535) as u16;
-    let scroll = number_of(numbers.next());
-    frame_index(rt, alloc, &shown(alloc, words)?, (width, height), scroll)
+    ((width, height), number_of(numbers.next()))
 }
 
-/// Checks how many rows the frame `given` spans, and its owners.
-fn check_owners(
-    rt: &impl Abort,
-    alloc: Global,
-    given: &str,
-    wanted: &str,
-) -> Result<(), RecordError> {
-    let frame = frame_in(rt, alloc, given)?;
-    let mut words = wanted.split_whitespace();
-    check_equal(
-        rt,
-        (given, frame.extent()),
-        (given, number_of(words.next())),
-    );
-    for word in words {
-        check_owner(rt, &frame, word);
-    }
-    Ok(())
+/// Checks the frame in `row`.
+fn check_owners(rt: &impl Abort, alloc: Global, row: &str) {
+    let (given, wanted) = row.split_once(" => ").unwrap_or((row, ""));
+    let (words, screen) = given.split_once(" on ").unwrap_or((given, ""));
+    let (size, scroll) = screen_of(screen);
+    let view_state = shown(rt, alloc, words);
+    let frame = made(rt, frame_index(rt, alloc, &view_state, size, scroll));
+    let layout = made(rt, layout_index(rt, alloc, &view_state, size, scroll));
+    check_frame(rt, &frame, &layout, wanted);
 }
 
 #[test]
-fn each_place_has_its_owner(rt: HostRuntime) -> Result<(), RecordError> {
+fn each_place_has_its_owner(rt: HostRuntime) {
     for row in OWNERS.lines() {
-        if !row.is_empty() && !row.starts_with('#') {
-            let (given, wanted) = row.split_once(" => ").unwrap_or((row, ""));
-            check_owners(&rt, rt.alloc(), given, wanted)?;
+        if is_row(row) {
+            check_owners(&rt, rt.alloc(), row);
         }
     }
-    Ok(())
+}
+
+/// The first column of a rectangle, its columns, a column, and the end of the run there.
+const RUNS: &[(isize, usize, usize, usize)] = &[
+    (2, 3, 0, 2),
+    (2, 3, 2, 5),
+    (2, 3, 5, 10),
+    (-1, 3, 0, 2),
+    (-1, 3, 2, 10),
+    (20, 3, 0, 10),
+];
+
+/// Checks the end of the run at `column`, in ten columns with a rectangle.
+fn check_run(rt: &impl Abort, x: isize, width: usize, column: usize, expected: usize) {
+    let rect = Rect {
+        x,
+        y: 0,
+        width,
+        height: 1,
+    };
+    assert!(rt; column < 10);
+    let end = rect_end(rect, column, 10);
+    check_equal(rt, (x, column, end), (x, column, expected));
+}
+
+#[test]
+fn runs_end_at_sides_of_rectangles(rt: HostRuntime) {
+    for (x, width, column, expected) in RUNS {
+        check_run(&rt, *x, *width, *column, *expected);
+    }
 }

@@ -38,8 +38,6 @@ mod render;
 mod row_samples;
 #[cfg(test)]
 mod rows;
-#[cfg(test)]
-mod same_answers;
 pub mod samples;
 #[cfg(test)]
 mod shown;

@@ -1,66 +1,29 @@
-//! Refused memory: what it leaves of a grid and of a trace. No contract says that the calls that do
-//! not allocate succeed then, so they are run here too. `tools/refuse-memory` runs each test with
-//! each of its requests for memory refused. The checks hold then, and the test passes or ends in
-//! `OutOfMemory`.
-use crate::checks::check_equal;
-use crate::render::{columns, rect, render_pair, viewport_on};
-use crate::samples::{Caption, Pair};
-use scm_cells::{
-    Clusters, Grid, Mask, Rect, RectSize, ScreenRect, replace_control_character, text_width,
+//! Refused memory: calls that take none, and what it leaves of a grid and of a trace. No contract says
+//! that the calls that do not allocate succeed then. `tools/refuse-memory` runs each test with each of
+//! its requests for memory refused. The checks hold then, and the test passes or ends in `OutOfMemory`.
+use crate::cells::{
+    check_marks, check_masks, check_points, check_rectangles, check_sizes, check_texts, rect,
 };
+use crate::checks::check_equal;
+use crate::render::{check_centring, columns, render_pair, viewport_on};
+use crate::samples::{Caption, Pair};
+use scm_cells::{Grid, Mask};
 use scm_errors::RecordError;
-use scm_render::{Component, DrawTrace, DrawnRect, DrawnRects, centered_rect};
+use scm_render::{Component, DrawTrace, DrawnRect, DrawnRects};
 use std::alloc::Global;
 use std::process::Abort;
 
-/// Checks the calls on rectangles.
-fn check_rects(rt: &impl Abort) {
-    let whole = rect(0, 0, 4, 2);
-    let small = rect(2, 1, 5, 5);
-    check_equal(rt, whole.intersect(small), rect(2, 1, 2, 1));
-    check_equal(rt, whole.union_bounding(small), rect(0, 0, 7, 6));
-    check_equal(rt, (small.end_x(), small.end_y()), (7, 6));
-    check_equal(rt, small.iter_ys().count(), 5);
-    check_equal(rt, small.top_row(), rect(2, 1, 5, 1));
-    assert!(rt; small.contains_point(2, 1) && !small.is_empty());
-    assert!(rt; Rect::default().is_empty());
-}
-
-/// Checks the calls on sizes.
-fn check_sizes(rt: &impl Abort) {
-    let size = RectSize {
-        width: 5,
-        height: 5,
-    };
-    let screen = ScreenRect {
-        x: 2,
-        y: 1,
-        width: 5,
-        height: 5,
-    };
-    check_equal(rt, Rect::from(screen), rect(2, 1, 5, 5));
-    check_equal(rt, RectSize::from(screen), size);
-    check_equal(rt, RectSize::from(rect(2, 1, 5, 5)), size);
-    check_equal(rt, RectSize::default().width, 0);
-    let whole = rect(0, 0, 4, 2);
-    check_equal(rt, centered_rect(whole, size, 50, 50), whole);
-}
-
-/// Checks the calls on masks.
-fn check_masks(rt: &impl Abort) {
-    let mask = columns(2, 5);
-    check_equal(rt, (mask.end_x(), mask.end_y()), (Some(7), None));
-    check_equal(rt, mask.apply(rect(0, 0, 4, 2)), rect(2, 0, 2, 2));
-    check_equal(rt, Mask::from(rect(2, 1, 5, 5)).width, Some(5));
-    check_equal(rt, Mask::default().width, None);
-}
-
-/// Checks the calls on texts.
-fn check_texts(rt: &impl Abort) {
-    check_equal(rt, replace_control_character('\n'), Some("⏎"));
-    check_equal(rt, replace_control_character('a'), None);
-    check_equal(rt, Clusters::new("日a").next(), Some(("日", 2)));
-    check_equal(rt, text_width("e\u{301}日"), 3);
+/// Checks the calls on rectangles, sizes, masks and texts.
+fn check_values(rt: &impl Abort) {
+    check_rectangles(rt);
+    check_points(rt);
+    check_sizes(rt);
+    check_masks(rt);
+    check_marks(rt);
+    check_texts(rt);
+    check_centring(rt);
+    let caption = Caption { id: 7, text: "a" };
+    check_equal(rt, caption.id(), 7);
 }
 
 /// Checks the calls on a grid of six columns and two rows, and on a viewport over it.
@@ -74,6 +37,10 @@ fn check_viewport(rt: &impl Abort, alloc: Global, mut grid: Grid) {
     check_equal(rt, viewport.translate_rect(rect(7, 0, 3, 1)), None);
     let grid = viewport.into_grid();
     check_equal(rt, (grid.width(), grid.height()), (6, 2));
+}
+
+/// Checks the calls on an empty trace.
+fn check_trace(rt: &impl Abort, alloc: Global) {
     let mut trace: DrawTrace<u8> = DrawTrace::new(alloc);
     trace.merge_rect(rect(1, 1, 2, 1));
     check_equal(rt, trace.rect, rect(1, 1, 2, 1));
@@ -81,32 +48,35 @@ fn check_viewport(rt: &impl Abort, alloc: Global, mut grid: Grid) {
 
 #[test]
 fn refused_memory_stops_no_call_that_takes_none(rt: HostRuntime) -> Result<(), RecordError> {
-    let alloc = rt.alloc();
-    check_rects(&rt);
-    check_sizes(&rt);
-    check_masks(&rt);
-    check_texts(&rt);
-    let caption = Caption { id: 7, text: "a" };
-    check_equal(&rt, caption.id(), 7);
-    let grid = Grid::new(alloc, 6, 2)?;
-    check_viewport(&rt, alloc, grid);
+    check_values(&rt);
+    check_trace(&rt, rt.alloc());
+    check_viewport(&rt, rt.alloc(), Grid::new(rt.alloc(), 6, 2)?);
     Ok(())
 }
 
 // ---- calls that take memory
 
-#[test]
-fn refused_memory_keeps_sizes_of_grids(rt: HostRuntime) -> Result<(), RecordError> {
-    let mut grid = Grid::new(rt.alloc(), 6, 3)?;
-    let pair = Pair {
+/// Returns two texts.
+fn pair() -> Pair {
+    Pair {
         id: 1,
         first: Caption { id: 2, text: "ab" },
         second: Caption { id: 3, text: "c" },
-    };
-    let drawn = render_pair(&rt, rt.alloc(), &mut grid, &pair);
-    check_equal(&rt, (grid.width(), grid.height()), (6, 3));
-    check_equal(&rt, drawn?.len(), 3);
+    }
+}
+
+/// Draws two texts on `grid`, which has six columns and three rows, and keeps them.
+fn check_grid(rt: &impl Abort, alloc: Global, grid: &mut Grid) -> Result<(), RecordError> {
+    let drawn = render_pair(rt, alloc, grid, &pair());
+    check_equal(rt, (grid.width(), grid.height()), (6, 3));
+    check_equal(rt, drawn?.len(), 3);
     Ok(())
+}
+
+#[test]
+fn refused_memory_keeps_sizes_of_grids(rt: HostRuntime) -> Result<(), RecordError> {
+    let mut grid = Grid::new(rt.alloc(), 6, 3)?;
+    check_grid(&rt, rt.alloc(), &mut grid)
 }
 
 /// Returns `count` boxes with the ids from 0 on, all with the same rectangle and `timestamp`.
@@ -119,25 +89,35 @@ fn boxes_of(alloc: Global, count: u8, timestamp: usize) -> Result<DrawnRects<u8>
     Ok(boxes)
 }
 
-#[test]
-fn refused_memory_keeps_traces(rt: HostRuntime) -> Result<(), RecordError> {
+/// Merges traces of one cell with the boxes `one` and `other`: the trace has all 20 boxes, or memory is
+/// refused and it has its own.
+fn check_merge(
+    rt: &impl Abort,
+    one: DrawnRects<u8>,
+    other: DrawnRects<u8>,
+) -> Result<(), RecordError> {
     let mut trace: DrawTrace<u8> = DrawTrace {
         rect: rect(0, 0, 1, 1),
-        components: boxes_of(rt.alloc(), 1, 5)?,
+        components: one,
     };
-    let other = DrawTrace {
+    let outcome = trace.merge(DrawTrace {
         rect: rect(2, 0, 1, 1),
-        components: boxes_of(rt.alloc(), 20, 6)?,
-    };
-    let outcome = trace.merge(other);
+        components: other,
+    });
     let (width, count, timestamp) = if outcome.is_ok() {
         (3, 20, 6)
     } else {
         (1, 1, 5)
     };
-    check_equal(&rt, trace.rect, rect(0, 0, width, 1));
-    check_equal(&rt, trace.components.len(), count);
+    check_equal(rt, trace.rect, rect(0, 0, width, 1));
+    check_equal(rt, trace.components.len(), count);
     let first = trace.components.get(&0).copied();
-    check_equal(&rt, first.map(|drawn| drawn.timestamp), Some(timestamp));
+    check_equal(rt, first.map(|drawn| drawn.timestamp), Some(timestamp));
     outcome
+}
+
+#[test]
+fn refused_memory_keeps_traces(rt: HostRuntime) -> Result<(), RecordError> {
+    let one = boxes_of(rt.alloc(), 1, 5)?;
+    check_merge(&rt, one, boxes_of(rt.alloc(), 20, 6)?)
 }

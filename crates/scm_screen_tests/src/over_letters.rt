@@ -2,12 +2,13 @@
 use crate::alone::{
     Place, Shown, check_drawing, check_near, check_shown, check_sight, viewport_on,
 };
-use crate::checks::check_equal;
+use crate::cells::{put, rect_of};
+use crate::checks::{check_equal, made};
 use crate::views::{check_section, middle_section_view};
 use scm_cells::{Grid, Rect};
 use scm_render::Viewport;
 use scm_samples::context;
-use scm_types::{RecordError, Section};
+use scm_types::Section;
 use scm_view::{ComponentId, SectionView, laws};
 use std::alloc::Global;
 use std::process::Abort;
@@ -16,14 +17,12 @@ use std::process::Abort;
 const LETTERS: &str = "abcdefghijklmnopqrst";
 
 /// Returns a grid of 20 columns and 3 rows, each filled with the letters.
-fn grid_of_letters(rt: &impl Abort, alloc: Global) -> Result<Grid, RecordError> {
-    let mut grid = Grid::new(alloc, 20, 3)?;
-    for row in 0..3 {
-        assert!(rt; row < grid.height());
-        assert!(rt; 20 <= grid.width());
-        grid.put(row, 0, LETTERS, 0, 20)?;
-    }
-    Ok(grid)
+fn grid_of_letters(rt: &impl Abort, alloc: Global) -> Grid {
+    let mut grid = made(rt, Grid::new(alloc, 20, 3));
+    made(rt, put(rt, &mut grid, 0, 0, LETTERS, 0, 20));
+    made(rt, put(rt, &mut grid, 1, 0, LETTERS, 0, 20));
+    made(rt, put(rt, &mut grid, 2, 0, LETTERS, 0, 20));
+    grid
 }
 
 // ---- messages
@@ -54,17 +53,16 @@ const MESSAGES: &[Over] = &[
 ];
 
 /// Draws a message over the letters, and checks the screen and the counts.
-fn check_message(rt: &impl Abort, alloc: Global, row: Over) -> Result<(), RecordError> {
+fn check_message(rt: &impl Abort, alloc: Global, row: Over) {
     let shown = (Shown::Message("hi"), row.0, row.1, row.2);
-    check_shown(rt, alloc, grid_of_letters(rt, alloc)?, shown)
+    check_shown(rt, alloc, grid_of_letters(rt, alloc), shown);
 }
 
 #[test]
-fn messages_blank_their_first_and_third_row(rt: HostRuntime) -> Result<(), RecordError> {
+fn messages_blank_their_first_and_third_row(rt: HostRuntime) {
     for row in MESSAGES {
-        check_message(&rt, rt.alloc(), *row)?;
+        check_message(&rt, rt.alloc(), *row);
     }
-    Ok(())
 }
 
 // ---- sections of context
@@ -76,14 +74,14 @@ fn draw_section(
     x: isize,
     y: isize,
     view: &SectionView<'_>,
-) -> Result<Rect, RecordError> {
+) -> Rect {
     check_sight(rt, viewport);
     check_near(rt, x);
     check_near(rt, y);
     check_section(rt, view);
     laws::components_are_in_range();
     scm_render::laws::parts_are_in_range::<ComponentId>();
-    viewport.draw_component(x, y, view)
+    made(rt, viewport.draw_component(x, y, view))
 }
 
 /// Draws `section` as the middle one of a file, and returns its box.
@@ -93,7 +91,7 @@ fn draw_middle_section(
     x: isize,
     y: isize,
     section: &Section<'_>,
-) -> Result<Rect, RecordError> {
+) -> Rect {
     let view = middle_section_view(section);
     draw_section(rt, viewport, x, y, &view)
 }
@@ -103,9 +101,9 @@ fn viewport_over_letters(
     rt: &impl Abort,
     alloc: Global,
     place: Place,
-) -> Result<Viewport<ComponentId>, RecordError> {
-    let grid = grid_of_letters(rt, alloc)?;
-    Ok(viewport_on(rt, alloc, grid, place.0, place.1))
+) -> Viewport<ComponentId> {
+    let grid = grid_of_letters(rt, alloc);
+    viewport_on(rt, alloc, grid, place.0, place.1)
 }
 
 /// Draws a section of context with `lines`, and returns its box.
@@ -115,16 +113,16 @@ fn draw_context(
     viewport: &mut Viewport<ComponentId>,
     place: Place,
     lines: &[&'static str],
-) -> Result<Rect, RecordError> {
-    let section = context(alloc, lines)?;
+) -> Rect {
+    let section = made(rt, context(alloc, lines));
     draw_middle_section(rt, viewport, place.2, place.3, &section)
 }
 
 /// Draws a section of context without lines over the letters, and checks the screen and the counts.
-fn check_section_of_no_lines(rt: &impl Abort, alloc: Global, row: Over) -> Result<(), RecordError> {
-    let mut viewport = viewport_over_letters(rt, alloc, row.0)?;
-    let _ = draw_context(rt, alloc, &mut viewport, row.0, &[])?;
-    check_drawing(rt, alloc, viewport, row.1, row.2)
+fn check_section_of_no_lines(rt: &impl Abort, alloc: Global, row: Over) {
+    let mut viewport = viewport_over_letters(rt, alloc, row.0);
+    let _ = draw_context(rt, alloc, &mut viewport, row.0, &[]);
+    check_drawing(rt, viewport, row.1, row.2);
 }
 
 /// Context without lines blanks its row from its column to the end of the mask.
@@ -152,26 +150,19 @@ const NO_LINES: &[Over] = &[
 ];
 
 #[test]
-fn context_without_lines_blanks_its_row(rt: HostRuntime) -> Result<(), RecordError> {
+fn context_without_lines_blanks_its_row(rt: HostRuntime) {
     for row in NO_LINES {
-        check_section_of_no_lines(&rt, rt.alloc(), *row)?;
+        check_section_of_no_lines(&rt, rt.alloc(), *row);
     }
-    Ok(())
 }
 
 /// Draws a section of context with one line, and checks the first column of its box and its number
 /// of columns.
-fn check_columns(
-    rt: &impl Abort,
-    alloc: Global,
-    place: Place,
-    columns: (isize, usize),
-) -> Result<(), RecordError> {
-    let mut viewport = viewport_over_letters(rt, alloc, place)?;
-    let rect = draw_context(rt, alloc, &mut viewport, place, &["a\n"])?;
-    check_equal(rt, (rect.x, rect.width), columns);
-    check_equal(rt, (rect.y, rect.height), (place.3, 1));
-    Ok(())
+fn check_columns(rt: &impl Abort, alloc: Global, place: Place, columns: (isize, usize)) {
+    let mut viewport = viewport_over_letters(rt, alloc, place);
+    let rect = draw_context(rt, alloc, &mut viewport, place, &["a\n"]);
+    let (x, width) = columns;
+    check_equal(rt, rect, rect_of((x, place.3, width, 1)));
 }
 
 /// Places, and the first columns and numbers of columns of boxes there. A line covers all columns
@@ -184,9 +175,8 @@ const COLUMNS: &[(Place, (isize, usize))] = &[
 ];
 
 #[test]
-fn boxes_of_context_begin_at_their_column(rt: HostRuntime) -> Result<(), RecordError> {
+fn boxes_of_context_begin_at_their_column(rt: HostRuntime) {
     for (place, columns) in COLUMNS {
-        check_columns(&rt, rt.alloc(), *place, *columns)?;
+        check_columns(&rt, rt.alloc(), *place, *columns);
     }
-    Ok(())
 }

@@ -1,8 +1,9 @@
 //! Pages of a pager: the lines of a side, and where keys take it.
-use crate::checks::check_equal;
+use crate::checks::{check_equal, check_view, made};
+use crate::states::{Part, file_of_parts};
 use scm_pager::{Pager, hear, page};
-use scm_samples::{ADDED, DEFAULT, REMOVED, binary, context, file_of, file_with};
-use scm_types::{File, RecordError};
+use scm_samples::{ADDED, REMOVED};
+use scm_types::File;
 use std::alloc::Global;
 use std::process::Abort;
 
@@ -53,86 +54,84 @@ const PAGES: &[Page] = &[
 /// What closes a pager on the selected side.
 const CLOSING: &[&str] = &["p", "q", "?", "\x1b", "\x03", "PP", "pj"];
 
-/// Returns the file of the pages.
-fn file(alloc: Global) -> Result<File<'static>, RecordError> {
-    let mut file = file_with(
-        alloc,
-        &["one\n"],
+/// The sections of the file of the pages.
+const PARTS: &[Part] = &[
+    Part::Context(&["one\n"]),
+    Part::Changes(
         &[
             (true, ADDED, "two\n"),
             (false, ADDED, "three\n"),
             (false, REMOVED, "four\n"),
             (true, REMOVED, "five\n"),
         ],
-    )?;
-    file.sections
-        .push(scm_samples::context(alloc, &["six\n"])?)?;
-    Ok(file)
+    ),
+    Part::Context(&["six\n"]),
+];
+
+/// Returns the pager on the selected side after the keys `keys`.
+fn pager_after(rt: &impl Abort, alloc: Global, file: &File<'_>, keys: &str) -> Pager {
+    let pager = Pager::open(0, true);
+    made(rt, hear(alloc, pager, file, keys.as_bytes(), 24, 4))
 }
 
 /// Checks what a pager shows after keys.
-fn check_page(
-    rt: &impl Abort,
-    alloc: Global,
-    file: &File<'_>,
-    row: Page,
-) -> Result<(), RecordError> {
-    let (keys, shown) = row;
-    let pager = hear(alloc, Pager::open(0, true), file, keys.as_bytes(), 24, 4)?;
-    let text = page(alloc, pager, file, 24, 4)?.view()?;
-    check_equal(rt, (keys, text.as_str()), (keys, shown));
-    Ok(())
+fn check_page(rt: &impl Abort, alloc: Global, file: &File<'_>, row: Page) {
+    let pager = pager_after(rt, alloc, file, row.0);
+    let shown = made(rt, page(alloc, pager, file, 24, 4));
+    check_view(rt, &shown, row.1);
 }
 
 #[test]
-fn pages_show_sides(rt: HostRuntime) -> Result<(), RecordError> {
-    let file = file(rt.alloc())?;
+fn pages_show_sides(rt: HostRuntime) {
+    let file = file_of_parts(&rt, rt.alloc(), PARTS);
     for row in PAGES {
-        check_page(&rt, rt.alloc(), &file, *row)?;
+        check_page(&rt, rt.alloc(), &file, *row);
     }
-    Ok(())
+}
+
+/// Checks that `keys` close a pager.
+fn check_closed(rt: &impl Abort, alloc: Global, file: &File<'_>, keys: &str) {
+    let pager = pager_after(rt, alloc, file, keys);
+    check_equal(rt, (keys, pager.is_open, pager.top), (keys, false, 0));
 }
 
 #[test]
-fn keys_close_pagers(rt: HostRuntime) -> Result<(), RecordError> {
-    let file = file(rt.alloc())?;
+fn keys_close_pagers(rt: HostRuntime) {
+    let file = file_of_parts(&rt, rt.alloc(), PARTS);
     for keys in CLOSING {
-        let pager = hear(
-            rt.alloc(),
-            Pager::open(0, true),
-            &file,
-            keys.as_bytes(),
-            24,
-            4,
-        )?;
-        check_equal(&rt, (*keys, pager.is_open, pager.top), (*keys, false, 0));
+        check_closed(&rt, rt.alloc(), &file, *keys);
     }
-    Ok(())
 }
 
-#[test]
-fn files_without_changes_have_no_sides(rt: HostRuntime) -> Result<(), RecordError> {
-    let mut sections = Vec::new(rt.alloc());
-    sections.push(context(rt.alloc(), &["one", "two\n"])?)?;
-    let file = file_of(DEFAULT, sections);
-    let text = page(rt.alloc(), Pager::open(0, true), &file, 24, 3)?.view()?;
-    check_equal(
-        &rt,
-        text.as_str(),
+/// The sections of files, and what a page of as many rows shows of them: without changes there are no
+/// sides, and binary contents have no lines.
+const FILES: &[(&[Part], u16, &str)] = &[
+    (
+        &[Part::Context(&["one", "two\n"])],
+        3,
         "\"  one                   \"\n\"  two⏎                  \"\n\"f         1-2/2  p: back\"\n",
-    );
-    Ok(())
+    ),
+    (
+        &[
+            Part::Context(&["one\n"]),
+            Part::Changes(&[(true, ADDED, "two\n")]),
+            Part::Bytes(true),
+        ],
+        2,
+        "\"                        \"\n\"  binary contents  p: ba\"\n",
+    ),
+];
+
+/// Checks what the first page of a file shows.
+fn check_first_page(rt: &impl Abort, alloc: Global, row: (&[Part], u16, &str)) {
+    let file = file_of_parts(rt, alloc, row.0);
+    let shown = made(rt, page(alloc, Pager::open(0, true), &file, 24, row.1));
+    check_view(rt, &shown, row.2);
 }
 
 #[test]
-fn binary_contents_have_no_lines(rt: HostRuntime) -> Result<(), RecordError> {
-    let mut file = file(rt.alloc())?;
-    file.sections.push(binary(true))?;
-    let text = page(rt.alloc(), Pager::open(0, true), &file, 24, 2)?.view()?;
-    check_equal(
-        &rt,
-        text.as_str(),
-        "\"                        \"\n\"  binary contents  p: ba\"\n",
-    );
-    Ok(())
+fn files_may_have_no_sides_or_no_lines(rt: HostRuntime) {
+    for row in FILES {
+        check_first_page(&rt, rt.alloc(), *row);
+    }
 }

@@ -1,14 +1,10 @@
-//! Painting a frame has the same result as drawing its components, with as many rows and calls,
-//! from any row on. What is drawn has owners.
-ghost use Rattle.std.specs.Prelude.{IsTrue};
-ghost use Rattle.scm_types.specs.Limits.{is_accepted_state};
-
-use crate::checks::check_equal;
-use crate::index::owned_place;
+//! Painting a frame takes as many rows and calls as drawing its components, from any row on. What is
+//! drawn has owners.
+use crate::checks::{check_equal, made};
+use crate::index::{owned_place, screen_of};
 use crate::shown::{owner_of, shown};
 use scm_cells::Grid;
 use scm_render::{DrawnRects, Viewport, find_target};
-use scm_samples::number_of;
 use scm_types::{RecordError, RecordState};
 use scm_view::{CommitViewMode, ComponentId, laws};
 use scm_view_state::ViewState;
@@ -35,9 +31,8 @@ fn paint(
     view_state: &ViewState<'_>,
     grid: &mut Grid,
     scroll: usize,
-) -> Result<(), RecordError>
-    requires { IsTrue (is_accepted_state view_state.now.state) }
-{
+) -> Result<(), RecordError> {
+    assert!(rt; view_state.state.is_accepted());
     assert!(rt; 10 <= grid.width());
     assert!(rt; 2 <= grid.height());
     assert!(rt; scroll <= RecordState::MAX_SCROLL);
@@ -49,15 +44,14 @@ fn paint(
 /// Draws one commit of `view_state` by its components, on a cleared grid from row `scroll` on.
 /// Returns the boxes.
 #[tactic(auto, unfolding(scm_types::specs::Limits::max_items, scm_types::specs::Limits::max_scroll))]
-fn draw(
+pub(crate) fn draw(
     rt: &impl Abort,
     alloc: Global,
     view_state: &ViewState<'_>,
     grid: &mut Grid,
     scroll: usize,
-) -> Result<DrawnRects<ComponentId>, RecordError>
-    requires { IsTrue (is_accepted_state view_state.now.state) }
-{
+) -> Result<DrawnRects<ComponentId>, RecordError> {
+    assert!(rt; view_state.state.is_accepted());
     assert!(rt; scroll <= RecordState::MAX_SCROLL);
     let view = view_state.app_view(alloc)?;
     laws::apps_are_in_range();
@@ -67,44 +61,64 @@ fn draw(
     Viewport::render_top_level(alloc, grid, 0, scroll as isize, &view)
 }
 
-/// Checks that both grids show the same, and that as much was drawn.
-fn check_alike(rt: &impl Abort, painted: &Grid, drawn: &Grid) -> Result<(), RecordError> {
-    let text = drawn.view()?;
-    check_equal(rt, painted.view()?.as_str(), text.as_str());
-    check_equal(
-        rt,
-        (painted.rows_drawn(), painted.calls()),
-        (drawn.rows_drawn(), drawn.calls()),
-    );
-    Ok(())
+/// The columns and rows of a screen.
+type Size = (u16, u16);
+
+/// Returns the rows and the calls that painting takes.
+fn painted_counts(
+    rt: &impl Abort,
+    alloc: Global,
+    view_state: &ViewState<'_>,
+    size: Size,
+    scroll: usize,
+) -> (usize, usize) {
+    let mut grid = made(rt, Grid::new(alloc, size.0, size.1));
+    made(rt, paint(rt, alloc, view_state, &mut grid, scroll));
+    (grid.rows_drawn(), grid.calls())
 }
 
-/// Checks a row of the table, on a grid each.
-fn check_row(rt: &impl Abort, alloc: Global, row: &str) -> Result<(), RecordError> {
-    let (words, screen) = row.split_once(" on ").unwrap_or((row, ""));
-    let view_state = shown(alloc, words)?;
-    assert!(rt; view_state.state.is_accepted());
-    let mut numbers = screen.split(' ');
-    let width = number_of(numbers.next()).min(65_535) as u16;
-    let height = number_of(numbers.next()).min(65_535) as u16;
-    let mut painted = Grid::new(alloc, width, height)?;
-    let mut drawn = Grid::new(alloc, width, height)?;
-    for scroll in 0..number_of(numbers.next()) {
-        paint(rt, alloc, &view_state, &mut painted, scroll)?;
-        let _ = draw(rt, alloc, &view_state, &mut drawn, scroll)?;
-        check_alike(rt, &painted, &drawn)?;
+/// Returns the rows and the calls that drawing takes.
+fn drawn_counts(
+    rt: &impl Abort,
+    alloc: Global,
+    view_state: &ViewState<'_>,
+    size: Size,
+    scroll: usize,
+) -> (usize, usize) {
+    let mut grid = made(rt, Grid::new(alloc, size.0, size.1));
+    let _ = made(rt, draw(rt, alloc, view_state, &mut grid, scroll));
+    (grid.rows_drawn(), grid.calls())
+}
+
+/// Checks that painting takes as many rows and calls as drawing, from each row before `end` on.
+fn check_frames(
+    rt: &impl Abort,
+    alloc: Global,
+    view_state: &ViewState<'_>,
+    size: Size,
+    end: usize,
+) {
+    for scroll in 0..end {
+        let painted = painted_counts(rt, alloc, view_state, size, scroll);
+        let drawn = drawn_counts(rt, alloc, view_state, size, scroll);
+        check_equal(rt, (size, scroll, painted), (size, scroll, drawn));
     }
-    Ok(())
+}
+
+/// Checks a row of the table.
+fn check_row(rt: &impl Abort, alloc: Global, row: &str) {
+    let (words, screen) = row.split_once(" on ").unwrap_or((row, ""));
+    let (size, end) = screen_of(screen);
+    check_frames(rt, alloc, &shown(rt, alloc, words), size, end);
 }
 
 #[test]
-fn frames_are_painted_as_they_are_drawn(rt: HostRuntime) -> Result<(), RecordError> {
+fn frames_are_painted_as_they_are_drawn(rt: HostRuntime) {
     for row in FRAMES.lines() {
         if !row.is_empty() {
-            check_row(&rt, rt.alloc(), row)?;
+            check_row(&rt, rt.alloc(), row);
         }
     }
-    Ok(())
 }
 
 /// Rows of the document, columns, and the owners there. The screen shows the document from row 1 on:
@@ -123,12 +137,9 @@ fn check_owners(rt: &impl Abort, boxes: &DrawnRects<ComponentId>) {
 }
 
 #[test]
-fn places_have_owners(rt: HostRuntime) -> Result<(), RecordError> {
-    let alloc = rt.alloc();
-    let view_state = shown(alloc, "1h ~f0 @none")?;
-    assert!(rt; view_state.state.is_accepted());
-    let mut grid = Grid::new(alloc, 24, 8)?;
-    let boxes = draw(&rt, alloc, &view_state, &mut grid, 1)?;
+fn places_have_owners(rt: HostRuntime) {
+    let view_state = shown(&rt, rt.alloc(), "1h ~f0 @none");
+    let mut grid = made(&rt, Grid::new(rt.alloc(), 24, 8));
+    let boxes = made(&rt, draw(&rt, rt.alloc(), &view_state, &mut grid, 1));
     check_owners(&rt, &boxes);
-    Ok(())
 }

@@ -1,9 +1,9 @@
 //! The bytes of paints, as ECMA-48 defines them.
 ghost use Rattle.std.specs.Prelude.{◌==◌, None, false};
 
-use crate::checks::check_equal;
+use crate::cells::{grid_with, put};
+use crate::checks::{check_equal, check_text, made};
 use scm_cells::{Colour, Grid, Style};
-use scm_errors::RecordError;
 use scm_terminal::{Painter, Styles};
 use std::alloc::Global;
 use std::process::Abort;
@@ -35,16 +35,8 @@ impl Styles for Reversed {
 }
 
 /// Paints `grid` with row `row` reversed, and checks that the bytes are `wanted`.
-fn check_paint(
-    rt: &impl Abort,
-    painter: &mut Painter,
-    grid: &Grid,
-    row: usize,
-    wanted: &str,
-) -> Result<(), RecordError> {
-    let text = painter.paint(grid, &Reversed { row })?;
-    check_equal(rt, text.as_str(), wanted);
-    Ok(())
+fn check_paint(rt: &impl Abort, painter: &mut Painter, grid: &Grid, row: usize, wanted: &str) {
+    check_text(rt, painter.paint(grid, &Reversed { row }), wanted);
 }
 
 /// The whole screen of `rows_that_changed_are_written`.
@@ -60,57 +52,46 @@ const SECOND_REVERSED: &str = "\x1b[?7l\x1b[2;1H\x1b[0;7m   \x1b[?7h";
 const SMALL: &str = "\x1b[?7l\x1b[1;1H\x1b[0m  \x1b[?7h";
 
 /// Returns a grid of three columns and two rows, with a text on the first row.
-fn grid_with_text(rt: &impl Abort, alloc: Global) -> Result<Grid, RecordError> {
-    let mut grid = Grid::new(alloc, 3, 2)?;
-    assert_eq!(rt; (grid.width(), grid.height()), (3, 2));
-    grid.put(0, 0, "a日", 0, 3)?;
-    Ok(grid)
+fn grid_with_text(rt: &impl Abort, alloc: Global) -> Grid {
+    let mut grid = made(rt, Grid::new(alloc, 3, 2));
+    made(rt, put(rt, &mut grid, 0, 0, "a日", 0, 3));
+    grid
 }
 
 /// Paints `grid`, whose first bytes are `WHOLE`, several times.
-fn check_paints(rt: &impl Abort, painter: &mut Painter, grid: &Grid) -> Result<(), RecordError> {
-    check_paint(rt, painter, grid, 1, WHOLE)?;
-    check_paint(rt, painter, grid, 1, "")?;
-    check_paint(rt, painter, grid, 5, SECOND_PLAIN)?;
-    check_paint(rt, painter, grid, 1, SECOND_REVERSED)?;
+fn check_paints(rt: &impl Abort, painter: &mut Painter, grid: &Grid) {
+    check_paint(rt, painter, grid, 1, WHOLE);
+    check_paint(rt, painter, grid, 1, "");
+    check_paint(rt, painter, grid, 5, SECOND_PLAIN);
+    check_paint(rt, painter, grid, 1, SECOND_REVERSED);
     painter.forget();
-    check_paint(rt, painter, grid, 1, WHOLE)
-}
-
-/// Paints a blank grid of another size.
-fn check_small(rt: &impl Abort, alloc: Global, painter: &mut Painter) -> Result<(), RecordError> {
-    let small = Grid::new(alloc, 2, 1)?;
-    check_paint(rt, painter, &small, 5, SMALL)
-}
-
-/// Paints `grid`, and then another one.
-fn check_painter(rt: &impl Abort, alloc: Global, grid: &Grid) -> Result<(), RecordError> {
-    let mut painter = Painter::new(alloc);
-    check_paints(rt, &mut painter, grid)?;
-    check_small(rt, alloc, &mut painter)
+    check_paint(rt, painter, grid, 1, WHOLE);
 }
 
 #[test]
-fn rows_that_changed_are_written(rt: HostRuntime) -> Result<(), RecordError> {
-    let grid = grid_with_text(&rt, rt.alloc())?;
-    check_painter(&rt, rt.alloc(), &grid)
-}
-
-#[test]
-fn a_text_sends_no_command(rt: HostRuntime) -> Result<(), RecordError> {
-    let mut grid = Grid::new(rt.alloc(), 5, 1)?;
-    grid.put(0, 0, "a\x1b[2J\u{9b}b\x07", 0, 5)?;
+fn rows_that_changed_are_written(rt: HostRuntime) {
     let mut painter = Painter::new(rt.alloc());
-    let wanted = "\x1b[?7l\x1b[1;1H\x1b[0ma[2Jb\x1b[?7h";
-    check_paint(&rt, &mut painter, &grid, 5, wanted)
+    check_paints(&rt, &mut painter, &grid_with_text(&rt, rt.alloc()));
+    let small = grid_with(&rt, rt.alloc(), 2, 1, "");
+    check_paint(&rt, &mut painter, &small, 5, SMALL);
+}
+
+/// The bytes of a text with sequences.
+const HARMLESS: &str = "\x1b[?7l\x1b[1;1H\x1b[0ma[2Jb\x1b[?7h";
+
+#[test]
+fn a_text_sends_no_command(rt: HostRuntime) {
+    let grid = grid_with(&rt, rt.alloc(), 5, 1, "a\x1b[2J\u{9b}b\x07");
+    check_paint(&rt, &mut Painter::new(rt.alloc()), &grid, 5, HARMLESS);
 }
 
 /// A number of columns, a column, a text that begins there, and the bytes of this row, while no symbol
 /// wraps.
 type Row = (u16, isize, &'static str, &'static str);
 
-/// A symbol without room for its characters is replaced.
-const WITHOUT_ROOM: &[Row] = &[
+/// The rows of the table.
+const ROWS: &[Row] = &[
+    // a symbol without room for its characters is replaced
     (
         6,
         0,
@@ -128,10 +109,7 @@ const WITHOUT_ROOM: &[Row] = &[
     (2, 0, "🏳️‍🌈", "\x1b[1;1H\x1b[0m? "),
     (9, 0, "abcdef👩‍👩‍👧g", "\x1b[1;1H\x1b[0mabcdef? g"),
     (4, 0, "👩‍👩‍👧👍🏽", "\x1b[1;1H\x1b[0m? ? "),
-];
-
-/// A symbol with room for its characters is sent.
-const WITH_ROOM: &[Row] = &[
+    // a symbol with room for its characters is sent
     (
         3,
         0,
@@ -157,10 +135,7 @@ const WITH_ROOM: &[Row] = &[
         "\x1b[1;2H\x1b[0me\u{301}\x1b[1;1H\x1b[0ma",
     ),
     (2, 0, "a─", "\x1b[1;2H\x1b[0m─\x1b[1;1H\x1b[0ma"),
-];
-
-/// A row begins with no mark.
-const MARKS: &[Row] = &[
+    // a row begins with no mark
     (2, 0, "\u{903}", "\x1b[1;1H\x1b[0m? "),
     (2, 0, "\u{93E}", "\x1b[1;1H\x1b[0m? "),
     (2, 0, "\u{D02}", "\x1b[1;1H\x1b[0m? "),
@@ -170,63 +145,48 @@ const MARKS: &[Row] = &[
     (2, 1, "\u{903}", "\x1b[1;2H\x1b[0m\u{903}\x1b[1;1H\x1b[0m "),
 ];
 
-/// Paints `grid` with plain styles by a new painter, and checks that the bytes are `wanted`, while no
-/// symbol wraps.
-fn check_plain(
+/// Returns the bytes of `text` while no symbol wraps: all but the first and the last sequence.
+fn bytes_between(text: &str) -> Option<&str> {
+    text.strip_prefix("\x1b[?7l")?.strip_suffix("\x1b[?7h")
+}
+
+/// Paints `grid` in `styles`, and checks that the bytes are `wanted`, while no symbol wraps.
+fn check_bytes(
     rt: &impl Abort,
-    alloc: Global,
+    painter: &mut Painter,
     grid: &Grid,
+    styles: &impl Styles,
     wanted: &str,
-) -> Result<(), RecordError> {
-    let text = Painter::new(alloc).paint(grid, &Reversed { row: 1 })?;
-    let shown = text.as_str().strip_prefix("\x1b[?7l");
-    let shown = shown.unwrap_or("").strip_suffix("\x1b[?7h");
-    check_equal(rt, shown, Some(wanted));
-    Ok(())
+) {
+    let text = made(rt, painter.paint(grid, styles));
+    check_equal(rt, bytes_between(text.as_str()), Some(wanted));
 }
 
 /// Paints a grid of one row with a text.
-fn check_row(rt: &impl Abort, alloc: Global, row: Row) -> Result<(), RecordError> {
-    let mut grid = Grid::new(alloc, row.0, 1)?;
-    grid.put(0, row.1, row.2, 0, usize::from(row.0))?;
-    check_plain(rt, alloc, &grid, row.3)
+fn check_row(rt: &impl Abort, alloc: Global, row: Row) {
+    let mut grid = made(rt, Grid::new(alloc, row.0, 1));
+    made(rt, put(rt, &mut grid, 0, row.1, row.2, 0, usize::from(row.0)));
+    check_bytes(rt, &mut Painter::new(alloc), &grid, &Reversed { row: 1 }, row.3);
 }
 
-/// Checks `rows`.
-fn check_rows(rt: &impl Abort, alloc: Global, rows: &[Row]) -> Result<(), RecordError> {
-    for row in rows {
-        check_row(rt, alloc, *row)?;
+#[test]
+fn a_symbol_is_sent_if_it_has_room_and_is_no_mark(rt: HostRuntime) {
+    for row in ROWS {
+        check_row(&rt, rt.alloc(), *row);
     }
-    Ok(())
 }
 
-#[test]
-fn a_symbol_without_room_for_its_characters_is_replaced(
-    rt: HostRuntime,
-) -> Result<(), RecordError> {
-    check_rows(&rt, rt.alloc(), WITHOUT_ROOM)
-}
+/// The bytes of a replaced symbol on a reversed row.
+const REPLACED: &str = "\x1b[?7l\x1b[1;1H\x1b[0;7ma? \x1b[?7h";
 
 #[test]
-fn a_symbol_with_room_for_its_characters_is_sent(rt: HostRuntime) -> Result<(), RecordError> {
-    check_rows(&rt, rt.alloc(), WITH_ROOM)
-}
-
-#[test]
-fn a_row_begins_with_no_mark(rt: HostRuntime) -> Result<(), RecordError> {
-    check_rows(&rt, rt.alloc(), MARKS)
-}
-
-#[test]
-fn a_replacement_has_the_style_of_its_place(rt: HostRuntime) -> Result<(), RecordError> {
-    let mut grid = Grid::new(rt.alloc(), 3, 1)?;
-    grid.put(0, 0, "a👍🏽", 0, 3)?;
+fn a_replacement_has_the_style_of_its_place(rt: HostRuntime) {
+    let mut grid = grid_with(&rt, rt.alloc(), 3, 1, "a👍🏽");
     let mut painter = Painter::new(rt.alloc());
-    let reversed = "\x1b[?7l\x1b[1;1H\x1b[0;7ma? \x1b[?7h";
-    check_paint(&rt, &mut painter, &grid, 0, reversed)?;
-    check_paint(&rt, &mut painter, &grid, 0, "")?;
-    grid.put(0, 1, "🏳️‍🌈", 0, 3)?;
-    check_paint(&rt, &mut painter, &grid, 0, reversed)
+    check_paint(&rt, &mut painter, &grid, 0, REPLACED);
+    check_paint(&rt, &mut painter, &grid, 0, "");
+    made(&rt, put(&rt, &mut grid, 0, 1, "🏳️‍🌈", 0, 3));
+    check_paint(&rt, &mut painter, &grid, 0, REPLACED);
 }
 
 /// The same style for every place.
@@ -243,37 +203,40 @@ impl Styles for Uniform {
     }
 }
 
-/// Paints a screen of one column in `style`, after the painter forgot the screen, and checks that
-/// the bytes are `wanted`, while no symbol wraps.
-fn check_style(
-    rt: &impl Abort,
-    painter: &mut Painter,
-    grid: &Grid,
-    style: Style,
-    wanted: &str,
-) -> Result<(), RecordError> {
-    painter.forget();
-    let text = painter.paint(grid, &Uniform { style })?;
-    let shown = text.as_str().strip_prefix("\x1b[?7l");
-    let shown = shown.unwrap_or("").strip_suffix("\x1b[?7h");
-    check_equal(rt, shown, Some(wanted));
-    Ok(())
-}
-
-/// Paints `grid` in several styles.
-fn check_styles(rt: &impl Abort, painter: &mut Painter, grid: &Grid) -> Result<(), RecordError> {
-    let both = Style::PLAIN.bold().dim();
-    let lined = Style::PLAIN.underlined().reversed();
-    let green = Style::PLAIN.coloured(Colour::Green);
-    check_style(rt, painter, grid, Style::PLAIN, "\x1b[1;1H\x1b[0m ")?;
-    check_style(rt, painter, grid, both, "\x1b[1;1H\x1b[0;1;2m ")?;
-    check_style(rt, painter, grid, lined, "\x1b[1;1H\x1b[0;4;7m ")?;
-    check_style(rt, painter, grid, green, "\x1b[1;1H\x1b[0;32m ")
-}
+/// Styles, and the bytes of a blank screen of one column in them, while no symbol wraps.
+const STYLES: &[(Style, &str)] = &[
+    (Style::PLAIN, "\x1b[1;1H\x1b[0m "),
+    (
+        Style {
+            bold: true,
+            dim: true,
+            ..Style::PLAIN
+        },
+        "\x1b[1;1H\x1b[0;1;2m ",
+    ),
+    (
+        Style {
+            underlined: true,
+            reversed: true,
+            ..Style::PLAIN
+        },
+        "\x1b[1;1H\x1b[0;4;7m ",
+    ),
+    (
+        Style {
+            colour: Some(Colour::Green),
+            ..Style::PLAIN
+        },
+        "\x1b[1;1H\x1b[0;32m ",
+    ),
+];
 
 #[test]
-fn styles_have_the_numbers_of_ecma_48(rt: HostRuntime) -> Result<(), RecordError> {
-    let grid = Grid::new(rt.alloc(), 1, 1)?;
+fn styles_have_the_numbers_of_ecma_48(rt: HostRuntime) {
+    let grid = grid_with(&rt, rt.alloc(), 1, 1, "");
     let mut painter = Painter::new(rt.alloc());
-    check_styles(&rt, &mut painter, &grid)
+    for (style, wanted) in STYLES {
+        painter.forget();
+        check_bytes(&rt, &mut painter, &grid, &Uniform { style: *style }, *wanted);
+    }
 }

@@ -1,9 +1,9 @@
 //! Each kind of row, painted over a row of dots.
-use crate::checks::check_equal;
+use crate::cells::grid_with;
+use crate::checks::{check_equal, check_that, check_view, made};
 use crate::row_samples::{What, shown};
 use scm_cells::Grid;
-use scm_strips::{Area, paint_row};
-use scm_types::RecordError;
+use scm_strips::{Area, Shown, paint_row};
 use std::alloc::Global;
 use std::process::Abort;
 
@@ -98,27 +98,27 @@ const PAINTED: &[Painted] = &[
     (What::Deleted, 2, 0, "\"........................\"\n", 2),
 ];
 
+/// Returns a grid of 24 columns and a row of dots, on which `shown` is painted in `area`.
+pub(crate) fn painted(rt: &impl Abort, alloc: Global, area: Area, shown: &Shown<'_>) -> Grid {
+    let mut grid = grid_with(rt, alloc, 24, 1, "........................");
+    check_that(rt, 0 < grid.height());
+    check_that(rt, area.left <= grid.width());
+    check_that(rt, area.width <= grid.width() - area.left);
+    made(rt, paint_row(alloc, &mut grid, 0, area, shown));
+    grid
+}
+
 /// Paints a row over dots, and checks what the screen shows and counts.
-fn check_painted(rt: &impl Abort, alloc: Global, row: Painted) -> Result<(), RecordError> {
+fn check_painted(rt: &impl Abort, alloc: Global, row: Painted) {
     let (what, left, width, view, calls) = row;
-    let mut grid = Grid::new(alloc, 24, 1)?;
-    grid.put(0, 0, "........................", 0, 24)?;
-    assert!(rt; left <= 24 && width <= 24 - left);
-    paint_row(alloc, &mut grid, 0, Area { left, width }, &shown(what))?;
-    let text = grid.view()?;
-    check_equal(rt, (what, text.as_str()), (what, view));
-    check_equal(
-        rt,
-        (what, grid.rows_drawn(), grid.calls()),
-        (what, 1, calls),
-    );
-    Ok(())
+    let grid = painted(rt, alloc, Area { left, width }, &shown(what));
+    check_view(rt, &grid, view);
+    check_equal(rt, (what, grid.rows_drawn(), grid.calls()), (what, 1, calls));
 }
 
 #[test]
-fn rows_are_painted_in_their_area(rt: HostRuntime) -> Result<(), RecordError> {
+fn rows_are_painted_in_their_area(rt: HostRuntime) {
     for row in PAINTED {
-        check_painted(&rt, rt.alloc(), *row)?;
+        check_painted(&rt, rt.alloc(), *row);
     }
-    Ok(())
 }

@@ -1,14 +1,16 @@
 //! View states in words, and the words for keys and components.
+use crate::checks::made;
 use scm_samples::{number_of, state_of_letters};
 use scm_selection::counts::{changed_count, message_count};
 use scm_selection::key_lists::{first_key, section_keys};
-use scm_selection::key_set::key_set_of;
+use scm_selection::key_set::{KeySet, key_set_of};
 use scm_types::{RecordError, RecordState};
 use scm_view::{
     ComponentId, FileKey, LineKey, QuitDialog, QuitDialogButtonId, RowPlace, SelectionKey,
 };
 use scm_view_state::ViewState;
 use std::alloc::Global;
+use std::process::Abort;
 
 // ---- keys and components
 
@@ -113,40 +115,40 @@ fn change_key(view_state: &mut ViewState<'static>, word: &str) -> Result<(), Rec
 
 /// Changes `view_state` as `word` says: unfolds all, or nothing, or opens a menu or a dialog, or
 /// changes a key.
-fn change(
-    alloc: Global,
-    view_state: &mut ViewState<'static>,
-    word: &str,
-) -> Result<(), RecordError> {
+fn change(rt: &impl Abort, alloc: Global, view_state: &mut ViewState<'static>, word: &str) {
     match word {
-        "all" => view_state.expand_all(alloc)?,
+        "all" => made(rt, view_state.expand_all(alloc)),
         "none" => view_state.fold_all(alloc),
         "help" => view_state.is_help_open = true,
         "quit" => view_state.quit_dialog = Some(quit_dialog(&view_state.state)),
         "menu0" => view_state.open_menu = Some(0),
         "menu2" => view_state.open_menu = Some(2),
-        _ => change_key(view_state, word)?,
+        _ => made(rt, change_key(view_state, word)),
     }
-    Ok(())
+}
+
+/// Returns the keys of the sections of `state`.
+fn section_set(rt: &impl Abort, alloc: Global, state: &RecordState<'static>) -> KeySet {
+    let sections = made(rt, section_keys(alloc, state.files.as_slice()));
+    made(rt, key_set_of(alloc, sections.as_slice()))
 }
 
 /// Returns the view state with which a session over `state` begins: all sections are unfolded, and
 /// no file is.
-fn start(alloc: Global, state: RecordState<'static>) -> Result<ViewState<'static>, RecordError> {
-    let sections = section_keys(alloc, state.files.as_slice())?;
-    let expanded = key_set_of(alloc, sections.as_slice())?;
+fn start(rt: &impl Abort, alloc: Global, state: RecordState<'static>) -> ViewState<'static> {
+    let expanded = section_set(rt, alloc, &state);
     let selection = first_key(state.files.as_slice());
-    Ok(ViewState::new(state, selection, expanded))
+    ViewState::new(state, selection, expanded)
 }
 
 /// Returns the view state of `words`: a state in letters, as a session begins with it, and what is
 /// changed of it.
-pub(crate) fn shown(alloc: Global, words: &str) -> Result<ViewState<'static>, RecordError> {
+pub(crate) fn shown(rt: &impl Abort, alloc: Global, words: &str) -> ViewState<'static> {
     let mut words = words.split_whitespace();
-    let state = state_of_letters(alloc, words.next().unwrap_or(""))?;
-    let mut view_state = start(alloc, state)?;
+    let state = made(rt, state_of_letters(alloc, words.next().unwrap_or("")));
+    let mut view_state = start(rt, alloc, state);
     for word in words {
-        change(alloc, &mut view_state, word)?;
+        change(rt, alloc, &mut view_state, word);
     }
-    Ok(view_state)
+    view_state
 }

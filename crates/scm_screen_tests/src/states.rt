@@ -1,7 +1,9 @@
 //! Sample files, as constants.
+use crate::checks::made;
 use scm_samples::{DEFAULT, Line, binary, changed, commits_of, context, deletion, file_of};
 use scm_types::{File, Items, RecordError, RecordState, Section};
 use std::alloc::Global;
+use std::process::Abort;
 
 /// A section of a file.
 #[derive(Clone, Copy)]
@@ -12,8 +14,8 @@ pub(crate) enum Part {
     Changes(&'static [Line]),
     /// The deletion of the file.
     Deletion,
-    /// A checked binary change.
-    Bytes,
+    /// A binary change, and whether it is checked.
+    Bytes(bool),
 }
 
 /// Returns the section of `part`.
@@ -22,43 +24,39 @@ fn section_of(alloc: Global, part: Part) -> Result<Section<'static>, RecordError
         Part::Context(lines) => context(alloc, lines),
         Part::Changes(lines) => changed(alloc, lines),
         Part::Deletion => Ok(deletion()),
-        Part::Bytes => Ok(binary(true)),
+        Part::Bytes(is_checked) => Ok(binary(is_checked)),
     }
+}
+
+/// Returns the sections of `parts`.
+fn sections_of(rt: &impl Abort, alloc: Global, parts: &[Part]) -> Vec<Section<'static>> {
+    let mut sections = Vec::new(alloc);
+    for part in parts {
+        made(rt, sections.push(made(rt, section_of(alloc, *part))));
+    }
+    sections
 }
 
 /// Returns the file `f` of `parts`.
-fn file_with(alloc: Global, parts: &[Part]) -> Result<File<'static>, RecordError> {
-    let mut sections = Vec::new(alloc);
-    for part in parts {
-        sections.push(section_of(alloc, *part)?)?;
-    }
-    Ok(file_of(DEFAULT, sections))
+pub(crate) fn file_of_parts(rt: &impl Abort, alloc: Global, parts: &[Part]) -> File<'static> {
+    file_of(DEFAULT, sections_of(rt, alloc, parts))
 }
 
-/// Returns `count` files of `parts`.
-pub(crate) fn files_with(
-    alloc: Global,
-    parts: &[Part],
-    count: usize,
-) -> Result<Items<File<'static>>, RecordError> {
-    let mut files = Items::new(alloc);
-    for _ in 0..count {
-        let file = file_with(alloc, parts)?;
-        files.push(file)?;
+/// Returns the file `f` of `parts`, or no file if there are none.
+pub(crate) fn files_of(rt: &impl Abort, alloc: Global, parts: &[Part]) -> Items<File<'static>> {
+    if parts.is_empty() {
+        Items::new(alloc)
+    } else {
+        let file = file_of_parts(rt, alloc, parts);
+        Items::from(made(rt, vec![in alloc; file]))
     }
-    Ok(files)
 }
 
-/// Returns a state of `count` files of `parts`, with a message.
-pub(crate) fn state_with(
-    alloc: Global,
-    parts: &[Part],
-    count: usize,
-) -> Result<RecordState<'static>, RecordError> {
-    let files = files_with(alloc, parts, count)?;
-    Ok(RecordState {
+/// Returns a state of such files, with a message.
+pub(crate) fn state_of(rt: &impl Abort, alloc: Global, parts: &[Part]) -> RecordState<'static> {
+    RecordState {
         is_read_only: false,
-        commits: commits_of(alloc, "message")?,
-        files,
-    })
+        commits: made(rt, commits_of(alloc, "message")),
+        files: files_of(rt, alloc, parts),
+    }
 }
