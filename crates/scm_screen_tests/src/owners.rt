@@ -7,7 +7,7 @@ use scm_widgets::ids::ComponentId;
 use std::process::Abort;
 
 /// A part of a row that owns columns.
-#[derive(Clone, Copy, Debug, PartialEq, Eq)]
+#[derive(Clone, Copy)]
 enum Part {
     /// The checkbox of this key.
     Checkbox(SelectionKey),
@@ -89,7 +89,7 @@ fn check_owner(rt: &impl Abort, row: Owned) {
     let (what, width, column, part) = row;
     assert!(rt; width < 65536);
     let owner = row_owner(width, &shown(what), column);
-    check_equal(rt, (what, column, owner), (what, column, component(part)));
+    check_equal(rt, (width, column, owner), (width, column, component(part)));
 }
 
 #[test]

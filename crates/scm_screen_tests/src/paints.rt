@@ -2,7 +2,7 @@
 ghost use Rattle.std.specs.Prelude.{◌==◌, None, false};
 
 use crate::cells::{grid_with, put};
-use crate::checks::{check_equal, check_text, made};
+use crate::checks::{check_text, made};
 use scm_cells::{Colour, Grid, Style};
 use scm_terminal::{Painter, Styles};
 use std::alloc::Global;
@@ -85,8 +85,7 @@ fn a_text_sends_no_command(rt: HostRuntime) {
     check_paint(&rt, &mut Painter::new(rt.alloc()), &grid, 5, HARMLESS);
 }
 
-/// A number of columns, a column, a text that begins there, and the bytes of this row, while no symbol
-/// wraps.
+/// A number of columns, a column, a text that begins there, and the bytes of this row.
 type Row = (u16, isize, &'static str, &'static str);
 
 /// The rows of the table.
@@ -96,77 +95,60 @@ const ROWS: &[Row] = &[
         6,
         0,
         "ab👍🏽cd",
-        "\x1b[1;4H\x1b[0m \x1b[1;3H\x1b[0m👍🏽\x1b[1;1H\x1b[0mab\x1b[1;5Hcd",
+        "\x1b[?7l\x1b[1;4H\x1b[0m \x1b[1;3H\x1b[0m👍🏽\x1b[1;1H\x1b[0mab\x1b[1;5Hcd\x1b[?7h",
     ),
-    (5, 0, "ab👍🏽c", "\x1b[1;1H\x1b[0mab? c"),
-    (4, 0, "ab👍🏽", "\x1b[1;1H\x1b[0mab? "),
+    (5, 0, "ab👍🏽c", "\x1b[?7l\x1b[1;1H\x1b[0mab? c\x1b[?7h"),
+    (4, 0, "ab👍🏽", "\x1b[?7l\x1b[1;1H\x1b[0mab? \x1b[?7h"),
     (
         3,
         0,
         "🏳️‍🌈",
-        "\x1b[1;2H\x1b[0m \x1b[1;1H\x1b[0m🏳️‍🌈\x1b[1;3H\x1b[0m ",
+        "\x1b[?7l\x1b[1;2H\x1b[0m \x1b[1;1H\x1b[0m🏳️‍🌈\x1b[1;3H\x1b[0m \x1b[?7h",
     ),
-    (2, 0, "🏳️‍🌈", "\x1b[1;1H\x1b[0m? "),
-    (9, 0, "abcdef👩‍👩‍👧g", "\x1b[1;1H\x1b[0mabcdef? g"),
-    (4, 0, "👩‍👩‍👧👍🏽", "\x1b[1;1H\x1b[0m? ? "),
+    (2, 0, "🏳️‍🌈", "\x1b[?7l\x1b[1;1H\x1b[0m? \x1b[?7h"),
+    (9, 0, "abcdef👩‍👩‍👧g", "\x1b[?7l\x1b[1;1H\x1b[0mabcdef? g\x1b[?7h"),
+    (4, 0, "👩‍👩‍👧👍🏽", "\x1b[?7l\x1b[1;1H\x1b[0m? ? \x1b[?7h"),
     // a symbol with room for its characters is sent
     (
         3,
         0,
         "a雛",
-        "\x1b[1;3H\x1b[0m \x1b[1;2H\x1b[0m雛\x1b[1;1H\x1b[0ma",
+        "\x1b[?7l\x1b[1;3H\x1b[0m \x1b[1;2H\x1b[0m雛\x1b[1;1H\x1b[0ma\x1b[?7h",
     ),
     (
         3,
         0,
         "a❤️",
-        "\x1b[1;3H\x1b[0m \x1b[1;2H\x1b[0m❤️\x1b[1;1H\x1b[0ma",
+        "\x1b[?7l\x1b[1;3H\x1b[0m \x1b[1;2H\x1b[0m❤️\x1b[1;1H\x1b[0ma\x1b[?7h",
     ),
     (
         3,
         0,
         "a1️⃣",
-        "\x1b[1;3H\x1b[0m \x1b[1;2H\x1b[0m1️⃣\x1b[1;1H\x1b[0ma",
+        "\x1b[?7l\x1b[1;3H\x1b[0m \x1b[1;2H\x1b[0m1️⃣\x1b[1;1H\x1b[0ma\x1b[?7h",
     ),
     (
         2,
         0,
         "ae\u{301}",
-        "\x1b[1;2H\x1b[0me\u{301}\x1b[1;1H\x1b[0ma",
+        "\x1b[?7l\x1b[1;2H\x1b[0me\u{301}\x1b[1;1H\x1b[0ma\x1b[?7h",
     ),
-    (2, 0, "a─", "\x1b[1;2H\x1b[0m─\x1b[1;1H\x1b[0ma"),
+    (2, 0, "a─", "\x1b[?7l\x1b[1;2H\x1b[0m─\x1b[1;1H\x1b[0ma\x1b[?7h"),
     // a row begins with no mark
-    (2, 0, "\u{903}", "\x1b[1;1H\x1b[0m? "),
-    (2, 0, "\u{93E}", "\x1b[1;1H\x1b[0m? "),
-    (2, 0, "\u{D02}", "\x1b[1;1H\x1b[0m? "),
-    (2, 0, "\u{102B}", "\x1b[1;1H\x1b[0m? "),
-    (2, 0, "\u{FF9E}", "\x1b[1;1H\x1b[0m? "),
-    (4, 0, "\u{1F3FD}a", "\x1b[1;1H\x1b[0m? a "),
-    (2, 1, "\u{903}", "\x1b[1;2H\x1b[0m\u{903}\x1b[1;1H\x1b[0m "),
+    (2, 0, "\u{903}", "\x1b[?7l\x1b[1;1H\x1b[0m? \x1b[?7h"),
+    (2, 0, "\u{93E}", "\x1b[?7l\x1b[1;1H\x1b[0m? \x1b[?7h"),
+    (2, 0, "\u{D02}", "\x1b[?7l\x1b[1;1H\x1b[0m? \x1b[?7h"),
+    (2, 0, "\u{102B}", "\x1b[?7l\x1b[1;1H\x1b[0m? \x1b[?7h"),
+    (2, 0, "\u{FF9E}", "\x1b[?7l\x1b[1;1H\x1b[0m? \x1b[?7h"),
+    (4, 0, "\u{1F3FD}a", "\x1b[?7l\x1b[1;1H\x1b[0m? a \x1b[?7h"),
+    (2, 1, "\u{903}", "\x1b[?7l\x1b[1;2H\x1b[0m\u{903}\x1b[1;1H\x1b[0m \x1b[?7h"),
 ];
-
-/// Returns the bytes of `text` while no symbol wraps: all but the first and the last sequence.
-fn bytes_between(text: &str) -> Option<&str> {
-    text.strip_prefix("\x1b[?7l")?.strip_suffix("\x1b[?7h")
-}
-
-/// Paints `grid` in `styles`, and checks that the bytes are `wanted`, while no symbol wraps.
-fn check_bytes(
-    rt: &impl Abort,
-    painter: &mut Painter,
-    grid: &Grid,
-    styles: &impl Styles,
-    wanted: &str,
-) {
-    let text = made(rt, painter.paint(grid, styles));
-    check_equal(rt, bytes_between(text.as_str()), Some(wanted));
-}
 
 /// Paints a grid of one row with a text.
 fn check_row(rt: &impl Abort, alloc: Global, row: Row) {
     let mut grid = made(rt, Grid::new(alloc, row.0, 1));
     made(rt, put(rt, &mut grid, 0, row.1, row.2, 0, usize::from(row.0)));
-    check_bytes(rt, &mut Painter::new(alloc), &grid, &Reversed { row: 1 }, row.3);
+    check_paint(rt, &mut Painter::new(alloc), &grid, 1, row.3);
 }
 
 #[test]
@@ -203,16 +185,16 @@ impl Styles for Uniform {
     }
 }
 
-/// Styles, and the bytes of a blank screen of one column in them, while no symbol wraps.
+/// Styles, and the bytes of a blank screen of one column in them.
 const STYLES: &[(Style, &str)] = &[
-    (Style::PLAIN, "\x1b[1;1H\x1b[0m "),
+    (Style::PLAIN, "\x1b[?7l\x1b[1;1H\x1b[0m \x1b[?7h"),
     (
         Style {
             bold: true,
             dim: true,
             ..Style::PLAIN
         },
-        "\x1b[1;1H\x1b[0;1;2m ",
+        "\x1b[?7l\x1b[1;1H\x1b[0;1;2m \x1b[?7h",
     ),
     (
         Style {
@@ -220,23 +202,28 @@ const STYLES: &[(Style, &str)] = &[
             reversed: true,
             ..Style::PLAIN
         },
-        "\x1b[1;1H\x1b[0;4;7m ",
+        "\x1b[?7l\x1b[1;1H\x1b[0;4;7m \x1b[?7h",
     ),
     (
         Style {
             colour: Some(Colour::Green),
             ..Style::PLAIN
         },
-        "\x1b[1;1H\x1b[0;32m ",
+        "\x1b[?7l\x1b[1;1H\x1b[0;32m \x1b[?7h",
     ),
 ];
+
+/// Paints `grid` in `style`, after the painter forgot the screen.
+fn check_style(rt: &impl Abort, painter: &mut Painter, grid: &Grid, row: (Style, &str)) {
+    painter.forget();
+    check_text(rt, painter.paint(grid, &Uniform { style: row.0 }), row.1);
+}
 
 #[test]
 fn styles_have_the_numbers_of_ecma_48(rt: HostRuntime) {
     let grid = grid_with(&rt, rt.alloc(), 1, 1, "");
     let mut painter = Painter::new(rt.alloc());
-    for (style, wanted) in STYLES {
-        painter.forget();
-        check_bytes(&rt, &mut painter, &grid, &Uniform { style: *style }, *wanted);
+    for row in STYLES {
+        check_style(&rt, &mut painter, &grid, *row);
     }
 }

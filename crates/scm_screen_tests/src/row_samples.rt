@@ -24,7 +24,7 @@ pub(crate) const LINE: LineKey = LineKey {
 };
 
 /// What a row shows.
-#[derive(Clone, Copy, Debug, PartialEq, Eq)]
+#[derive(Clone, Copy)]
 pub(crate) enum What {
     /// The header of a file with this path.
     File(&'static str),
