@@ -91,6 +91,11 @@ pub(crate) fn check_rectangles(rt: &impl Abort) {
     }
 }
 
+#[test]
+fn rectangles_are_joined(rt: HostRuntime) {
+    check_rectangles(&rt);
+}
+
 /// Columns and rows, and whether a rectangle of five columns and rows at column 2 and row 1 has this place.
 const POINTS: &[(isize, isize, bool)] = &[(6, 5, true), (7, 5, false), (2, 1, true)];
 
@@ -204,6 +209,11 @@ pub(crate) fn check_texts(rt: &impl Abort) {
     for (columns, texts) in COLUMNS {
         check_columns(rt, *columns, *texts);
     }
+}
+
+#[test]
+fn columns_of_texts(rt: HostRuntime) {
+    check_texts(&rt);
 }
 
 /// Checks that each mark has a column, and which characters are replaced.
