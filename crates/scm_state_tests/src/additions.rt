@@ -1,10 +1,11 @@
 //! Additions to a state, their refusals, and marks, checked against the project's values.
 use crate::checks::{check_equal, made};
-use crate::parts;
+use crate::samples::state_of;
+use crate::{forms, parts};
 use scm_embed::marks::mark_of;
 use scm_embed::{Addition, BuildError, Part, StateBuilder};
-use scm_samples::{ADDED, DEFAULT, REMOVED, commits_of, text_of};
-use scm_types::{ChangeType, File, FileMode, Items, RecordError, RecordState, Text, Tristate};
+use scm_samples::{ADDED, DEFAULT, REMOVED, text_of};
+use scm_types::{ChangeType, File, FileMode, RecordError, RecordState, Text, Tristate};
 use std::alloc::Global;
 use std::process::Abort;
 
@@ -81,7 +82,7 @@ fn part_of(part: Part<'static>) -> Addition<'static> {
 fn addition_of(given: Given) -> Addition<'static> {
     match given {
         Given::Commit(message) => Addition::Commit {
-            message: message.map(|text| Text::from(text)),
+            message: forms::optional_text(message),
         },
         Given::File => new_file(),
         Given::Context(text) => context_of(text),
@@ -119,12 +120,7 @@ fn file_made(rt: &impl Abort, alloc: Global) -> File<'static> {
 
 /// Returns the state that the additions make.
 fn state_made(rt: &impl Abort, alloc: Global) -> RecordState<'static> {
-    let file = file_made(rt, alloc);
-    RecordState {
-        is_read_only: true,
-        commits: made(rt, commits_of(alloc, "m")),
-        files: Items::from(made(rt, vec![in alloc; file])),
-    }
+    state_of(rt, alloc, true, file_made(rt, alloc))
 }
 
 /// Adds `addition`. The clauses of `StateBuilder::add` make the proofs of its callers long.

@@ -1,7 +1,8 @@
 //! What the `serde` derives read and write: each JSON form of a state, and refused forms.
 use crate::checks::{check_equal, made};
 use crate::parts::{Part, sections_of};
-use scm_samples::{ADDED, DEFAULT, Line, REMOVED, changed, commits_of, context, file_of, owned};
+use crate::samples::state_of;
+use scm_samples::{ADDED, DEFAULT, Line, REMOVED, changed, context, file_of, owned};
 use scm_types::{
     ChangeType, Commit, File, FileMode, Items, OwnedText, RecordError, RecordState, Section,
     SectionChangedLine, Text,
@@ -40,6 +41,11 @@ fn line_of(line: Line) -> SectionChangedLine<'static> {
     }
 }
 
+/// Returns the text `given`, if there is one.
+pub(crate) fn optional_text(given: Option<&'static str>) -> Option<Text<'static>> {
+    given.map(|text| Text::from(text))
+}
+
 /// Returns a binary change with the descriptions `old` and `new`.
 pub(crate) fn binary(
     is_checked: bool,
@@ -48,8 +54,8 @@ pub(crate) fn binary(
 ) -> Section<'static> {
     Section::Binary {
         is_checked,
-        old_description: old.map(|text| Text::from(text)),
-        new_description: new.map(|text| Text::from(text)),
+        old_description: optional_text(old),
+        new_description: optional_text(new),
     }
 }
 
@@ -86,12 +92,7 @@ const WITH_FILE: &str =
 
 /// Returns a state with two commits and a file without sections.
 fn state_with_file(rt: &impl Abort, alloc: Global) -> RecordState<'static> {
-    let file = file_of(DEFAULT, Vec::new(alloc));
-    RecordState {
-        is_read_only: true,
-        commits: made(rt, commits_of(alloc, "m")),
-        files: Items::from(made(rt, vec![in alloc; file])),
-    }
+    state_of(rt, alloc, true, file_of(DEFAULT, Vec::new(alloc)))
 }
 
 /// The JSON of both sides of a changed line.

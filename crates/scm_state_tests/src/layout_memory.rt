@@ -14,12 +14,22 @@ use scm_types::{RecordError, SelectionKey};
 use std::alloc::Global;
 use std::process::Abort;
 
-/// Reads from an input of `count` events.
+/// Reads from an input of `count` events. Past the end a read returns no event.
 fn check_events_left(rt: &impl Abort, alloc: Global, count: usize) {
     let events = made(rt, vec![in alloc; Event::Redraw; count]);
     let mut input = made(rt, TestingInput::new(alloc, 80, 24, events));
     check_equal(rt, input.batches_left(), count);
-    check_equal(rt, made(rt, input.next_events()).len(), 1);
+    let wanted = [if count == 0 {
+        Event::None
+    } else {
+        Event::Redraw
+    }];
+    check_equal(
+        rt,
+        made(rt, input.next_events()).as_slice(),
+        wanted.as_slice(),
+    );
+    check_equal(rt, input.batches_left(), count.saturating_sub(1));
 }
 
 /// Edits a message with an input whose answer has `count` bytes.

@@ -18,8 +18,6 @@ mod diff_table;
 #[cfg(test)]
 mod forms;
 #[cfg(test)]
-mod inputs;
-#[cfg(test)]
 mod keys;
 #[cfg(test)]
 mod layout_memory;

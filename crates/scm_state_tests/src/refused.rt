@@ -57,7 +57,7 @@ const NO_MESSAGES: &str = "No more commit messages available";
 #[test]
 fn refused_memory_keeps_messages(rt: HostRuntime) -> Result<(), RecordError> {
     let mut input = testing_input(rt.alloc())?;
-    check_equal(&rt, input.edit_commit_message("hello")?.len(), 3);
+    check_equal(&rt, input.edit_commit_message("hello")?.as_str(), "aaa");
     let outcome = input.edit_commit_message("hello");
     check_equal(
         &rt,

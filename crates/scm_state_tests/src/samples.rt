@@ -1,32 +1,38 @@
-//! A small state.
-use scm_samples::{ADDED, DEFAULT, Line, REMOVED, changed, commits_of, context, file_of};
-use scm_types::{File, FileMode, Items, RecordError, RecordState, Section};
+//! States of one file.
+use crate::checks::made;
+use crate::parts::{Part, file_with_parts};
+use scm_samples::{ADDED, DEFAULT, Line, REMOVED, commits_of};
+use scm_types::{File, FileMode, Items, RecordState};
 use std::alloc::Global;
+use std::process::Abort;
 
 /// A checked removed line and an unchecked added line.
 const LINES: &[Line] = &[(true, REMOVED, "c\n"), (false, ADDED, "d\n")];
 
-/// Returns a file of two lines of context, a checked removed line and an unchecked added line, a
-/// checked deletion, and a line of context.
-fn small_file(alloc: Global) -> Result<File<'static>, RecordError> {
-    let mut sections = Vec::new(alloc);
-    sections.push(context(alloc, &["a\n", "b\n"])?)?;
-    sections.push(changed(alloc, LINES)?)?;
-    sections.push(Section::FileMode {
-        is_checked: true,
-        mode: FileMode::Absent,
-    })?;
-    sections.push(context(alloc, &["e\n"])?)?;
-    Ok(file_of(DEFAULT, sections))
+/// Two lines of context, the lines of `LINES`, a checked deletion, and a line of context.
+const PARTS: &[Part] = &[
+    Part::Context(&["a\n", "b\n"]),
+    Part::Changes(LINES),
+    Part::Mode(true, FileMode::Absent),
+    Part::Context(&["e\n"]),
+];
+
+/// Returns a state of `file`, and of two commits, of which the first has a message.
+pub(crate) fn state_of(
+    rt: &impl Abort,
+    alloc: Global,
+    is_read_only: bool,
+    file: File<'static>,
+) -> RecordState<'static> {
+    RecordState {
+        is_read_only,
+        commits: made(rt, commits_of(alloc, "m")),
+        files: Items::from(made(rt, vec![in alloc; file])),
+    }
 }
 
-/// Returns a state of two commits, of which the first has a message, and of `small_file`.
-pub(crate) fn small_state(alloc: Global) -> Result<RecordState<'static>, RecordError> {
-    let mut files = Items::new(alloc);
-    files.push(small_file(alloc)?)?;
-    Ok(RecordState {
-        is_read_only: false,
-        commits: commits_of(alloc, "message")?,
-        files,
-    })
+/// Returns the state of a file of `PARTS`.
+pub(crate) fn small_state(rt: &impl Abort, alloc: Global) -> RecordState<'static> {
+    let file = made(rt, file_with_parts(alloc, DEFAULT, PARTS));
+    state_of(rt, alloc, false, file)
 }

@@ -1,7 +1,8 @@
 //! Lists and sets of keys, moves among them, toggles and counts, mostly on a file with one section
 //! of two lines.
 use crate::checks::{check_equal, made};
-use scm_samples::{ADDED, Held, commits_of, file_holding, file_with};
+use crate::samples::state_of;
+use scm_samples::{ADDED, Held, file_holding, file_with};
 use scm_selection::key_lists::{
     all_keys, file_key, first_key, line_key, section_key, section_keys,
 };
@@ -10,9 +11,7 @@ use scm_selection::moves::{
     first_inside, is_visible_key, next_of_kind, next_visible, previous_of_kind, previous_visible,
 };
 use scm_selection::{counts, toggles};
-use scm_types::{
-    File, Items, LineKey, RecordError, RecordState, SectionKey, SelectionKey, Tristate,
-};
+use scm_types::{File, Items, LineKey, RecordError, RecordState, SelectionKey, Tristate};
 use std::alloc::Global;
 use std::process::Abort;
 
@@ -30,7 +29,7 @@ fn samples(rt: &impl Abort, alloc: Global) -> Items<File<'static>> {
 
 /// A key of the first commit, as a constant.
 #[derive(Clone, Copy)]
-enum Key {
+pub(crate) enum Key {
     /// No key.
     None,
     /// A file.
@@ -42,7 +41,7 @@ enum Key {
 }
 
 /// Returns the key `key`.
-fn key_of(key: Key) -> SelectionKey {
+pub(crate) fn key_of(key: Key) -> SelectionKey {
     match key {
         Key::None => SelectionKey::None,
         Key::File(file) => file_key(file),
@@ -76,24 +75,8 @@ fn check_lists(rt: &impl Abort, alloc: Global, files: &[File<'_>]) {
     check_equal(rt, first_key(&[]), SelectionKey::None);
 }
 
-/// A section.
-const SECTION: SectionKey = SectionKey {
-    commit_idx: 1,
-    file_idx: 2,
-    section_idx: 3,
-};
-
-/// A line of this section.
-const LINE: LineKey = LineKey {
-    commit_idx: 1,
-    file_idx: 2,
-    section_idx: 3,
-    line_idx: 4,
-};
-
 #[test]
 fn lists_of_keys(rt: HostRuntime) {
-    check_equal(&rt, SECTION.line(4), LINE);
     let files = samples(&rt, rt.alloc());
     check_lists(&rt, rt.alloc(), files.as_slice());
 }
@@ -389,11 +372,7 @@ fn toggles_of_keys(rt: HostRuntime) {
 
 /// Returns a state of `samples`, whose first commit has a message.
 fn sample_state(rt: &impl Abort, alloc: Global) -> RecordState<'static> {
-    RecordState {
-        is_read_only: false,
-        commits: made(rt, commits_of(alloc, "m")),
-        files: samples(rt, alloc),
-    }
+    state_of(rt, alloc, false, sample_file(rt, alloc))
 }
 
 #[test]

@@ -4,10 +4,9 @@
 //! refuses each of their requests in turn.
 use crate::checks::{check_copy, check_equal, made};
 use crate::parts::{Part, file_with_parts};
-use crate::types::check_marks;
-use scm_samples::{ADDED, DEFAULT, owned, text_of};
+use scm_samples::{ADDED, DEFAULT, REMOVED, owned, text_of};
 use scm_types::{
-    Commit, File, FileMode, IsizeExt, RecordError, RecordState, Text, Tristate, UsizeExt,
+    Commit, File, FileMode, IsizeExt, RecordError, RecordState, Section, Text, Tristate, UsizeExt,
     make_binary_description,
 };
 use std::alloc::Global;
@@ -24,6 +23,7 @@ fn check_commit(rt: &impl Abort, alloc: Global, message: &str) {
     let commit = Commit {
         message: Some(made(rt, owned(alloc, message))),
     };
+    check_equal(rt, commit == Commit::default(), false);
     check_copy(rt, commit.try_clone(alloc), &commit);
 }
 
@@ -51,7 +51,7 @@ fn texts_of_any_size_are_copied(rt: HostRuntime) {
 /// A section of each kind, partly checked.
 const PARTS: &[Part] = &[
     Part::Context(&["a\n"]),
-    Part::Changes(&[(false, ADDED, "b\n"), (true, ADDED, "c\n")]),
+    Part::Changes(&[(false, ADDED, "b\n"), (true, REMOVED, "c\n")]),
     Part::Mode(false, DEFAULT),
     Part::Bytes(Some("old"), None),
 ];
@@ -68,12 +68,22 @@ fn marked_state(alloc: Global) -> Result<RecordState<'static>, RecordError> {
     Ok(state)
 }
 
+/// Sets the marks of `section`, and then inverts them.
+fn check_marks(rt: &impl Abort, section: &mut Section<'_>) {
+    section.set_checked(true);
+    let is_editable = section.is_editable();
+    check_equal(rt, section.tristate(), Tristate::from(is_editable));
+    section.toggle_all();
+    check_equal(rt, section.tristate(), Tristate::False);
+}
+
 /// Checks the calls on the marks of a file, and of each of its sections.
 fn check_file(rt: &impl Abort, file: &mut File<'_>) {
     check_equal(rt, file.tristate(), Tristate::Partial);
     file.set_checked(true);
     check_equal(rt, file.tristate(), Tristate::True);
     file.toggle_all();
+    check_equal(rt, file.tristate(), Tristate::False);
     file.repair();
     check_equal(rt, file.tristate(), Tristate::False);
     for section in file.sections.iter_mut() {
@@ -93,9 +103,9 @@ fn check_state(rt: &impl Abort, state: &mut RecordState<'_>) {
 /// Checks the empty values.
 fn check_empty(rt: &impl Abort, alloc: Global) {
     let empty = RecordState::empty(alloc);
-    check_equal(rt, (empty.is_accepted(), empty.size()), (true, 0));
-    check_equal(rt, empty.commits.is_empty(), true);
-    check_equal(rt, empty.files.is_empty(), true);
+    let found = (empty.is_read_only, empty.is_accepted(), empty.size());
+    check_equal(rt, found, (false, true, 0));
+    check_equal(rt, (empty.commits.len(), empty.files.len()), (0, 0));
     check_equal(rt, Commit::default().message.is_none(), true);
 }
 
@@ -107,13 +117,28 @@ fn check_modes(rt: &impl Abort) {
     check_equal(rt, FileMode::try_from(-1_i32).is_err(), true);
 }
 
+/// Sizes, and the nearest numbers of 16 bits.
+const SIZES: &[(usize, u16)] = &[(7, 7), (65_535, 65_535), (65_536, 65_535)];
+
+/// Places, the nearest numbers of 16 bits, and the nearest sizes.
+const PLACES: &[(isize, u16, usize)] = &[
+    (-7, 0, 0),
+    (-1, 0, 0),
+    (7, 7, 7),
+    (65_536, 65_535, 65_536),
+];
+
 /// Checks the conversions of numbers.
 fn check_numbers(rt: &impl Abort) {
     check_equal(rt, 7_usize.unwrap_isize(), 7);
     check_equal(rt, 7_isize.unwrap_usize(), 7);
-    check_equal(rt, UsizeExt::clamp_into_u16(65_536), 65_535);
-    check_equal(rt, IsizeExt::clamp_into_u16(-1), 0);
-    check_equal(rt, IsizeExt::clamp_into_usize(-1), 0);
+    for (size, nearest) in SIZES {
+        check_equal(rt, UsizeExt::clamp_into_u16(*size), *nearest);
+    }
+    for (place, nearest, size) in PLACES {
+        check_equal(rt, IsizeExt::clamp_into_u16(*place), *nearest);
+        check_equal(rt, IsizeExt::clamp_into_usize(*place), *size);
+    }
 }
 
 /// Copies `state`: the copy equals it, or memory is refused.

@@ -6,8 +6,8 @@ use scm_types::consts::{DUMP_UI_STATE_FILENAME, ENV_VAR_DEBUG_UI, ENV_VAR_DUMP_U
 use scm_types::helpers::make_binary_description;
 use scm_types::repair::{check_modes, uncheck_deletions};
 use scm_types::{
-    ChangeType, Commit, File, FileMode, IsizeExt, Items, OwnedText, RecordError, RecordState,
-    Section, SectionChangedLine, SelectedChanges, SelectedContents, Text, Tristate, UsizeExt, laws,
+    ChangeType, Commit, File, FileMode, Items, OwnedText, RecordError, RecordState, Section,
+    SectionChangedLine, SelectedChanges, SelectedContents, Text, laws,
 };
 use std::alloc::{AllocError, Global};
 use std::borrow::CowStr;
@@ -199,9 +199,8 @@ fn text_len(contents: &SelectedContents<'_>) -> usize {
     }
 }
 
-/// Copies and splits `file`, and checks that its selected text has `bytes` bytes.
+/// Splits `file`, and checks that its selected text has `bytes` bytes.
 fn check_size(rt: &impl Abort, alloc: Global, file: &File<'_>, bytes: usize) {
-    check_copy(rt, file.try_clone(alloc), file);
     let sides = made(rt, file.get_selected_contents(alloc));
     check_equal(rt, text_len(&sides.0.contents), bytes);
 }
@@ -209,7 +208,7 @@ fn check_size(rt: &impl Abort, alloc: Global, file: &File<'_>, bytes: usize) {
 /// How many lines of context and how many added lines a file has, and how many bytes its selected text.
 const COUNTS: &[(usize, usize)] = &[(0, 0), (1, 4), (10_000, 40_000)];
 
-/// Copies and splits a file of `count` lines of context and `count` checked added lines.
+/// Splits a file of `count` lines of context and `count` checked added lines.
 fn check_count(rt: &impl Abort, alloc: Global, count: usize, bytes: usize) {
     let texts = made(rt, vec![in alloc; "a\n"; count]);
     let lines = made(rt, vec![in alloc; (true, ADDED, "b\n"); count]);
@@ -218,37 +217,10 @@ fn check_count(rt: &impl Abort, alloc: Global, count: usize, bytes: usize) {
 }
 
 #[test]
-fn files_of_any_size_are_copied_and_split(rt: HostRuntime) {
+fn files_of_any_size_are_split(rt: HostRuntime) {
     for (count, bytes) in COUNTS {
         check_count(&rt, rt.alloc(), *count, *bytes);
     }
-}
-
-/// Checks that the contents of `toggled` are those of `sides`, in the other order.
-fn check_swapped(
-    rt: &impl Abort,
-    sides: &(SelectedChanges<'_>, SelectedChanges<'_>),
-    toggled: &(SelectedChanges<'_>, SelectedChanges<'_>),
-) {
-    check_equal(rt, &toggled.0.contents, &sides.1.contents);
-    check_equal(rt, &toggled.1.contents, &sides.0.contents);
-}
-
-/// Checks that toggling swapped the contents of the two sides.
-fn check_places(rt: &impl Abort, alloc: Global, file: &File<'_>, toggled: &File<'_>) {
-    let sides = made(rt, file.get_selected_contents(alloc));
-    let swapped = made(rt, toggled.get_selected_contents(alloc));
-    check_swapped(rt, &sides, &swapped);
-}
-
-/// Toggles a copy of `file` twice. The first toggle swaps the sides, and the second restores the
-/// file.
-fn check_toggles(rt: &impl Abort, alloc: Global, file: &File<'_>) {
-    let mut toggled = made(rt, file.try_clone(alloc));
-    toggled.toggle_all();
-    check_places(rt, alloc, file, &toggled);
-    toggled.toggle_all();
-    check_equal(rt, &toggled, file);
 }
 
 #[test]
@@ -257,27 +229,6 @@ fn laws_of_toggles_hold(rt: HostRuntime) {
     laws::toggle_twice(&file);
     laws::toggle_swaps(&file);
     laws::split_keeps_lines(&file);
-    check_toggles(&rt, rt.alloc(), &file);
-}
-
-#[test]
-fn the_empty_state_has_nothing(rt: HostRuntime) {
-    let state = RecordState::empty(rt.alloc());
-    let counts = (state.commits.len(), state.files.len());
-    check_equal(&rt, (state.is_read_only, counts), (false, (0, 0)));
-}
-
-/// Returns a state of a new file.
-fn new_state(rt: &impl Abort, alloc: Global) -> RecordState<'static> {
-    let mut state = RecordState::empty(alloc);
-    made(rt, state.files.push(new_file(rt, alloc, UNCHECKED, false)));
-    state
-}
-
-#[test]
-fn copies_of_a_state_equal_it(rt: HostRuntime) {
-    let state = new_state(&rt, rt.alloc());
-    check_copy(&rt, state.try_clone(rt.alloc()), &state);
 }
 
 /// Checks that copies of `sections` equal them.
@@ -285,13 +236,6 @@ fn check_sections(rt: &impl Abort, alloc: Global, sections: &[Section<'_>]) {
     for section in sections {
         check_copy(rt, section.try_clone(alloc), section);
     }
-}
-
-#[test]
-fn copies_of_files_equal_them(rt: HostRuntime) {
-    let file = new_file(&rt, rt.alloc(), UNCHECKED, false);
-    check_copy(&rt, file.try_clone(rt.alloc()), &file);
-    check_sections(&rt, rt.alloc(), file.sections.as_slice());
 }
 
 /// Checks that a copy of `texts` equals it.
@@ -317,15 +261,6 @@ fn copies_of_lines_equal_them(rt: HostRuntime) {
     check_copy(&rt, line.try_clone(rt.alloc()), &line);
 }
 
-#[test]
-fn copies_of_commits_equal_them(rt: HostRuntime) {
-    let commit = Commit {
-        message: Some(made(&rt, owned(rt.alloc(), "m"))),
-    };
-    check_equal(&rt, commit == Commit::default(), false);
-    check_copy(&rt, commit.try_clone(rt.alloc()), &commit);
-}
-
 /// Checks that copies of the contents of both sides equal them.
 fn check_sides(rt: &impl Abort, alloc: Global, sides: &(SelectedChanges<'_>, SelectedChanges<'_>)) {
     let (selected, unselected) = (&sides.0.contents, &sides.1.contents);
@@ -333,41 +268,20 @@ fn check_sides(rt: &impl Abort, alloc: Global, sides: &(SelectedChanges<'_>, Sel
     check_copy(rt, unselected.try_clone(alloc), unselected);
 }
 
-/// Checks that copies of `file`, and of the contents of both its sides, equal them.
+/// Checks that copies of `file`, of its sections, and of the contents of both its sides equal them.
 fn check_copies(rt: &impl Abort, alloc: Global, file: &File<'_>) {
     check_copy(rt, file.try_clone(alloc), file);
+    check_sections(rt, alloc, file.sections.as_slice());
     let sides = made(rt, file.get_selected_contents(alloc));
     check_sides(rt, alloc, &sides);
 }
 
 #[test]
-fn copies_of_sides_equal_them(rt: HostRuntime) {
+fn copies_of_files_equal_them(rt: HostRuntime) {
     check_copies(&rt, rt.alloc(), &mixed_file(&rt, rt.alloc()));
     for held in HELD {
         let file = made(&rt, file_holding(rt.alloc(), *held));
         check_copies(&rt, rt.alloc(), &file);
-    }
-}
-
-/// Sets the marks of `section`, and then inverts them.
-pub(crate) fn check_marks(rt: &impl Abort, section: &mut Section<'_>) {
-    section.set_checked(true);
-    let is_editable = section.is_editable();
-    check_equal(rt, section.tristate(), Tristate::from(is_editable));
-    section.toggle_all();
-    check_equal(rt, section.tristate(), Tristate::False);
-}
-
-#[test]
-fn marks_are_counted_and_written(rt: HostRuntime) {
-    let mut file = mixed_file(&rt, rt.alloc());
-    check_equal(&rt, file.tristate(), Tristate::Partial);
-    file.set_checked(true);
-    check_equal(&rt, file.tristate(), Tristate::True);
-    file.toggle_all();
-    check_equal(&rt, file.tristate(), Tristate::False);
-    for section in file.sections.iter_mut() {
-        check_marks(&rt, section);
     }
 }
 
@@ -508,26 +422,10 @@ fn modes_are_converted_and_printed(rt: HostRuntime) {
     check_mode(&rt, rt.alloc(), made(&rt, FileMode::try_from(8_i32)), "10");
     check_mode(&rt, rt.alloc(), DEFAULT, "100644");
     check_mode(&rt, rt.alloc(), FileMode::Absent, "<absent>");
-    check_equal(&rt, FileMode::try_from(-1_i32).is_err(), true);
 }
 
-/// Sizes, and the nearest numbers of 16 bits.
-const SIZES: &[(usize, u16)] = &[(7, 7), (65_535, 65_535), (65_536, 65_535)];
-
-/// Places, the nearest numbers of 16 bits, and the nearest sizes.
-const PLACES: &[(isize, u16, usize)] = &[(-7, 0, 0), (7, 7, 7), (65_536, 65_535, 65_536)];
-
 #[test]
-fn sizes_are_converted(rt: HostRuntime) {
-    check_equal(&rt, 7_usize.unwrap_isize(), 7);
-    check_equal(&rt, 7_isize.unwrap_usize(), 7);
-    for (size, nearest) in SIZES {
-        check_equal(&rt, UsizeExt::clamp_into_u16(*size), *nearest);
-    }
-    for (place, nearest, size) in PLACES {
-        check_equal(&rt, IsizeExt::clamp_into_u16(*place), *nearest);
-        check_equal(&rt, IsizeExt::clamp_into_usize(*place), *size);
-    }
+fn names_are_those_of_the_crate(rt: HostRuntime) {
     check_equal(&rt, ENV_VAR_DUMP_UI_STATE, "SCM_RECORD_DUMP_UI_STATE");
     check_equal(&rt, DUMP_UI_STATE_FILENAME, "scm_record_ui_state.json");
     check_equal(&rt, ENV_VAR_DEBUG_UI, "SCM_RECORD_DEBUG_UI");
@@ -647,7 +545,6 @@ fn check_borrowed(rt: &impl Abort, alloc: Global, text: &Text<'_>) {
     check_equal(rt, text.as_str(), "né");
     check_equal(rt, (text.len(), text.is_empty()), (3, false));
     check_equal(rt, text.borrowed() == *text, true);
-    check_copy(rt, text.try_clone(alloc), text);
     check_text(rt, shown(alloc, text), "né");
 }
 
