@@ -9,8 +9,11 @@ use scm_record::{Event, File, RecordState, TerminalKind, Tristate};
 use std::alloc::Global;
 use std::process::Abort;
 
+/// The keys that mark the first line.
+const MARK: &[Event] = &[Event::FocusInner, Event::FocusInner, Event::ToggleItem];
+
 /// The keys that mark the first line and confirm.
-const KEYS: [Event; 4] = [
+const KEYS: &[Event] = &[
     Event::FocusInner,
     Event::FocusInner,
     Event::ToggleItem,
@@ -25,7 +28,7 @@ const KIND: TerminalKind = TerminalKind::Testing {
 
 /// Returns a list of these keys.
 fn keys(rt: &impl Abort, alloc: Global) -> Vec<Event> {
-    made(rt, KEYS.to_vec(alloc))
+    made(rt, Vec::from_slice(alloc, KEYS))
 }
 
 /// Returns whether all items of each file are checked.
@@ -53,7 +56,7 @@ fn keys_of_an_input_of_ones_own_mark_the_line(rt: HostRuntime) {
 #[test]
 fn a_session_is_driven_to_its_end(rt: HostRuntime) {
     let state = state_of_one_line(&rt, rt.alloc());
-    let marked = made(&rt, choose(rt.alloc(), KIND, state, &KEYS));
+    let marked = made(&rt, choose(rt.alloc(), KIND, state, KEYS));
     check_equal(&rt, is_some_marked(&marked), true);
 }
 
@@ -79,7 +82,7 @@ fn bytes_of_a_terminal_mark_the_line(rt: HostRuntime) {
 #[test]
 fn a_session_without_a_confirmed_quit_has_no_state(rt: HostRuntime) {
     let state = state_of_one_line(&rt, rt.alloc());
-    let marked = made(&rt, choose(rt.alloc(), KIND, state, &KEYS[..3]));
+    let marked = made(&rt, choose(rt.alloc(), KIND, state, MARK));
     check_equal(&rt, marked.is_none(), true);
 }
 

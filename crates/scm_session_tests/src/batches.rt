@@ -1,11 +1,10 @@
 //! Batches of events that a program hands in to a live session, and jumps to a key.
 use crate::checks::{check_equal, check_text, made};
 use crate::given::state_of;
-use crate::scripts::{ACCEPT, EDIT, FAR, HELLO, INNER, TOGGLE, outcome_of, words};
+use crate::scripts::{ACCEPT, EDIT, FAR, HELLO, INNER, TOGGLE, words};
 use crate::sessions::waiting_of;
 use scm_record::{
-    Event, FileKey, LineKey, LiveSession, RecordError, Screens, ScriptEdit, ScriptInput,
-    ScriptRead, SectionKey, SelectionKey, TerminalKind, Turn,
+    Event, FileKey, LineKey, LiveSession, RecordError, SectionKey, SelectionKey, TerminalKind, Turn,
 };
 use std::alloc::{AllocError, Global};
 use std::process::Abort;
@@ -41,7 +40,7 @@ const MESSAGES: usize = 4;
 /// The outcome of a session that still waits.
 const WAITS: &'static str = "waits";
 
-/// Sessions that end: a run with the same batches has the same outcome.
+/// Sessions that end.
 const ENDED: &[Row] = &[
     // all events of a batch are handled, in order
     (
@@ -237,48 +236,10 @@ fn check_live(rt: &impl Abort, alloc: Global, row: Row) {
     check_pressed(rt, alloc, session, row.1, row.2);
 }
 
-/// Returns edits in which each message becomes `bye`.
-fn edits_of(rt: &impl Abort, alloc: Global) -> Vec<ScriptEdit> {
-    let mut edits = Vec::new(alloc);
-    for _ in 0..MESSAGES {
-        let answer = made(rt, String::from_str(alloc, "bye"));
-        made(rt, edits.push(ScriptEdit::Answer(answer)));
-    }
-    edits
-}
-
-/// Returns the reads of `batches`.
-fn batches_of(rt: &impl Abort, alloc: Global, batches: &[&[Event]]) -> Vec<ScriptRead> {
-    let mut reads = Vec::new(alloc);
-    for batch in batches {
-        let events = made(rt, Vec::from_slice(alloc, *batch));
-        made(rt, reads.push(ScriptRead::Batch(events)));
-    }
-    reads
-}
-
-/// Returns an input of `batches` in which each message becomes `bye`.
-fn script_of(rt: &impl Abort, alloc: Global, batches: &[&[Event]]) -> ScriptInput {
-    let reads = batches_of(rt, alloc, batches);
-    made(
-        rt,
-        ScriptInput::new(alloc, 80, 24, reads, edits_of(rt, alloc)),
-    )
-}
-
-/// Checks the outcome of a run on the batches of `row`.
-fn check_run(rt: &impl Abort, alloc: Global, row: Row) {
-    let mut input = script_of(rt, alloc, row.1);
-    let mut screens = Screens::new(alloc);
-    let text = outcome_of(rt, alloc, row.0, &mut input, &mut screens);
-    check_text(rt, text, row.2);
-}
-
 #[test]
-fn batches_are_reads_of_a_run(rt: HostRuntime) {
+fn batches_are_handled_as_one_read(rt: HostRuntime) {
     for row in ENDED {
         check_live(&rt, rt.alloc(), *row);
-        check_run(&rt, rt.alloc(), *row);
     }
     for batches in WAITING {
         check_live(&rt, rt.alloc(), (HELLO, *batches, WAITS));

@@ -1,7 +1,7 @@
 //! The number of rows that a frame begins, and of calls that draw it.
-use crate::checks::{check_equal, made};
+use crate::checks::check_equal;
 use crate::sessions::session_of;
-use scm_record::{LiveSession, NumberedStyle, Style, Styles, TerminalKind};
+use scm_record::TerminalKind;
 use scm_samples::number_of;
 use std::alloc::Global;
 use std::process::Abort;
@@ -134,37 +134,6 @@ fn check_row(rt: &impl Abort, alloc: Global, row: &str) {
     let is_within = wanted.0 <= most.0 && wanted.1 <= most.1;
     check_equal(rt, (row, is_within), (row, true));
     check_counts(rt, alloc, given, wanted);
-}
-
-/// Checks that the styles of row `row` are the style of each of its places. `styles` has room for them.
-fn check_styles(
-    rt: &impl Abort,
-    session: &LiveSession<'_>,
-    row: usize,
-    styles: &mut [NumberedStyle],
-) {
-    session.row_styles(row, styles);
-    for (column, style) in styles.iter().enumerate() {
-        let found = (row, column, style.style());
-        check_equal(rt, found, (row, column, session.style(row, column)));
-    }
-}
-
-/// Checks the styles of rows after `keys`, in 43 columns, on a screen of `width` columns.
-fn check_rows(rt: &impl Abort, alloc: Global, width: usize, keys: &str) {
-    let kind = TerminalKind::Testing { width, height: 12 };
-    let session = session_of(rt, alloc, kind, "!x7y0mb,t", keys);
-    let mut styles = made(rt, vec![in alloc; NumberedStyle::new(Style::PLAIN); 43]);
-    for row in 0..13 {
-        check_styles(rt, &session, row, styles.as_mut_slice());
-    }
-}
-
-#[test]
-fn rows_have_the_styles_of_their_places(rt: HostRuntime) {
-    check_rows(&rt, rt.alloc(), 41, "Fvllpjj");
-    check_rows(&rt, rt.alloc(), 41, "Fllpjj");
-    check_rows(&rt, rt.alloc(), 43, "Fllpjj");
 }
 
 #[test]

@@ -1,6 +1,6 @@
 //! Runs over an input of their own: the message that an edit gets, and reads and edits whose
 //! allocations fail.
-use crate::checks::check_equal;
+use crate::checks::{check_equal, made};
 use crate::copying::Copying;
 use crate::given::{Messages, run, state_of};
 use scm_record::{Event, RecordError, RecordInput, RecordState, Screens, TestingScreenshot};
@@ -66,21 +66,19 @@ fn check_asked(rt: &impl Abort, input: &Copying, wanted: Option<&str>) {
 }
 
 /// Checks whether an edit is asked for, and with which message.
-fn check_asking(rt: &impl Abort, alloc: Global, row: Asking) -> Result<(), RecordError> {
-    let mut input = Copying::new(alloc, 80, 24, row.1)?;
+fn check_asking(rt: &impl Abort, alloc: Global, row: Asking) {
+    let mut input = made(rt, Copying::new(alloc, 80, 24, row.1));
     let is_accepted = is_accepted(rt, alloc, row.0, &mut input);
     check_equal(rt, is_accepted, row.2.is_none());
     check_asked(rt, &input, row.2);
     check_equal(rt, input.batches_left(), row.3);
-    Ok(())
 }
 
 #[test]
-fn an_edit_is_asked_with_the_message(rt: HostRuntime) -> Result<(), RecordError> {
+fn an_edit_is_asked_with_the_message(rt: HostRuntime) {
     for row in ASKINGS {
-        check_asking(&rt, rt.alloc(), *row)?;
+        check_asking(&rt, rt.alloc(), *row);
     }
-    Ok(())
 }
 
 /// The messages before the run.
