@@ -230,9 +230,15 @@ const HANDED_IN: &[HandedIn] = &[
     (&[0, 0, 0, 0, 0, 1], 4, None, Some(Tristate::True)),
 ];
 
+/// Hands in `marks` for the file `file`. The clauses of `StateBuilder::set_marks` make the proofs of its
+/// callers long.
+fn set_marks(builder: &mut StateBuilder, file: usize, marks: &[u8]) -> bool {
+    builder.set_marks(file, marks)
+}
+
 /// Hands in the marks of `row`, and checks one of them.
 fn check_handed_in(rt: &impl Abort, builder: &mut StateBuilder, row: &HandedIn) {
-    check_equal(rt, builder.set_marks(0, row.0), true);
+    check_equal(rt, set_marks(builder, 0, row.0), true);
     let mark = mark_of(builder.state(), 0, Some(row.1), row.2);
     check_equal(rt, (row.0, &mark), (row.0, &row.3));
 }
@@ -252,7 +258,7 @@ const UNFIT: &[(usize, &[u8])] = &[(0, &[0; 5]), (0, &[0; 7]), (0, &[]), (1, &[]
 fn marks_that_do_not_fit_leave_the_state(rt: HostRuntime) {
     let mut builder = builder_made(&rt, rt.alloc());
     for (file, marks) in UNFIT {
-        check_equal(&rt, builder.set_marks(*file, *marks), false);
+        check_equal(&rt, set_marks(&mut builder, *file, *marks), false);
         check_builder(&rt, rt.alloc(), &builder);
     }
 }

@@ -14,21 +14,28 @@ use std::borrow::CowStr;
 use std::process::Abort;
 
 /// A checked line of a new file.
-const CHECKED: &[Line] = &[(true, ADDED, "n\n")];
+const CHECKED: Part = Part::Changes(&[(true, ADDED, "n\n")]);
 
 /// An unchecked line of a new file.
-const UNCHECKED: &[Line] = &[(false, ADDED, "n\n")];
+const UNCHECKED: Part = Part::Changes(&[(false, ADDED, "n\n")]);
 
-/// Returns a new file: `lines`, and its creation.
-fn new_file(
-    rt: &impl Abort,
-    alloc: Global,
-    lines: &'static [Line],
-    is_checked: bool,
-) -> File<'static> {
-    let parts = [Part::Changes(lines), Part::Mode(is_checked, DEFAULT)];
-    made(rt, file_with_parts(alloc, FileMode::Absent, &parts))
-}
+/// The checked creation of a file.
+const CREATED: Part = Part::Mode(true, DEFAULT);
+
+/// The unchecked creation of a file.
+const LEFT_OUT: Part = Part::Mode(false, DEFAULT);
+
+/// A new file, of which all is checked.
+const NEW: &[Part] = &[CHECKED, CREATED];
+
+/// A new file, of which the creation is checked alone.
+const NEW_EMPTY: &[Part] = &[UNCHECKED, CREATED];
+
+/// A new file, of which the line is checked alone.
+const NEW_LINE: &[Part] = &[CHECKED, LEFT_OUT];
+
+/// A new file, of which nothing is checked.
+const NOTHING_NEW: &[Part] = &[UNCHECKED, LEFT_OUT];
 
 /// Added and removed lines: of each kind one checked and one unchecked.
 const MIXED: &[Line] = &[
@@ -108,86 +115,72 @@ fn files_are_split(rt: HostRuntime) {
     check_split(&rt, rt.alloc(), &mixed, second, first);
 }
 
-/// The sections of a file with the default mode, and the mode and the contents of its selected and
-/// of its unselected side.
-type Split = (&'static [Part], (FileMode, Side), (FileMode, Side));
+/// The old mode and the sections of a file, and the mode and the contents of its selected and of its
+/// unselected side.
+type Split = (
+    FileMode,
+    &'static [Part],
+    (FileMode, Side),
+    (FileMode, Side),
+);
 
-/// Splits the file of `row`, and checks its sides.
-fn check_sides_of(rt: &impl Abort, alloc: Global, row: Split) {
-    let file = made(rt, file_with_parts(alloc, DEFAULT, row.0));
-    check_split(rt, alloc, &file, row.1, row.2);
-}
-
-/// Files without their last line, and deleted.
-const REMOVALS: &[Split] = &[
+/// Files without their last line, deleted files, files with a binary change, and new files with each
+/// pair of marks.
+const SPLITS: &[Split] = &[
     (
+        DEFAULT,
         EMPTIED,
         (DEFAULT, Side::Text("")),
         (DEFAULT, Side::Text("x\n")),
     ),
     (
+        DEFAULT,
         DELETED,
         (FileMode::Absent, Side::Unchanged),
         (DEFAULT, Side::Text("x\n")),
     ),
-];
-
-#[test]
-fn removals_are_split(rt: HostRuntime) {
-    for row in REMOVALS {
-        check_sides_of(&rt, rt.alloc(), *row);
-    }
-}
-
-#[test]
-fn bytes_are_split(rt: HostRuntime) {
-    let bytes = (DEFAULT, Side::OldBinary);
-    let tail = (DEFAULT, Side::Text("z\n"));
-    check_sides_of(&rt, rt.alloc(), (BYTES, bytes, tail));
-}
-
-/// The lines of a new file, the mark of its creation, and the mode and the contents of its selected
-/// and of its unselected side.
-type NewSplit = (&'static [Line], bool, (FileMode, Side), (FileMode, Side));
-
-/// New files, with each pair of marks.
-const NEW_FILES: &[NewSplit] = &[
     (
-        CHECKED,
-        true,
+        DEFAULT,
+        BYTES,
+        (DEFAULT, Side::OldBinary),
+        (DEFAULT, Side::Text("z\n")),
+    ),
+    (
+        FileMode::Absent,
+        NEW,
         (DEFAULT, Side::Text("n\n")),
         (FileMode::Absent, Side::Unchanged),
     ),
     (
-        UNCHECKED,
-        true,
+        FileMode::Absent,
+        NEW_EMPTY,
         (DEFAULT, Side::Text("")),
         (FileMode::Absent, Side::Text("n\n")),
     ),
     (
-        UNCHECKED,
-        false,
+        FileMode::Absent,
+        NOTHING_NEW,
         (FileMode::Absent, Side::Unchanged),
         (DEFAULT, Side::Text("n\n")),
     ),
     (
-        CHECKED,
-        false,
+        FileMode::Absent,
+        NEW_LINE,
         (FileMode::Absent, Side::Text("n\n")),
         (DEFAULT, Side::Text("")),
     ),
 ];
 
-/// Splits the new file of `row`, and checks its sides.
-fn check_new_file(rt: &impl Abort, alloc: Global, row: NewSplit) {
-    let file = new_file(rt, alloc, row.0, row.1);
+/// Splits the file of `row`, and checks its sides.
+fn check_sides_of(rt: &impl Abort, alloc: Global, row: Split) {
+    let file = made(rt, file_with_parts(alloc, row.0, row.1));
     check_split(rt, alloc, &file, row.2, row.3);
 }
 
 #[test]
-fn new_files_are_split(rt: HostRuntime) {
-    for row in NEW_FILES {
-        check_new_file(&rt, rt.alloc(), *row);
+fn sides_have_modes_and_contents(rt: HostRuntime) {
+    for row in SPLITS {
+        check_sides_of(&rt, rt.alloc(), *row);
     }
 }
 
@@ -294,49 +287,47 @@ const HALF: &[Part] = &[KEPT, Part::Mode(false, FileMode::Absent)];
 /// An unchecked removed line, and the checked deletion of its file.
 const HALF_DELETED: &[Part] = &[KEPT, Part::Mode(true, FileMode::Absent)];
 
-/// Returns a file with an unchecked removed line and the file's deletion, with the mark
-/// `is_checked`.
-fn half_removed(rt: &impl Abort, alloc: Global, is_checked: bool) -> File<'static> {
-    let parts = if is_checked { HALF_DELETED } else { HALF };
-    made(rt, file_with_parts(alloc, DEFAULT, parts))
+/// Checks that `file` is the file of `parts`.
+fn check_parts(rt: &impl Abort, alloc: Global, file: &File<'static>, parts: &[Part]) {
+    check_equal(
+        rt,
+        file,
+        &made(rt, file_with_parts(alloc, file.file_mode, parts)),
+    );
 }
 
-/// Checks that `file` is a file with an unchecked removed line and its deletion, with the mark
-/// `is_deleted`.
-fn check_half(rt: &impl Abort, alloc: Global, file: &File<'static>, is_deleted: bool) {
-    check_equal(rt, file, &half_removed(rt, alloc, is_deleted));
-}
+/// The old mode of a file, its sections, and its sections after a repair.
+type Repair = (FileMode, &'static [Part], &'static [Part]);
 
-/// Repairs a file with an unchecked removed line and its deletion, with the mark `is_deleted`.
-fn check_half_removed(rt: &impl Abort, alloc: Global, is_deleted: bool) {
-    let mut file = half_removed(rt, alloc, is_deleted);
+/// Repairs: a deletion is unchecked beside an unchecked line, and a creation is checked beside a checked one.
+const REPAIRS: &[Repair] = &[
+    (DEFAULT, HALF_DELETED, HALF),
+    (DEFAULT, HALF, HALF),
+    (FileMode::Absent, NEW_LINE, NEW),
+    (FileMode::Absent, NEW_EMPTY, NEW_EMPTY),
+];
+
+/// Repairs the file of `row`, and checks its sections.
+fn check_repair(rt: &impl Abort, alloc: Global, row: Repair) {
+    let mut file = made(rt, file_with_parts(alloc, row.0, row.1));
     file.repair();
-    check_half(rt, alloc, &file, false);
-}
-
-/// Repairs a new file of `lines`, whose creation has the mark `is_created`. Checks that the
-/// creation is checked then.
-fn check_made(rt: &impl Abort, alloc: Global, lines: &'static [Line], is_created: bool) {
-    let mut file = new_file(rt, alloc, lines, is_created);
-    file.repair();
-    check_equal(rt, file, new_file(rt, alloc, lines, true));
+    check_parts(rt, alloc, &file, row.2);
 }
 
 #[test]
 fn files_are_made_to_fit(rt: HostRuntime) {
-    check_half_removed(&rt, rt.alloc(), true);
-    check_half_removed(&rt, rt.alloc(), false);
-    check_made(&rt, rt.alloc(), CHECKED, false);
-    check_made(&rt, rt.alloc(), UNCHECKED, true);
+    for row in REPAIRS {
+        check_repair(&rt, rt.alloc(), *row);
+    }
 }
 
 #[test]
 fn marks_are_made_to_fit(rt: HostRuntime) {
-    let mut file = half_removed(&rt, rt.alloc(), true);
+    let mut file = made(&rt, file_with_parts(rt.alloc(), DEFAULT, HALF_DELETED));
     uncheck_deletions(file.sections.as_mut_slice());
-    check_half(&rt, rt.alloc(), &file, false);
+    check_parts(&rt, rt.alloc(), &file, HALF);
     check_modes(file.sections.as_mut_slice());
-    check_half(&rt, rt.alloc(), &file, true);
+    check_parts(&rt, rt.alloc(), &file, HALF_DELETED);
 }
 
 #[test]
