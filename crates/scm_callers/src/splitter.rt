@@ -1,9 +1,10 @@
 //! A small commit splitter: the changes between two texts, by their lines.
 ghost use Rattle.std.specs.Prelude.{◌≤◌, length};
 
+use crate::input::record_keys;
 use scm_record::{
-    ChangeType, Event, File, FileMode, Items, RecordError, RecordState, Recorder, Screens, Section,
-    SectionChangedLine, TestingInput, Text,
+    ChangeType, Event, File, FileMode, Items, RecordError, RecordState, Section,
+    SectionChangedLine, Text,
 };
 use std::alloc::Global;
 
@@ -99,8 +100,5 @@ pub fn choose_lines<'a>(
     if !state.is_accepted() {
         return Ok(None);
     }
-    let mut input = TestingInput::new(alloc, 80, 24, keys)?;
-    let mut screens = Screens::new(alloc);
-    let marked = Recorder::new(alloc, state)?.run(&mut input, &mut screens)?;
-    Ok(Some(marked))
+    Ok(Some(record_keys(alloc, state, keys)?))
 }
