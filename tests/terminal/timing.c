@@ -7,7 +7,8 @@
  * columns each), `marked` (letters, each with a combining mark) or `tabs`. FILESxSECTIONSxLINES:pairs:COUNT has lines of COUNT
  * words, removed and added in turn: the last word of an added line is not that of the removed line before it. With `turns` in place
  * of `pairs` a removed line is COUNT times `a b `, and an added one COUNT times `a c `; and with `code` they are COUNT calls, of which the
- * argument of each fourth one differs. With `,both` behind it the screen shows both commits, and with `,layer` the session has the layer.
+ * argument of each fourth one differs. With `,both` behind it the screen shows both commits, with `,layer` the session has the layer, and
+ * with `,named` its sections show the lines that they stand in too.
  *
  * timing SHAPE first: prints the processor milliseconds of the first paint, and how many bytes it has.
  *
@@ -39,8 +40,8 @@ typedef struct {
     difference pairs;
     /* Whether the screen shows both commits. */
     bool shows_both;
-    /* Whether the session has the layer. */
-    bool has_layer;
+    /* Whether the session has the layer, and whether its sections are named. */
+    bool has_layer, is_named;
 } shape;
 
 static const struct {
@@ -60,7 +61,8 @@ static bool is_read_as(const char *words, shape *read) {
     read->pairs = strcmp(kind, "pairs") == 0 ? LAST_WORD : strcmp(kind, "turns") == 0 ? EACH_OTHER_WORD : strcmp(kind, "code") == 0 ? SOME_ARGUMENTS : NO_PAIRS;
     const char *end = strchr(words, ',');
     read->shows_both = end && strcmp(end, ",both") == 0;
-    read->has_layer = end && strcmp(end, ",layer") == 0;
+    read->is_named = end && strcmp(end, ",named") == 0;
+    read->has_layer = read->is_named || (end && strcmp(end, ",layer") == 0);
     return (numbers == 3 || (numbers == 5 && (*read->character || read->pairs))) && (!end || read->shows_both || read->has_layer);
 }
 
@@ -216,6 +218,10 @@ int main(int argc, char **argv) {
     }
     double ended = now();
     free(json);
+    if (of.is_named && gabro_name_sections(&session) != GABRO_DONE) {
+        fputs("timing: the sections are not named\n", stderr);
+        return 2;
+    }
     time_of_key("shift-F");
     if (of.shows_both) {
         time_of_key("view");
