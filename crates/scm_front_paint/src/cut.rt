@@ -1,7 +1,9 @@
 //! A cut of a screen with its labels: a grid of the columns from a column on.
-ghost use Rattle.std.specs.Prelude.{◌≡◌, [], ℕ, ◌+◌, ◌-◌, ◌<◌, ◌≤◌, IfErr, IfOk, IsTrue, OnOk, length, option_map, slice_index_or};
-ghost use Rattle.scm_cells.specs.Symbols.{symbol_at, symbol_in};
+ghost use Rattle.std.specs.Prelude.{◌≡◌, [], ◌∷◌, ℕ, ◌+◌, ◌-◌, ◌^◌, ◌<◌, ◌≤◌, IfErr, IfOk, IsTrue, OnOk, Some, length, max, min, option_map};
+ghost use Rattle.scm_errors.specs.declared.error.RecordError.TheVariants.{OutOfMemory};
+ghost use Rattle.scm_cells.specs.Symbols.{symbol_at, symbol_in, symbol_of};
 ghost use Rattle.scm_front_paint.specs.Cut.{CutFails, IsCut, IsCutRow, IsLead, KeepsOthers, cut_symbol};
+ghost use Rattle.scm_front_paint.specs.Labels.{symbol_under};
 ghost use Rattle.scm_front_paint.specs.Source.{symbols_in};
 
 use crate::source::Source;
@@ -37,77 +39,143 @@ fn is_same(symbol: Option<&str>, other: Option<&str>) -> bool
     }
 }
 
-/// Returns the symbol at column `column` of the cut of row `row`, whose first `lead` columns are blank.
-fn cut_symbol<'a>(
-    source: &Source<'a>,
-    x: usize,
-    row: usize,
-    lead: usize,
-    column: usize,
-) -> Option<&'a str>
-    requires { column < (symbols_in source.now).width - x }
-    ensures { option_map (λ s. s.now) result
-        ≡ cut_symbol (symbols_in source.now) x row lead column }
+/// Returns whether `own` and `other` have the same printable character of ASCII.
+fn has_same_letter(own: &Column, other: &Column) -> bool
+    ensures { IsTrue result → symbol_of own.now ≡ symbol_of other.now }
 {
-    if column < lead {
-        return Some(" ");
-    }
-    let _width = source.width();
-    source.symbol(row, x + column)
-}
-
-/// Returns whether `columns` and `others` have the same printable character of ASCII at `column`.
-fn has_same_letter(columns: &[Column], others: &[Column], column: usize) -> bool
-    ensures { IsTrue result → symbol_in columns.now column ≡ symbol_in others.now column }
-{
-    match (columns.get(column), others.get(column)) {
-        (Some(own), Some(other)) => match (own.ascii(), other.ascii()) {
-            (Some(byte), Some(same)) => byte == same,
-            (None, _) | (_, None) => false,
+    match own.ascii() {
+        None => false,
+        Some(byte) => match other.ascii() {
+            None => false,
+            Some(same) => byte == same,
         },
-        (None, _) | (_, None) => false,
     }
 }
 
-/// Returns whether `cut` and `grid` have the same symbol at `row`, `column`. `columns` and `others` are those of the row.
-fn is_same_place(
-    cut: &Grid,
-    grid: &Grid,
-    columns: &[Column],
-    others: &[Column],
-    row: usize,
-    column: usize,
-) -> bool
-    requires columns { columns.now ≡ slice_index_or cut.now.rows row [] }
-    requires others { others.now ≡ slice_index_or grid.now.rows row [] }
-    ensures { IsTrue result
-        → symbol_at cut.now.rows row column ≡ symbol_at grid.now.rows row column }
+/// Returns the first column from `from` on, before `end`, where `columns` are not known to have the symbol that
+/// `others` have `x` columns further right. If there is none, returns a column from `end` on, or one behind the end
+/// of `columns` or of `others`.
+fn end_of_same(columns: &[Column], others: &[Column], x: usize, from: usize, end: usize) -> usize
+    ensures low { from ≤ result }
+    ensures same { (c : ℕ) → from ≤ c → c < result
+        → symbol_in columns.now c ≡ symbol_in others.now (x + c) }
 {
-    has_same_letter(columns, others, column)
-        || is_same(cut.symbol(row, column), grid.symbol(row, column))
+    let stop = end.min(columns.len()).min(others.len().saturating_sub(x));
+    let mut column = from;
+    'letters: while column < stop {
+        if !has_same_letter(&columns[column], &others[x + column]) {
+            return column;
+        }
+        column += 1;
+    }
+    column
 }
 
-/// Returns whether row `row` of `cut` has the symbols of that row of `grid`.
-fn is_same_row(cut: &Grid, grid: &Grid, row: usize) -> bool
-    ensures { IsTrue result → (c : ℕ) → c < grid.now.width
-        → symbol_at cut.now.rows row c ≡ symbol_at grid.now.rows row c }
+/// A row of a grid.
+#[derive(Clone, Copy)]
+struct RowOf<'a> {
+    /// The grid.
+    grid: &'a Grid,
+    /// The row, counted from 0.
+    row: usize,
+}
+
+/// Returns whether `own` has at the columns `from..end` the symbols that `other` has `x` columns further right.
+fn is_same_part(own: RowOf<'_>, other: RowOf<'_>, x: usize, from: usize, end: usize) -> bool
+    requires { x + end < 2 ^ 64 }
+    ensures { IsTrue result → (c : ℕ) → from ≤ c → c < end
+        → symbol_at own.entry.grid.now.rows own.entry.row c ≡ symbol_at other.entry.grid.now.rows other.entry.row (x + c) }
 {
-    let columns = cut.columns(row);
-    let others = grid.columns(row);
-    for column in 0..grid.width() {
-        if !is_same_place(cut, grid, columns, others, row, column) {
+    let columns = own.grid.columns(own.row);
+    let others = other.grid.columns(other.row);
+    let mut column = end_of_same(columns, others, x, from, end);
+    'places: while column < end {
+        let symbol = own.grid.symbol(own.row, column);
+        if !is_same(symbol, other.grid.symbol(other.row, x + column)) {
+            return false;
+        }
+        column = end_of_same(columns, others, x, column + 1, end);
+    }
+    true
+}
+
+/// Returns whether the first `lead` columns of `own` are blank.
+fn is_blank_part(own: RowOf<'_>, lead: usize) -> bool
+    ensures { IsTrue result → (c : ℕ) → c < lead
+        → symbol_at own.entry.grid.now.rows own.entry.row c ≡ Some (32 ∷ []) }
+{
+    for column in 0..lead {
+        if !is_same(own.grid.symbol(own.row, column), Some(" ")) {
             return false;
         }
     }
     true
 }
 
-/// Returns whether row `row` of `source` shows no label, and `cut` has all its columns: `x` and `lead` are 0.
-fn is_whole_row(cut: &Grid, source: &Source<'_>, x: usize, row: usize, lead: usize) -> bool
-    ensures { IsTrue result → (c : ℕ) → c < (symbols_in source.now).width - x
-        → symbol_at cut.now.rows row c ≡ cut_symbol (symbols_in source.now) x row lead c }
+/// Returns the first column of a cut from column `x` on that shows a label, if its first `lead` columns are blank.
+fn label_start(x: usize, lead: usize) -> usize
+    ensures { result ≡ max (6 - x) lead }
 {
-    x == 0 && lead == 0 && source.is_unlabelled(row) && is_same_row(cut, source.grid, row)
+    6_usize.saturating_sub(x).max(lead)
+}
+
+/// Returns the column of a cut from column `x` on before which `label` ends, if the cut ends before column `end`.
+fn label_end(label: &Grid, x: usize, end: usize) -> usize
+    ensures { result ≡ min (label.now.width - x) end }
+{
+    label.width().saturating_sub(x).min(end)
+}
+
+/// Returns whether `own` has at the columns `lead..end` the symbols that `under` has `x` columns further right, with
+/// `label` over them.
+fn is_labelled_part(
+    own: RowOf<'_>,
+    under: RowOf<'_>,
+    label: &Grid,
+    x: usize,
+    lead: usize,
+    end: usize,
+) -> bool
+    requires { x + end < 2 ^ 64 }
+    ensures { IsTrue result → (c : ℕ) → lead ≤ c → c < end
+        → symbol_at own.entry.grid.now.rows own.entry.row c ≡ symbol_under (Some label.now) (x + c)
+        (symbol_at under.entry.grid.now.rows under.entry.row (x + c)) }
+{
+    let start = label_start(x, lead);
+    let stop = label_end(label, x, end);
+    let title = RowOf {
+        grid: label,
+        row: 0,
+    };
+    let is_before = is_same_part(own, under, x, lead, start.min(end));
+    let is_title = is_same_part(own, title, x, start, stop);
+    let is_behind = is_same_part(own, under, x, stop.max(start), end);
+    // `&`: one branch for the prover
+    is_before & is_title & is_behind
+}
+
+/// Returns whether `own` has at the columns `lead..end` the symbols that row `row` of `source` has `x` columns further
+/// right.
+fn is_rest(
+    own: RowOf<'_>,
+    source: &Source<'_>,
+    x: usize,
+    row: usize,
+    lead: usize,
+    end: usize,
+) -> bool
+    requires { x + end < 2 ^ 64 }
+    ensures { IsTrue result → (c : ℕ) → lead ≤ c → c < end
+        → symbol_at own.entry.grid.now.rows own.entry.row c ≡ (symbols_in source.now).at row (x + c) }
+{
+    let under = RowOf {
+        grid: source.grid,
+        row,
+    };
+    match source.label(row) {
+        None => is_same_part(own, under, x, lead, end),
+        Some(label) => is_labelled_part(own, under, label, x, lead, end),
+    }
 }
 
 /// Returns whether row `row` of `cut` has the columns of that row of `source` from `x` on. The first `lead`
@@ -116,20 +184,132 @@ fn is_cut_row(cut: &Grid, source: &Source<'_>, x: usize, row: usize, lead: usize
     ensures { IsTrue result → (c : ℕ) → c < (symbols_in source.now).width - x
         → symbol_at cut.now.rows row c ≡ cut_symbol (symbols_in source.now) x row lead c }
 {
-    if is_whole_row(cut, source, x, row, lead) {
-        return true;
-    }
-    let columns = source.width().saturating_sub(x);
-    for column in 0..columns {
-        let symbol = cut.symbol(row, column);
-        if !is_same(symbol, cut_symbol(source, x, row, lead, column)) {
-            return false;
-        }
-    }
-    true
+    let end = source.width().saturating_sub(x);
+    let own = RowOf { grid: cut, row };
+    let is_blank = is_blank_part(own, lead);
+    let is_rest = is_rest(own, source, x, row, lead, end);
+    // `&`: one branch for the prover
+    is_blank & is_rest
 }
 
-/// Puts the symbols of row `row` of `source` from column `x` on on that row of `cut`.
+/// Appends to `letters` the printable characters of ASCII of `others` from column `x + from` on, up to the first
+/// other symbol, and the first that `columns` have `x` columns further left. No more than up to column `x + end`.
+///
+/// # Errors
+///
+/// - `OutOfMemory`: an allocation failed.
+fn push_letters(
+    letters: &mut String,
+    columns: &[Column],
+    others: &[Column],
+    x: usize,
+    from: usize,
+    end: usize,
+) -> Result<(), RecordError>
+    ensures err { IfErr result (λ e. e ≡ OutOfMemory) }
+{
+    let stop = end.min(columns.len()).min(others.len().saturating_sub(x));
+    for column in from..stop {
+        let Some(byte) = others[x + column].ascii() else {
+            return Ok(());
+        };
+        if columns[column].ascii() == Some(byte) {
+            return Ok(());
+        }
+        letters.push(byte as char)?;
+    }
+    Ok(())
+}
+
+/// Returns `letters`, or if there are none the symbol of `other` at column `column`.
+fn letters_or_symbol<'a>(letters: &'a str, other: RowOf<'a>, column: usize) -> &'a str {
+    if !letters.is_empty() {
+        return letters;
+    }
+    match other.grid.symbol(other.row, column) {
+        None => "",
+        Some(symbol) => symbol,
+    }
+}
+
+/// Puts `text` on row `row` of `cut` from column `column` on.
+fn put_text(cut: &mut Grid, row: usize, column: usize, text: &str) -> Result<(), RecordError>
+    requires row { row < length cut.old.rows }
+    requires column { column < cut.old.width }
+    ensures others { OnOk result (KeepsOthers cut.old cut.new row) }
+    ensures err { IfErr result (λ e. CutFails e) }
+{
+    let width = cut.width();
+    cut.put(row, 0_isize.strict_add_unsigned(column), text, 0, width)?;
+    Ok(())
+}
+
+/// Puts on the columns `from..end` of row `row` of `cut` the symbols that `other` has `x` columns further right, where
+/// they differ. `letters` is room for them.
+fn put_part(
+    cut: &mut Grid,
+    row: usize,
+    letters: &mut String,
+    other: RowOf<'_>,
+    x: usize,
+    from: usize,
+    end: usize,
+) -> Result<(), RecordError>
+    requires row { row < length cut.old.rows }
+    requires end { end ≤ cut.old.width }
+    ensures others { OnOk result (KeepsOthers cut.old cut.new row) }
+    ensures err { IfErr result (λ e. CutFails e) }
+{
+    let others = other.grid.columns(other.row);
+    let mut column = end_of_same(cut.columns(row), others, x, from, end);
+    'places: while column < end {
+        letters.clear();
+        push_letters(letters, cut.columns(row), others, x, column, end)?;
+        let text = letters_or_symbol(letters.as_str(), other, x.saturating_add(column));
+        put_text(cut, row, column, text)?;
+        let next = column.saturating_add(letters.len().max(1));
+        column = end_of_same(cut.columns(row), others, x, next, end);
+    }
+    Ok(())
+}
+
+/// Puts on row `row` of `cut` what differs there from the columns of that row of `source` from `x` on. The first `lead`
+/// of them are blank.
+fn put_changes(
+    alloc: Global,
+    cut: &mut Grid,
+    source: &Source<'_>,
+    x: usize,
+    row: usize,
+    lead: usize,
+) -> Result<(), RecordError>
+    requires row { row < length cut.old.rows }
+    requires width { cut.old.width ≡ (symbols_in source.now).width - x }
+    ensures others { OnOk result (KeepsOthers cut.old cut.new row) }
+    ensures err { IfErr result (λ e. CutFails e) }
+{
+    let end = source.width().saturating_sub(x);
+    let under = RowOf {
+        grid: source.grid,
+        row,
+    };
+    let mut letters = String::with_capacity(alloc, end)?;
+    cut.put_blank(row, 0, lead, 0, end);
+    let Some(label) = source.label(row) else {
+        return put_part(cut, row, &mut letters, under, x, lead, end);
+    };
+    let title = RowOf {
+        grid: label,
+        row: 0,
+    };
+    let start = label_start(x, lead);
+    let stop = label_end(label, x, end);
+    put_part(cut, row, &mut letters, under, x, lead, start.min(end))?;
+    put_part(cut, row, &mut letters, title, x, start, stop)?;
+    put_part(cut, row, &mut letters, under, x, stop.max(start), end)
+}
+
+/// Puts the symbols of row `row` of `source` from column `x` on on that row of `cut`, each by itself.
 fn put_row(cut: &mut Grid, source: &Source<'_>, x: usize, row: usize) -> Result<(), RecordError>
     requires row { row < length cut.old.rows }
     requires width { cut.old.width ≡ (symbols_in source.now).width - x }
@@ -172,6 +352,10 @@ fn cut_row(
     ensures err { IfErr result (λ e. CutFails e) }
 {
     let lead = lead_of(source, x, row);
+    if is_cut_row(cut, source, x, row, lead) {
+        return Ok(());
+    }
+    put_changes(alloc, cut, source, x, row, lead)?;
     if is_cut_row(cut, source, x, row, lead) {
         return Ok(());
     }

@@ -1,20 +1,20 @@
 //! Rows of a session's screen that name a section, and the labels that they show.
-ghost use Rattle.std.specs.Prelude.{◌≡◌, ℕ, IfErr, IfOk, List, None, Some, false, if◌then◌else◌, length};
+ghost use Rattle.std.specs.Prelude.{◌≡◌, ℕ, IfErr, IfOk, List, None, Some, false, if◌then◌else◌, is_some, length, slice_index_or};
+ghost use Rattle.std.specs.List.{list_any};
+ghost use Rattle.std.specs.Option.{option_or};
 ghost use Rattle.scm_errors.specs.declared.error.RecordError.TheVariants.{OutOfMemory};
 ghost use Rattle.scm_cells.specs.Screen.{Screen};
 ghost use Rattle.scm_cells.specs.Symbols.{symbol_at};
 ghost use Rattle.scm_record.specs.Live.{Live};
 ghost use Rattle.scm_record.specs.Painted.{screen_of};
 ghost use Rattle.scm_front_paint.specs.declared.labels.Label.{Label};
-ghost use Rattle.scm_front_paint.specs.Headers.{AreRows, IsLabelledHeader, folded_by, header_on, label_on, labelled, last_owner, section_of_key, text_of_header, title_end, toggled_by};
+ghost use Rattle.scm_front_paint.specs.Headers.{AreRows, IsLabelledHeader, box_owner, folded_by, header_on, label_on, labelled, last_owner, section_of_key, text_of_header, title_end, toggled_by};
 ghost use Rattle.scm_front_paint.specs.Labels.{is_of, is_title, text_of, with_label};
 
-use crate::labels::label_grid;
 use crate::section_labels::SectionLabels;
+use crate::shown_label::{ShownLabel, label_with};
 use crate::source::has_title;
-use crate::status::with_replacements;
 use crate::words::is_bare;
-use scm_cells::Grid;
 use scm_record::{ComponentId, LiveSession, RecordError, SectionKey, SelectionKey};
 use std::alloc::Global;
 
@@ -86,26 +86,46 @@ fn folded_on(session: &LiveSession<'_>, row: usize) -> Option<SectionKey>
     folded_by(session.owner(row, column))
 }
 
+/// Returns the section that the end of row `row` of the screen of `session` folds, which is `folded`, or else the
+/// one that a checkbox on the row toggles, if there is one.
+fn folded_or_toggled(
+    session: &LiveSession<'_>,
+    folded: Option<SectionKey>,
+    row: usize,
+) -> Option<SectionKey>
+    ensures { result ≡ option_or folded (toggled_by (box_owner session.now row)) }
+{
+    match folded {
+        Some(key) => Some(key),
+        None => toggled_by(session.owner(row, 2)),
+    }
+}
+
 /// Returns the section that row `row` of the screen of `session` names, if it names one and nothing lies
-/// over the rows.
-fn header_on(session: &LiveSession<'_>, row: usize) -> Option<SectionKey>
+/// over the rows. `folded` is the section that a click at the end of the row folds, if it does.
+fn header_on(
+    session: &LiveSession<'_>,
+    folded: Option<SectionKey>,
+    row: usize,
+) -> Option<SectionKey>
+    requires { folded ≡ folded_by (last_owner session.now row) }
     ensures { result ≡ header_on session.now row }
 {
     if is_bare(session) {
-        let folded = folded_on(session, row);
-        let toggled = toggled_by(session.owner(row, 2));
-        folded.or(toggled)
+        folded_or_toggled(session, folded, row)
     } else {
         None
     }
 }
 
-/// Returns the column before which the title of a section ends on row `row` of the screen of `session`.
-fn title_end(session: &LiveSession<'_>, row: usize) -> u16
-    ensures { result ≡ title_end session.now row }
+/// Returns the column before which the title of a section ends on row `row` of the screen of `session`. `folded`
+/// is the section that a click at the end of the row folds, if it does.
+fn title_end(session: &LiveSession<'_>, folded: Option<SectionKey>, _row: usize) -> u16
+    requires { folded ≡ folded_by (last_owner session.now _row) }
+    ensures { result ≡ title_end session.now _row }
 {
     let width = session.grid().width() as u16;
-    if folded_on(session, row).is_some() {
+    if folded.is_some() {
         width.saturating_sub(3)
     } else {
         width
@@ -123,43 +143,64 @@ fn text_of_header(labels: &SectionLabels, section: Option<SectionKey>) -> &str
 }
 
 /// Returns the row of the label that row `row` of the screen of `session` shows, if it names a section that
-/// has one.
+/// has one: what is in `kept`, if that has it.
 fn label_on(
     alloc: Global,
     labels: &SectionLabels,
     session: &LiveSession<'_>,
+    kept: &mut [Option<ShownLabel>],
     row: usize,
-) -> Result<Option<Grid>, RecordError>
+) -> Result<Option<ShownLabel>, RecordError>
     ensures ok { IfOk result (λ label. label ≡ label_on labels.now session.now row) }
     ensures err { IfErr result (λ e. e ≡ OutOfMemory) }
 {
-    let text = text_of_header(labels, header_on(session, row));
-    let end = title_end(session, row);
+    let folded = folded_on(session, row);
+    let text = text_of_header(labels, header_on(session, folded, row));
+    let end = title_end(session, folded, row);
     if text.is_empty() || !has_title(session.grid(), row, end as usize) {
         return Ok(None);
     }
-    let shown = with_replacements(alloc, text)?;
-    let label = label_grid(alloc, end, shown.as_str())?;
-    Ok(Some(label))
+    Ok(Some(label_with(alloc, kept, row, end, text)?))
 }
 
-/// Returns the rows of the labels over the screen of `session`: none if there are no labels.
+/// Returns whether one of `rows` has a label.
+fn has_label(rows: &[Option<ShownLabel>]) -> bool
+    ensures { result ≡ list_any is_some rows.now }
+{
+    rows.iter().any(|row| row.is_some())
+}
+
+/// Returns `rows`, or none if none of them has a label.
+fn labelled_rows(alloc: Global, rows: Vec<Option<ShownLabel>>) -> Vec<Option<ShownLabel>>
+    ensures { (k : ℕ) → slice_index_or result.items k None ≡ slice_index_or rows.items k None }
+{
+    if has_label(rows.as_slice()) {
+        rows
+    } else {
+        Vec::new(alloc)
+    }
+}
+
+/// Returns the rows of the labels over the screen of `session`, of which `kept` were on the screen before: none if
+/// no row shows a label.
 pub(crate) fn label_rows(
     alloc: Global,
     labels: &SectionLabels,
     session: &LiveSession<'_>,
-) -> Result<Vec<Option<Grid>>, RecordError>
+    kept: Vec<Option<ShownLabel>>,
+) -> Result<Vec<Option<ShownLabel>>, RecordError>
     ensures ok { IfOk result (λ rows. AreRows labels.now session.now rows.items) }
     ensures err { IfErr result (λ e. e ≡ OutOfMemory) }
 {
+    let mut kept = kept;
     let mut rows = Vec::new(alloc);
     if labels.is_empty() {
         return Ok(rows);
     }
     for row in 0..session.grid().height() {
-        rows.push(label_on(alloc, labels, session, row)?)?;
+        rows.push(label_on(alloc, labels, session, kept.as_mut_slice(), row)?)?;
     }
-    Ok(rows)
+    Ok(labelled_rows(alloc, rows))
 }
 
 /// Proves that labels change the titles of sections alone.

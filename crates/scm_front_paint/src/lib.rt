@@ -23,6 +23,7 @@ mod restyling;
 mod screen_text;
 mod section_labels;
 mod shown;
+mod shown_label;
 mod source;
 mod status;
 mod status_painter;

@@ -19,6 +19,7 @@ use crate::labels::Label;
 use crate::line_words::LineWords;
 use crate::section_labels::SectionLabels;
 use crate::shown::{Moved, Shown};
+use crate::shown_label::ShownLabel;
 use crate::source::Source;
 use crate::status::{left_of, right_of};
 use crate::status_painter::StatusPainter;
@@ -34,7 +35,7 @@ use std::mem::replace;
 fn paint_whole(
     painter: &mut Painter,
     shown: &Shown<'_, '_>,
-    labels: &[Option<Grid>],
+    labels: &[Option<ShownLabel>],
     grid: &Grid,
     x: usize,
 ) -> Result<String, RecordError>
@@ -145,7 +146,7 @@ fn paint_session(
     alloc: Global,
     session: &mut SessionPainter,
     shown: &Shown<'_, '_>,
-    labels: &[Option<Grid>],
+    labels: &[Option<ShownLabel>],
     x: usize,
 ) -> Result<String, RecordError>
     ensures ok { IfOk result (λ text. Paints (columns_of shown.now.session.now.kind - x)
@@ -215,6 +216,8 @@ pub struct FrontPainter {
     status: StatusPainter,
     /// What is set off on each row of the session's screen that was painted last.
     words: Vec<Option<LineWords>>,
+    /// The rows of labels that were painted last.
+    label_rows: Vec<Option<ShownLabel>>,
     /// The columns and rows of the session that were painted last, if any.
     size: Option<(usize, usize)>,
 }
@@ -237,6 +240,7 @@ impl FrontPainter {
             },
             status: StatusPainter::new(alloc),
             words: Vec::new(alloc),
+            label_rows: Vec::new(alloc),
             size: None,
         }
     }
@@ -347,7 +351,8 @@ impl FrontPainter {
         let right = right_of(self.alloc, view.front(), width, &left, x, accept)?;
         let kept = replace(&mut self.words, Vec::new(self.alloc));
         let words = words_of(self.alloc, session, kept)?;
-        let labels = label_rows(self.alloc, &self.labels, session)?;
+        let kept = replace(&mut self.label_rows, Vec::new(self.alloc));
+        let labels = label_rows(self.alloc, &self.labels, session, kept)?;
         self.keep_size(width as usize, height as usize);
         let mut text = self
             .status
@@ -361,6 +366,7 @@ impl FrontPainter {
         let rows = paint_session(self.alloc, &mut self.session, &shown, labels.as_slice(), x)?;
         text.push_str(rows.as_str())?;
         self.words = words;
+        self.label_rows = labels;
         Ok(text)
     }
 

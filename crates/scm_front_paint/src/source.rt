@@ -1,10 +1,11 @@
 //! What a terminal shows of a session's screen: its symbols, with labels over its rows.
-ghost use Rattle.std.specs.Prelude.{◌≡◌, IsTrue, None, option_map, slice_index_or};
+ghost use Rattle.std.specs.Prelude.{◌≡◌, None, option_map, slice_index_or};
 ghost use Rattle.scm_cells.specs.Screen.{IsScreen};
 ghost use Rattle.scm_front_paint.specs.Labels.{has_title, is_title, symbol_under};
 ghost use Rattle.scm_front_paint.specs.Source.{symbols_in};
 ghost use Rattle.scm_front_paint.specs.Symbols.{symbols_of};
 
+use crate::shown_label::ShownLabel;
 use scm_cells::Grid;
 
 /// A screen, and the labels over its rows.
@@ -13,7 +14,7 @@ pub(crate) struct Source<'a> {
     /// The screen.
     pub(crate) grid: &'a Grid,
     /// For each row the row of its label, if it has one. None has one behind the end of the list.
-    pub(crate) labels: &'a [Option<Grid>],
+    pub(crate) labels: &'a [Option<ShownLabel>],
 }
 
 /// Returns whether `column` is one of a section's title, which ends before column `end`.
@@ -36,11 +37,11 @@ pub(crate) fn has_title(grid: &Grid, row: usize, end: usize) -> bool
 }
 
 /// Returns the row of the label on row `row`, if there is one.
-fn label_at(labels: &[Option<Grid>], row: usize) -> Option<&Grid>
+fn label_at(labels: &[Option<ShownLabel>], row: usize) -> Option<&Grid>
     ensures { option_map (λ g. g.now) result ≡ slice_index_or labels.now row None }
 {
     match labels.get(row) {
-        Some(Some(label)) => Some(label),
+        Some(Some(label)) => Some(label.grid()),
         Some(None) | None => None,
     }
 }
@@ -62,18 +63,18 @@ impl<'a> Source<'a> {
         self.grid.height()
     }
 
-    /// Returns whether row `row` shows no label.
-    pub(crate) fn is_unlabelled(&self, row: usize) -> bool
-        ensures { IsTrue result → slice_index_or self.now.labels.now row None ≡ None }
+    /// Returns the row of the label on row `row`, if there is one.
+    pub(crate) fn label(&self, row: usize) -> Option<&'a Grid>
+        ensures { option_map (λ g. g.now) result ≡ slice_index_or self.now.labels.now row None }
     {
-        label_at(self.labels, row).is_none()
+        label_at(self.labels, row)
     }
 
     /// Returns the symbol that begins at `row` and `column`, if one does.
     pub(crate) fn symbol(&self, row: usize, column: usize) -> Option<&'a str>
         ensures { option_map (λ s. s.now) result ≡ (symbols_in self.now).at row column }
     {
-        match label_at(self.labels, row) {
+        match self.label(row) {
             Some(label) if is_title(label.width(), column) => label.symbol(0, column),
             Some(_) | None => self.grid.symbol(row, column),
         }

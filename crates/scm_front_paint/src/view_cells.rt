@@ -15,6 +15,7 @@ use crate::cut::cut_of;
 use crate::headers::label_rows;
 use crate::painter::{FrontPainter, rows_of, width_of};
 use crate::shown::{Moved, Shown};
+use crate::shown_label::ShownLabel;
 use crate::source::Source;
 use crate::status::{LeftText, left_of, right_of, status_grid};
 use crate::status_painter::StatusStyles;
@@ -51,7 +52,7 @@ fn push_session(
     alloc: Global,
     list: &mut CellList,
     shown: &Shown<'_, '_>,
-    labels: &[Option<Grid>],
+    labels: &[Option<ShownLabel>],
     x: usize,
 ) -> Result<(), RecordError>
     ensures ok { OnOk result (AddsRows (sideways_picture x (style_in shown.now)
@@ -108,7 +109,7 @@ impl FrontPainter {
         let x = view.offset() as usize;
         let right = right_of(alloc, view.front(), width, &left, x, accept)?;
         let words = words_of(alloc, session, Vec::new(alloc))?;
-        let labels = label_rows(alloc, &self.labels, session)?;
+        let labels = label_rows(alloc, &self.labels, session, Vec::new(alloc))?;
         let shown = Shown {
             session,
             words: words.as_slice(),
