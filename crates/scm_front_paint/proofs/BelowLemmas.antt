@@ -18,6 +18,7 @@ use Rattle.scm_front_paint.specs.declared.columns.Columns.{Columns}
 use Rattle.scm_front_paint.specs.Pane.{offset}
 use Rattle.scm_front_paint.specs.Seen.{Seen}
 use Rattle.scm_front_paint.specs.Status.{left_of, right_of}
+use Rattle.scm_front_paint.specs.Syntax.{Lines}
 use Rattle.scm_front_paint.specs.Blank.{Begins, PaintsLast, blank_cells, blank_picture, blanking, from_blanks, from_known}
 use Rattle.scm_front_paint.specs.Below.{Pictures, PaintsBoth, AreWhole, ShowsBoth, Before, anything, painted, LeadsToBoth, StayApart, rows_shown, shown_style, width_of, view_pictures}
 use Rattle.scm_front_paint.proofs.SidewaysLemmas.{sideways-size}
@@ -374,10 +375,10 @@ both-written p =
 
 -- ---- the pictures of a front
 
-pub view-whole : (theme : Theme) (words : List (List Columns)) (labels : List Label) (v : Seen) (accept : List ℕ)
-    → AreWhole (width_of v) (rows_shown v.front.beneath) (view_pictures theme words labels v accept)
-view-whole theme words labels v accept = record {
-  session = sideways-size (offset v.pane v.front.beneath) (shown_style theme v.front.kept.anchor words v.front.beneath) (labelled labels v.front.beneath);
+pub view-whole : (theme : Theme) (words : List (List Columns)) (lines : Lines) (labels : List Label) (v : Seen) (accept : List ℕ)
+    → AreWhole (width_of v) (rows_shown v.front.beneath) (view_pictures theme words lines labels v accept)
+view-whole theme words lines labels v accept = record {
+  session = sideways-size (offset v.pane v.front.beneath) (shown_style theme v.front.kept.anchor words lines v.front.beneath) (labelled labels v.front.beneath);
   status = status-size (width_of v) (rows_shown v.front.beneath) (left_of v.front) (right_of v.front (width_of v) (left_of v.front) (offset v.pane v.front.beneath) accept);
   blank = status-above (width_of v) (rows_shown v.front.beneath) (left_of v.front) (right_of v.front (width_of v) (left_of v.front) (offset v.pane v.front.beneath) accept);
 }

@@ -27,6 +27,13 @@ pub mod ViewLemmas
 pub mod PaintLemmas
 -- the styles of a row
 pub mod ShownLemmas
+-- the spans of a line, and the keys of lines
+pub mod SyntaxLemmas
+pub mod SyntaxKeyLemmas
+-- what spans leave as it is
+pub mod SyntaxLawLemmas
+-- spans of a line, computed
+pub mod SyntaxExamples
 -- labels of sections
 pub mod LabelLemmas
 pub mod LabelOrderLemmas

@@ -29,6 +29,7 @@ use Rattle.scm_front_paint.specs.Headers.{AreRows, labelled}
 use Rattle.scm_front_paint.specs.Labels.{symbol_under, symbols_over}
 use Rattle.scm_front_paint.specs.LineValue.{LineValue}
 use Rattle.scm_front_paint.specs.Symbols.{symbols_of}
+use Rattle.scm_front_paint.specs.Syntax.{Lines}
 use Rattle.scm_front_paint.specs.declared.status.LeftText.{LeftText}
 use Rattle.scm_front_paint.specs.Status.{left_of, right_of, status_picture}
 use Rattle.scm_front_paint.specs.Words.{AreWords}
@@ -169,33 +170,34 @@ last-from width wide old known next picture bytes e k f p =
 abbrev pictures : List (List StyledCell) → List (List StyledCell) → Pictures
 pictures s t = record { session = s; status = t }
 
-module _ (old kept new : FrontPainter) (v : Seen) (accept bytes first second : List ℕ) (l : Live) (w h x : ℕ) (theme : Theme) (anchor : SelectionKey)
+module _ (old kept new : FrontPainter) (v : Seen) (accept bytes first second : List ℕ) (l : Live) (w h x : ℕ) (theme : Theme) (lines : Lines) (anchor : SelectionKey)
     (slice items : List (Option LineValue)) (labels rows : List (Option Screen)) (left : LeftText) (right : List ℕ) where
   abbrev painted_rows : List (List StyledCell)
-  painted_rows = sideways_picture x (shown_style theme anchor (map columns_in slice) l) (symbols_over labels (screen_of l))
+  painted_rows = sideways_picture x (shown_style theme anchor (map columns_in slice) lines l) (symbols_over labels (screen_of l))
 
   -- the labels are those that the rows show
-  labels-are : labels ≡ rows → AreRows old.labels l rows → painted_rows ≡ sideways_picture x (shown_style theme anchor (map columns_in slice) l) (labelled old.labels l)
+  labels-are : labels ≡ rows → AreRows old.labels l rows → painted_rows ≡ sideways_picture x (shown_style theme anchor (map columns_in slice) lines l) (labelled old.labels l)
   labels-are e are =
-      ap (λ (list : List (Option Screen)). sideways_picture x (shown_style theme anchor (map columns_in slice) l) (symbols_over list (screen_of l))) e
-      ∙ same-symbols x (shown_style theme anchor (map columns_in slice) l) (symbols_over rows (screen_of l)) (labelled old.labels l) refl refl
+      ap (λ (list : List (Option Screen)). sideways_picture x (shown_style theme anchor (map columns_in slice) lines l) (symbols_over list (screen_of l))) e
+      ∙ same-symbols x (shown_style theme anchor (map columns_in slice) lines l) (symbols_over rows (screen_of l)) (labelled old.labels l) refl refl
       (λ row c h k. ap (λ (o : Option Screen). symbol_under o c (symbol_at (screen_of l).rows row c)) (are row h))
 
   -- what the code painted is the picture of the view
   pub paints-view : l ≡ v.front.beneath → w ≡ width_of v → h ≡ rows_shown v.front.beneath → x ≡ offset v.pane v.front.beneath
-      → theme ≡ old.theme → anchor ≡ v.front.kept.anchor → slice ≡ items → AreWords l (map columns_in items) → labels ≡ rows → AreRows old.labels l rows → left ≡ left_of v.front → right ≡ right_of v.front w left x accept
+      → theme ≡ old.theme → lines ≡ old.syntax → anchor ≡ v.front.kept.anchor → slice ≡ items → AreWords l (map columns_in items) → labels ≡ rows → AreRows old.labels l rows → left ≡ left_of v.front → right ≡ right_of v.front w left x accept
       → pictures_of kept ≡ known_to old w h → PaintsLast w kept.status (status_picture w h left right) first
       → Paints (columns_of l.kind - x) kept.session.painter painted_rows second → bytes ≡ first ++ second
-      → new.status ≡ status_picture w h left right → new.session.painter ≡ painted_rows → new.size ≡ Some (w, h) → new.theme ≡ theme → new.labels ≡ old.labels
+      → new.status ≡ status_picture w h left right → new.session.painter ≡ painted_rows → new.size ≡ Some (w, h) → new.theme ≡ theme → new.labels ≡ old.labels → new.syntax ≡ old.syntax
       → PaintsView old new v accept bytes
-  paints-view le we he xe te ae se are labels_are label_rows left_is right_is known_is first_paints second_paints written status_new session_new sized themed kept_labels =
-      let rows_are : painted_rows ≡ session_picture old.theme (map columns_in items) old.labels v =
+  paints-view le we he xe te ye ae se are labels_are label_rows left_is right_is known_is first_paints second_paints written status_new session_new sized themed kept_labels kept_syntax =
+      let rows_are : painted_rows ≡ session_picture old.theme (map columns_in items) old.syntax old.labels v =
       labels-are labels_are label_rows
-      ∙ ap (λ (n : ℕ). sideways_picture n (shown_style theme anchor (map columns_in slice) l) (labelled old.labels l)) xe
-      ∙ ap (λ (t : Theme). sideways_picture (offset v.pane v.front.beneath) (shown_style t anchor (map columns_in slice) l) (labelled old.labels l)) te
-      ∙ ap (λ (s : List (Option LineValue)). sideways_picture (offset v.pane v.front.beneath) (shown_style old.theme anchor (map columns_in s) l) (labelled old.labels l)) se
-      ∙ ap (λ (m : Live). sideways_picture (offset v.pane v.front.beneath) (shown_style old.theme anchor (map columns_in items) m) (labelled old.labels m)) le
-      ∙ ap (λ (key : SelectionKey). sideways_picture (offset v.pane v.front.beneath) (shown_style old.theme key (map columns_in items) v.front.beneath) (labelled old.labels v.front.beneath)) ae in
+      ∙ ap (λ (n : ℕ). sideways_picture n (shown_style theme anchor (map columns_in slice) lines l) (labelled old.labels l)) xe
+      ∙ ap (λ (t : Theme). sideways_picture (offset v.pane v.front.beneath) (shown_style t anchor (map columns_in slice) lines l) (labelled old.labels l)) te
+      ∙ ap (λ (s : List (Option LineValue)). sideways_picture (offset v.pane v.front.beneath) (shown_style old.theme anchor (map columns_in s) lines l) (labelled old.labels l)) se
+      ∙ ap (λ (m : Live). sideways_picture (offset v.pane v.front.beneath) (shown_style old.theme anchor (map columns_in items) lines m) (labelled old.labels m)) le
+      ∙ ap (λ (key : SelectionKey). sideways_picture (offset v.pane v.front.beneath) (shown_style old.theme key (map columns_in items) lines v.front.beneath) (labelled old.labels v.front.beneath)) ae
+      ∙ ap (λ (list : Lines). sideways_picture (offset v.pane v.front.beneath) (shown_style old.theme v.front.kept.anchor (map columns_in items) list v.front.beneath) (labelled old.labels v.front.beneath)) ye in
       let row :
       status_picture w h left right
       ≡ status_picture (width_of v) (rows_shown v.front.beneath) (left_of v.front)
@@ -225,4 +227,5 @@ module _ (old kept new : FrontPainter) (v : Seen) (accept bytes first second : L
         sized = sized ∙ ap₂ (λ (a b : ℕ). Some (a, b)) we he;
         same = themed ∙ te;
         same_labels = kept_labels;
+        same_syntax = kept_syntax;
       }

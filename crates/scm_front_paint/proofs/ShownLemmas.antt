@@ -11,28 +11,31 @@ use Rattle.scm_cells.specs.declared.style.Style.{Style}
 use Rattle.scm_terminal.specs.Style.{plain_style}
 use Rattle.scm_front_paint.specs.declared.themes.Theme.{Theme}
 use Rattle.scm_front_paint.specs.declared.columns.Columns.{Columns}
+use Rattle.scm_front_paint.specs.declared.runs.Run.{Run}
 use Rattle.scm_front_paint.specs.declared.restyling.Effect.{Effect}
 use Rattle.scm_front_paint.specs.declared.restyling.Effect.TheVariants.{SetOff}
 use Rattle.scm_front_paint.specs.Range.{underlined_if}
 use Rattle.scm_front_paint.specs.Restyling.{restyled_by, style_after}
+use Rattle.scm_front_paint.specs.Syntax.{with_runs}
 use Rattle.scm_front_paint.specs.Themes.{themed}
 use Rattle.scm_front_paint.specs.Words.{has_column, set_off, with_words}
 
 -- styles that were restyled place by place
-pub restyled : (theme : Theme) (columns own : List Columns) (is_in has : Bool) (style : ℕ → Style) (n : ℕ) (mid new : List Style) → columns ≡ own → is_in ≡ has
+pub restyled : (theme : Theme) (found runs : List Run) (columns own : List Columns) (is_in has : Bool) (style : ℕ → Style) (n : ℕ) (mid new : List Style) → found ≡ runs → columns ≡ own → is_in ≡ has
     → mid ≡ map style (range_with_len 0 n) → length new ≡ length mid
-    → ((c : ℕ) → c < length mid → get_or new c plain_style ≡ themed theme (underlined_if is_in (with_words columns c (get_or mid c plain_style))))
-    → new ≡ map (λ (c : ℕ). themed theme (underlined_if has (with_words own c (style c)))) (range_with_len 0 n)
-restyled theme columns own is_in has style n mid new e f m long each =
+    → ((c : ℕ) → c < length mid → get_or new c plain_style ≡ themed theme (underlined_if is_in (with_words columns c (with_runs found c (get_or mid c plain_style)))))
+    → new ≡ map (λ (c : ℕ). themed theme (underlined_if has (with_words own c (with_runs runs c (style c))))) (range_with_len 0 n)
+restyled theme found runs columns own is_in has style n mid new g e f m long each =
     let mid_long : length mid ≡ n = ap length m ∙ length-map (range_with_len 0 n) style ∙ length-range_with_len 0 n in
-    fill_by_all (λ (c : ℕ). themed theme (underlined_if has (with_words own c (style c)))) new n plain_style (long ∙ mid_long) (λ c h.
+    fill_by_all (λ (c : ℕ). themed theme (underlined_if has (with_words own c (with_runs runs c (style c))))) new n plain_style (long ∙ mid_long) (λ c h.
     let inside : c < length (range_with_len 0 n) = subst (λ (k : ℕ). c < k) (sym (length-range_with_len 0 n)) h in
     let is : get_or mid c plain_style ≡ style c =
     ap (λ (xs : List Style). get_or xs c plain_style) m ∙ get_or-map style (range_with_len 0 n) c 0 plain_style inside
     ∙ ap style (get_or-range_with_len 0 n c 0 h ∙ omega arith) in
-    each c (subst (λ (k : ℕ). c < k) (sym mid_long) h) ∙ ap (λ (s : Style). themed theme (underlined_if is_in (with_words columns c s))) is
-    ∙ ap (λ (cs : List Columns). themed theme (underlined_if is_in (with_words cs c (style c)))) e
-    ∙ ap (λ (b : Bool). themed theme (underlined_if b (with_words own c (style c)))) f)
+    each c (subst (λ (k : ℕ). c < k) (sym mid_long) h) ∙ ap (λ (s : Style). themed theme (underlined_if is_in (with_words columns c (with_runs found c s)))) is
+    ∙ ap (λ (rs : List Run). themed theme (underlined_if is_in (with_words columns c (with_runs rs c (style c))))) g
+    ∙ ap (λ (cs : List Columns). themed theme (underlined_if is_in (with_words cs c (with_runs runs c (style c))))) e
+    ∙ ap (λ (b : Bool). themed theme (underlined_if b (with_words own c (with_runs runs c (style c))))) f)
 
 -- ---- place by place
 

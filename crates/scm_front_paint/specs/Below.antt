@@ -20,6 +20,8 @@ use Rattle.scm_front_paint.specs.Pane.{offset}
 use Rattle.scm_front_paint.specs.Range.{has_row, underlined_if}
 use Rattle.scm_front_paint.specs.Seen.{Seen}
 use Rattle.scm_front_paint.specs.Sideways.{sideways_picture}
+use Rattle.scm_front_paint.specs.Syntax.{Lines, with_runs}
+use Rattle.scm_front_paint.specs.SyntaxRows.{runs_on}
 use Rattle.scm_front_paint.specs.Status.{left_of, right_of, status_picture}
 use Rattle.scm_front_paint.specs.Themes.{themed}
 use Rattle.scm_front_paint.specs.Words.{AreWords, with_words}
@@ -45,20 +47,21 @@ rows_shown l = length (scene_of l.kind l.session).frame.rows
 abbrev pub width_of : Seen → ℕ
 width_of v = columns_of v.front.beneath.kind - offset v.pane v.front.beneath
 
--- the style of a place of the window, where `words` are the columns that are set off on each row, and a range is begun at `anchor`
-abbrev pub shown_style : Theme → SelectionKey → List (List Columns) → Live → ℕ → ℕ → Style
-shown_style theme anchor words l row column =
-    themed theme (underlined_if (has_row l anchor row) (with_words (slice_index_or words row []) column (style_at l row column)))
+-- the style of a place of the window, where `words` are the columns that are set off on each row, `lines` have spans, and a range is begun at
+-- `anchor`: words, the range and the theme lie over spans
+abbrev pub shown_style : Theme → SelectionKey → List (List Columns) → Lines → Live → ℕ → ℕ → Style
+shown_style theme anchor words lines l row column =
+    themed theme (underlined_if (has_row l anchor row) (with_words (slice_index_or words row []) column (with_runs (runs_on lines l row) column (style_at l row column))))
 
 -- what the terminal shows of the session: the columns of its screen from the offset on, with labels in its headers
-abbrev pub session_picture : Theme → List (List Columns) → List Label → Seen → List (List StyledCell)
-session_picture theme words labels v =
-    sideways_picture (offset v.pane v.front.beneath) (shown_style theme v.front.kept.anchor words v.front.beneath) (labelled labels v.front.beneath)
+abbrev pub session_picture : Theme → List (List Columns) → Lines → List Label → Seen → List (List StyledCell)
+session_picture theme words lines labels v =
+    sideways_picture (offset v.pane v.front.beneath) (shown_style theme v.front.kept.anchor words lines v.front.beneath) (labelled labels v.front.beneath)
 
 -- the pictures of a view, whose status row says what accepting does by the text `accept`
-abbrev pub view_pictures : Theme → List (List Columns) → List Label → Seen → List ℕ → Pictures
-view_pictures theme words labels v accept = record {
-  session = session_picture theme words labels v;
+abbrev pub view_pictures : Theme → List (List Columns) → Lines → List Label → Seen → List ℕ → Pictures
+view_pictures theme words lines labels v accept = record {
+  session = session_picture theme words lines labels v;
   status =
       status_picture (width_of v) (rows_shown v.front.beneath) (left_of v.front) (right_of v.front (width_of v) (left_of v.front) (offset v.pane v.front.beneath) accept);
 }
@@ -90,11 +93,12 @@ pub record PaintsView (old new : FrontPainter) (v : Seen) (accept bytes : List �
   pub words : List (List Columns)
   pub are_words : AreWords v.front.beneath words
   pub paints :
-      PaintsBoth (width_of v) (known_to old (width_of v) (rows_shown v.front.beneath)) (view_pictures old.theme words old.labels v accept) bytes
-  pub painted : pictures_of new ≡ view_pictures old.theme words old.labels v accept
+      PaintsBoth (width_of v) (known_to old (width_of v) (rows_shown v.front.beneath)) (view_pictures old.theme words old.syntax old.labels v accept) bytes
+  pub painted : pictures_of new ≡ view_pictures old.theme words old.syntax old.labels v accept
   pub sized : new.size ≡ Some (width_of v, rows_shown v.front.beneath)
   pub same : new.theme ≡ old.theme
   pub same_labels : new.labels ≡ old.labels
+  pub same_syntax : new.syntax ≡ old.syntax
 
 -- ---- what a terminal shows
 

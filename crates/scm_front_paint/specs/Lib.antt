@@ -16,6 +16,14 @@ pub mod Words
 pub mod LineValue
 -- what the code's values of words represent
 pub mod WordsView
+-- syntax: what a host says of the parts of a line, and how it looks
+pub mod Syntax
+-- the order of the keys of lines
+pub mod SyntaxKeys
+-- the spans on the rows of a screen
+pub mod SyntaxRows
+-- what spans leave as it is
+pub mod SyntaxLaws
 -- labels of sections, in place of their numbers
 pub mod Labels
 -- the lines that sections stand in, and the labels that say them

@@ -9,7 +9,7 @@ use Rattle.scm_front_paint.specs.WordsView.{columns_in}
 
 -- the style of a place of the window
 abbrev pub style_in : Shown → ℕ → ℕ → Style
-style_in s row column = shown_style s.theme s.anchor (map columns_in s.words.now) s.session.now row column
+style_in s row column = shown_style s.theme s.anchor (map columns_in s.words.now) s.syntax.now s.session.now row column
 
 -- the style of a place of the terminal
 abbrev pub moved_style : Moved → ℕ → ℕ → Style

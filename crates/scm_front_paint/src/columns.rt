@@ -6,6 +6,7 @@ ghost use Rattle.scm_errors.specs.declared.error.RecordError.TheVariants.{OutOfM
 ghost use Rattle.scm_cells.specs.Clusters.{text_width};
 ghost use Rattle.scm_cells.specs.Spans.{span_texts};
 ghost use Rattle.scm_front_paint.specs.Capped.{capped};
+ghost use Rattle.scm_front_paint.specs.Syntax.{line_end};
 ghost use Rattle.scm_front_paint.specs.Words.{column_of, columns_of_bytes, has_column, set_off, shown_width, with_words};
 
 use scm_cells::{Span, push_first_spans, text_width};
@@ -71,6 +72,14 @@ pub(crate) fn columns_of_bytes(
         start: column_within(alloc, edge, text, start)?,
         end: column_within(alloc, edge, text, end)?,
     })
+}
+
+/// Returns the column of the window before which the text of a line ends, or 65,535 if it ends behind that.
+pub(crate) fn end_of_text(alloc: Global, text: &str) -> Result<usize, RecordError>
+    ensures ok { IfOk result (λ n. n ≡ line_end text.now) }
+    ensures err { IfErr result (λ e. e ≡ OutOfMemory) }
+{
+    column_within(alloc, 65_535, text, text.len())
 }
 
 /// Returns whether one of `columns` has column `column`.

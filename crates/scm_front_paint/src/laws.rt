@@ -1,7 +1,8 @@
 //! What is true of views and of what is painted of them.
-ghost use Rattle.std.specs.Prelude.{◌≡◌, ◌≤◌, ◌<◌, ℕ, ◌+◌, ◌∷◌, [], List, IsTrue, drop, slice_index_or};
+ghost use Rattle.std.specs.Prelude.{◌≡◌, ◌⊎◌, ◌≤◌, ◌<◌, ℕ, ◌+◌, ◌∷◌, [], List, IsTrue, true, false, drop, slice_index_or};
 ghost use Rattle.std.specs.List.{flat_map};
 ghost use Rattle.scm_types.specs.Limits.{is_accepted_state};
+ghost use Rattle.scm_types.specs.declared.keys.SelectionKey.{SelectionKey};
 ghost use Rattle.scm_types.specs.declared.state.RecordState.{RecordState};
 ghost use Rattle.scm_input.specs.declared.inputs.TerminalKind.{TerminalKind};
 ghost use Rattle.scm_cells.specs.Screen.{IsScreen, Screen};
@@ -10,18 +11,25 @@ ghost use Rattle.scm_terminal.specs.StyledCell.{First, Later, StyledCell, laters
 ghost use Rattle.scm_terminal.specs.Terminal.{Terminal, bytes_of};
 ghost use Rattle.scm_record.specs.Session.{start};
 ghost use Rattle.scm_record.specs.Keeping.{IsKept};
+ghost use Rattle.scm_record.specs.Live.{Live};
 ghost use Rattle.scm_record.specs.LiveCalls.{AreRuns};
 ghost use Rattle.scm_record.specs.declared.live.Turn.TheVariants as turns;
 ghost use Rattle.scm_front.specs.Fronts.{beneath_of};
 ghost use Rattle.scm_front_paint.specs.declared.labels.Label.{Label};
+ghost use Rattle.scm_front_paint.specs.declared.runs.Run.{Run};
+ghost use Rattle.scm_front_paint.specs.declared.syntax.Syntax.{Syntax};
+ghost use Rattle.scm_front_paint.specs.declared.syntax.SyntaxSpan.{SyntaxSpan};
 ghost use Rattle.scm_front_paint.specs.declared.themes.Theme.{Theme};
 ghost use Rattle.scm_front_paint.specs.declared.view.ViewTurn.{ViewTurn};
 ghost use Rattle.scm_front_paint.specs.declared.columns.Columns.{Columns};
 ghost use Rattle.scm_front_paint.specs.AnyWidths.{KeepsBoth};
-ghost use Rattle.scm_front_paint.specs.Below.{AreWhole, Before, LeadsToBoth, PaintsBoth, Pictures, StayApart, commands_of, rows_shown, view_pictures, width_of};
+ghost use Rattle.scm_front_paint.specs.Below.{AreWhole, Before, LeadsToBoth, PaintsBoth, Pictures, StayApart, commands_of, rows_shown, session_picture, shown_style, view_pictures, width_of};
 ghost use Rattle.scm_front_paint.specs.Seen.{IsSeen, Seen};
 ghost use Rattle.scm_front_paint.specs.Sideways.{sideways_picture, sideways_row};
 ghost use Rattle.scm_front_paint.specs.Symbols.{symbols_of};
+ghost use Rattle.scm_front_paint.specs.Syntax.{Lines, line_runs, syntax_style, with_runs};
+ghost use Rattle.scm_front_paint.specs.SyntaxLaws.{AreAlikeOn, IsBeside, ShowsSpans, symbols_shown};
+ghost use Rattle.scm_front_paint.specs.SyntaxRows.{runs_on};
 ghost use Rattle.scm_front_paint.specs.Views.{LeadsBy, ViewInput, ViewPath, front_turn};
 
 use scm_record::live::sessions_are_runs;
@@ -89,9 +97,10 @@ pub fn status_rows_stand_below()
     ensures written { (width : ℕ) (known new : Pictures) (bytes : List ℕ)
         (p : PaintsBoth width known new bytes) → bytes ≡ flat_map bytes_of (commands_of p) }
     // the row below the session is the status row, and those above it are blank
-    ensures whole { (theme : Theme) (words : List (List Columns)) (labels : List Label) (v : Seen)
-        (accept : List ℕ) → AreWhole (width_of v) (rows_shown v.front.beneath)
-        (view_pictures theme words labels v accept) }
+    ensures whole { (theme : Theme) (words : List (List Columns)) (lines : Lines)
+        (labels : List Label) (v : Seen) (accept : List ℕ)
+        → AreWhole (width_of v) (rows_shown v.front.beneath)
+        (view_pictures theme words lines labels v accept) }
     // once both are shown, each stays on its rows
     ensures apart { (width height : ℕ) (known new : Pictures) (bytes : List ℕ)
         (p : PaintsBoth width known new bytes) → AreWhole width height known
@@ -109,4 +118,33 @@ pub fn views_keep_places()
     ensures { (width height : ℕ) (known new : Pictures) (bytes : List ℕ)
         (p : PaintsBoth width known new bytes) → AreWhole width height new
         → KeepsBoth width height known new (commands_of p) }
+{}
+
+/// Proves what spans leave as it is.
+///
+/// A view shows the same symbols with any spans. A row shows the spans of its own line alone, as long as that has the
+/// text for which they were set. They change no place beside the text, and none of a selected line. No span underlines
+/// or reverses a symbol.
+///
+/// This is a law: the function does nothing, and is there for its contract.
+pub fn spans_change_styles_alone()
+    ensures symbols { (theme : Theme) (words : List (List Columns)) (one other : Lines)
+        (labels : List Label) (v : Seen)
+        → symbols_shown (session_picture theme words one labels v)
+        ≡ symbols_shown (session_picture theme words other labels v) }
+    // spans of lines that a row does not show do nothing there
+    ensures others { (theme : Theme) (anchor : SelectionKey) (words : List (List Columns))
+        (one other : Lines) (l : Live) (row column : ℕ) → AreAlikeOn one other l row
+        → shown_style theme anchor words one l row column
+        ≡ shown_style theme anchor words other l row column }
+    ensures own { (lines : Lines) (l : Live) (row : ℕ)
+        → (runs_on lines l row ≡ []) ⊎ ShowsSpans lines l row }
+    // the columns of spans are columns of the text
+    ensures text { (text : List ℕ) (spans : List SyntaxSpan) (c : ℕ) (style : Style)
+        → IsBeside text c → with_runs (line_runs text spans).runs c style ≡ style }
+    // a selected line is reversed
+    ensures selected { (runs : List Run) (c : ℕ) (style : Style) → style.reversed ≡ true
+        → with_runs runs c style ≡ style }
+    ensures attributes { (syntax : Syntax) → ((syntax_style syntax).reversed ≡ false)
+        × ((syntax_style syntax).underlined ≡ false) }
 {}

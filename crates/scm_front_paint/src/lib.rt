@@ -1,5 +1,5 @@
-//! How a layer looks: its session and a status row on a terminal, sideways, with words set off and a range
-//! underlined, in a theme.
+//! How a layer looks: its session and a status row on a terminal, sideways, with syntax in colours, words set off
+//! and a range underlined, in a theme.
 //!
 //! A [`View`] is a [`Front`](scm_front::Front) on a terminal. A [`FrontPainter`] makes the bytes that show
 //! it.
@@ -20,6 +20,7 @@ mod pairs;
 pub mod pane;
 mod range;
 mod restyling;
+mod runs;
 mod screen_text;
 mod section_labels;
 mod shown;
@@ -27,6 +28,9 @@ mod shown_label;
 mod source;
 mod status;
 mod status_painter;
+pub mod syntax;
+mod syntax_lines;
+mod syntax_rows;
 pub mod themes;
 pub mod view;
 mod view_cells;
@@ -36,5 +40,6 @@ pub use labels::Label;
 pub use painter::FrontPainter;
 pub use pane::{Heard, Pane, heard_as};
 pub use screen_text::{status_row, view_text};
+pub use syntax::{Syntax, SyntaxSpan, syntax_style};
 pub use themes::{Theme, themed};
 pub use view::{View, ViewEditing, ViewTurn};

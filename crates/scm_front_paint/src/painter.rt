@@ -12,6 +12,8 @@ ghost use Rattle.scm_front_paint.specs.Seen.{files_of};
 ghost use Rattle.scm_front_paint.specs.ShownView.{style_in};
 ghost use Rattle.scm_front_paint.specs.Sideways.{sideways_picture};
 ghost use Rattle.scm_front_paint.specs.Source.{symbols_in};
+ghost use Rattle.scm_front_paint.specs.Syntax.{IsWithSpans, key_of};
+ghost use Rattle.scm_front_paint.specs.SyntaxRows.{text_of_key};
 
 use crate::cut::cut_of;
 use crate::headers::label_rows;
@@ -23,10 +25,13 @@ use crate::shown_label::ShownLabel;
 use crate::source::Source;
 use crate::status::{left_of, right_of};
 use crate::status_painter::StatusPainter;
+use crate::syntax::SyntaxSpan;
+use crate::syntax_lines::SyntaxLines;
+use crate::syntax_rows::text_of_key;
 use crate::themes::Theme;
 use crate::view::View;
 use crate::words::words_of;
-use scm_record::{Grid, Painter, RecordError};
+use scm_record::{Grid, LineKey, Painter, RecordError};
 use std::alloc::Global;
 use std::mem::replace;
 
@@ -210,6 +215,8 @@ pub struct FrontPainter {
     pub(crate) theme: Theme,
     /// The labels of sections.
     pub(crate) labels: SectionLabels,
+    /// The lines that have spans.
+    pub(crate) syntax: SyntaxLines,
     /// The painter of the session's rows.
     session: SessionPainter,
     /// The painter of the status row.
@@ -224,16 +231,18 @@ pub struct FrontPainter {
 
 impl FrontPainter {
     /// Makes a painter without a last picture: what the terminal shows is unknown. It paints in the colours
-    /// of `theme`. No section has a label.
+    /// of `theme`. No section has a label, and no line has spans.
     pub fn new(alloc: Global, theme: Theme) -> FrontPainter
         ensures pictures { pictures_of result ≡ no_pictures }
         ensures theme { result.theme ≡ theme }
         ensures labels { result.labels ≡ [] }
+        ensures syntax { result.syntax ≡ [] }
     {
         FrontPainter {
             alloc,
             theme,
             labels: SectionLabels::new(alloc),
+            syntax: SyntaxLines::new(alloc),
             session: SessionPainter {
                 painter: Painter::new(alloc),
                 cut: None,
@@ -250,6 +259,7 @@ impl FrontPainter {
         ensures pictures { pictures_of self.new ≡ no_pictures }
         ensures theme { self.new.theme ≡ self.old.theme }
         ensures labels { self.new.labels ≡ self.old.labels }
+        ensures syntax { self.new.syntax ≡ self.old.syntax }
     {
         self.session.painter.forget();
         self.status.forget();
@@ -262,6 +272,7 @@ impl FrontPainter {
         ensures pictures { pictures_of self.new ≡ no_pictures }
         ensures theme { self.new.theme ≡ theme }
         ensures labels { self.new.labels ≡ self.old.labels }
+        ensures syntax { self.new.syntax ≡ self.old.syntax }
     {
         self.forget();
         self.theme = theme;
@@ -280,6 +291,7 @@ impl FrontPainter {
         ensures pictures { pictures_of self.new ≡ pictures_of self.old }
         ensures size { self.new.size ≡ self.old.size }
         ensures theme { self.new.theme ≡ self.old.theme }
+        ensures syntax { self.new.syntax ≡ self.old.syntax }
         ensures err { IfErr result (λ e. e ≡ OutOfMemory) }
     {
         self.labels.set(label)
@@ -299,10 +311,52 @@ impl FrontPainter {
         ensures pictures { pictures_of self.new ≡ pictures_of self.old }
         ensures size { self.new.size ≡ self.old.size }
         ensures theme { self.new.theme ≡ self.old.theme }
+        ensures syntax { self.new.syntax ≡ self.old.syntax }
         ensures err { IfErr result (λ e. e ≡ OutOfMemory) }
     {
         let state = view.front().beneath().state();
         self.labels.name(self.alloc, state.files.as_slice())
+    }
+
+    /// Gives line `line` of section `section` of file `file` of `view` the styles of `spans` from the next `paint` on,
+    /// in place of the spans that it had. Does nothing if there is no such line. Indexes are counted from 0.
+    ///
+    /// The styles of words, of a range and of the selected line lie over them, and where spans overlap, the last one
+    /// counts. A span ends with its line: a place past the end or inside a character counts as the end. If the line
+    /// has another text when it is painted, it is painted without spans.
+    ///
+    /// # Errors
+    ///
+    /// - `OutOfMemory`: an allocation failed; the spans are unchanged.
+    pub fn set_spans(
+        &mut self,
+        view: &View<'_>,
+        file: usize,
+        section: usize,
+        line: usize,
+        spans: &[SyntaxSpan],
+    ) -> Result<(), RecordError>
+        ensures ok { OnOk result (IsWithSpans (key_of file section line)
+            (text_of_key (files_of view.now) (key_of file section line))
+            spans.now self.old.syntax self.new.syntax) }
+        ensures unchanged { OnErr result (self.new ≡ self.old) }
+        ensures pictures { pictures_of self.new ≡ pictures_of self.old }
+        ensures size { self.new.size ≡ self.old.size }
+        ensures theme { self.new.theme ≡ self.old.theme }
+        ensures labels { self.new.labels ≡ self.old.labels }
+        ensures err { IfErr result (λ e. e ≡ OutOfMemory) }
+    {
+        let key = LineKey {
+            commit_idx: 0,
+            file_idx: file,
+            section_idx: section,
+            line_idx: line,
+        };
+        let state = view.front().beneath().state();
+        match text_of_key(state.files.as_slice(), key) {
+            None => Ok(()),
+            Some(text) => self.syntax.set(self.alloc, key, text, spans),
+        }
     }
 
     /// Returns the bytes that make a terminal show `view`: its session from a column on, with the labels of
@@ -322,6 +376,7 @@ impl FrontPainter {
         ensures forgotten { OnErr result (pictures_of self.new ≡ no_pictures) }
         ensures theme { self.new.theme ≡ self.old.theme }
         ensures labels { self.new.labels ≡ self.old.labels }
+        ensures syntax { self.new.syntax ≡ self.old.syntax }
         ensures err { IfErr result (λ e. CutFails e) }
     {
         match self.paint_both(view, accept) {
@@ -340,6 +395,7 @@ impl FrontPainter {
             PaintsView self.old self.new view.now accept.now (string_bytes text)) }
         ensures theme { self.new.theme ≡ self.old.theme }
         ensures labels { self.new.labels ≡ self.old.labels }
+        ensures syntax { self.new.syntax ≡ self.old.syntax }
         ensures err { IfErr result (λ e. CutFails e) }
     {
         let _pane = view.pane();
@@ -360,6 +416,7 @@ impl FrontPainter {
         let shown = Shown {
             session,
             words: words.as_slice(),
+            syntax: &self.syntax,
             anchor: view.front().anchor(),
             theme: self.theme,
         };
@@ -376,6 +433,7 @@ impl FrontPainter {
         ensures size { self.new.size ≡ Some (width, height) }
         ensures theme { self.new.theme ≡ self.old.theme }
         ensures labels { self.new.labels ≡ self.old.labels }
+        ensures syntax { self.new.syntax ≡ self.old.syntax }
     {
         if !is_of(self.size, width, height) {
             self.forget();

@@ -31,7 +31,7 @@ fn in_range(anchor: SelectionKey, selection: SelectionKey, line: Option<LineKey>
 }
 
 /// Returns the line that row `row` of the screen of `session` shows, if any. Rows are counted from 0.
-fn line_on(session: &LiveSession<'_>, row: usize) -> Option<LineKey>
+pub(crate) fn line_on(session: &LiveSession<'_>, row: usize) -> Option<LineKey>
     ensures { result ≡ line_on session.now row }
 {
     session.lines_from(row).line(0)

@@ -1,4 +1,5 @@
-//! The styles of a screen: those of the session, with words set off and a range underlined, in a theme.
+//! The styles of a screen: those of the session, with the spans of its lines, words set off and a range underlined,
+//! in a theme.
 ghost use Rattle.std.specs.Prelude.{◌≡◌, length};
 ghost use Rattle.scm_terminal.specs.StyledCell.{row_of_styles};
 ghost use Rattle.scm_front_paint.specs.ShownView.{moved_style, style_in};
@@ -6,7 +7,10 @@ ghost use Rattle.scm_front_paint.specs.ShownView.{moved_style, style_in};
 use crate::columns::with_words;
 use crate::line_words::LineWords;
 use crate::range::has_row;
-use crate::restyling::{put_in_theme, set_off_words, underline_if, underlined};
+use crate::restyling::{put_in_theme, set_off_words, style_runs, underline_if, underlined};
+use crate::runs::with_runs;
+use crate::syntax_lines::SyntaxLines;
+use crate::syntax_rows::runs_on;
 use crate::themes::{Theme, themed};
 use crate::words::columns_on;
 use scm_record::{LiveSession, NumberedStyle, SelectionKey, Style, Styles};
@@ -18,6 +22,8 @@ pub(crate) struct Shown<'a, 'state> {
     pub(crate) session: &'a LiveSession<'state>,
     /// What is set off on each row.
     pub(crate) words: &'a [Option<LineWords>],
+    /// The lines that have spans.
+    pub(crate) syntax: &'a SyntaxLines,
     /// The line at which a range is begun, or `None`.
     pub(crate) anchor: SelectionKey,
     /// The theme.
@@ -31,6 +37,7 @@ impl<'a, 'state> Styles for Shown<'a, 'state> {
         ensures { result ≡ style_in self.now row column }
     {
         let style = self.session.style(row, column);
+        let style = with_runs(runs_on(self.syntax, self.session, row), column, style);
         let style = with_words(columns_on(self.words, row), column, style);
         let is_in = has_row(self.session, self.anchor, row);
         themed(self.theme, underlined(is_in, style))
@@ -42,6 +49,7 @@ impl<'a, 'state> Styles for Shown<'a, 'state> {
         ensures { styles.new ≡ row_of_styles (style_in self.now) row (length styles.old) }
     {
         self.session.row_styles(row, styles);
+        style_runs(runs_on(self.syntax, self.session, row), styles);
         set_off_words(columns_on(self.words, row), styles);
         underline_if(has_row(self.session, self.anchor, row), styles);
         put_in_theme(self.theme, styles);

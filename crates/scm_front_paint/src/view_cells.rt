@@ -113,6 +113,7 @@ impl FrontPainter {
         let shown = Shown {
             session,
             words: words.as_slice(),
+            syntax: &self.syntax,
             theme: self.theme,
             anchor: view.front().anchor(),
         };

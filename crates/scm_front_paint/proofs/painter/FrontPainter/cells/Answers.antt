@@ -23,11 +23,11 @@ returns-clause-ok c =
     let shown : ShowsLeft w c.in_ok-left.left whole =
     subst (λ (f : Front). ShowsLeft w c.in_ok-left.left (left_of f)) c.front-2.ensures c.in_ok-left.ensures.ok in
     let row = ap (λ (screen : Screen). styled_row (status_style h) screen h) (screen-same w w h c.in_ok-left.left whole c.as_str.result.now (omega arith) shown) in
-    view-cells c.args.self.now c.args.view.now c.args.accept.now c.beneath-session.result.now w h c.offset-x.result c.args.self.now.theme c.anchor.result
+    view-cells c.args.self.now c.args.view.now c.args.accept.now c.beneath-session.result.now w h c.offset-x.result c.args.self.now.theme c.args.self.now.syntax c.anchor.result
     c.as_slice.result.now c.in_ok-words.words.items c.as_slice-2.result.now c.in_ok-labels.labels.items whole c.as_str.result.now
     c.new-list.result c.push_session.new.list (record { list = c.push_status.new.list; columns = w; rows = h + 1 }) c.new-list.ensures.cells c.new-list.ensures.text c.in_ok-push_session.ensures.ok
     (subst (λ (cells : List StyledCell). Adds cells c.push_session.new.list c.push_status.new.list) row c.in_ok-push_status.ensures.ok)
-    refl refl (c.beneath-session.ensures ∙ ap (λ (f : Front). f.beneath) c.front.ensures) c.width_of-width.ensures c.rows_of-height.ensures c.offset-x.ensures refl (c.anchor.ensures ∙ ap (λ (f : Front). f.kept.anchor) c.front-4.ensures)
+    refl refl (c.beneath-session.ensures ∙ ap (λ (f : Front). f.beneath) c.front.ensures) c.width_of-width.ensures c.rows_of-height.ensures c.offset-x.ensures refl refl (c.anchor.ensures ∙ ap (λ (f : Front). f.kept.anchor) c.front-4.ensures)
     c.as_slice.ensures.value c.in_ok-words.ensures.ok c.as_slice-2.ensures.value c.in_ok-labels.ensures.ok refl
     (c.as_str.ensures.value ∙ c.in_ok-right.ensures.ok
     ∙ ap (λ (f : Front). right_of f w c.in_ok-left.left c.offset-x.result c.args.accept.now) c.front-3.ensures
