@@ -1,5 +1,7 @@
 //! The whole view of a state, drawn alone: on the screen, off it and under a mask, and how much it
 //! draws.
+ghost use Rattle.std.specs.Prelude.{IsTrue};
+ghost use Rattle.scm_types.specs.Limits.{is_accepted_state};
 ghost use Rattle.scm_view.specs.ComponentRanges.{IsShortApp};
 ghost use Rattle.scm_screen_tests.specs.Small.{AreSmallCommits};
 
@@ -32,7 +34,9 @@ fn sample(rt: &impl Abort, alloc: Global) -> ViewState<'static> {
 type Row = (usize, &'static str, (usize, usize));
 
 /// Draws `view_state` as `row` says, on 30 columns and 3 rows. Checks the screen and the counts.
-fn check_app(rt: &impl Abort, alloc: Global, view_state: &ViewState<'_>, row: Row) {
+fn check_app(rt: &impl Abort, alloc: Global, view_state: &ViewState<'_>, row: Row)
+    requires { IsTrue (is_accepted_state view_state.now.state) }
+{
     let mut grid = made(rt, Grid::new(alloc, 30, 3));
     let _ = made(rt, draw(rt, alloc, view_state, &mut grid, row.0));
     check_screen(rt, &grid, row.1, row.2);
@@ -56,6 +60,7 @@ const ROWS: &[Row] = &[
 #[test]
 fn apps_are_drawn_alone(rt: HostRuntime) {
     let view_state = sample(&rt, rt.alloc());
+    assert!(&rt; view_state.state.is_accepted());
     for row in ROWS {
         check_app(&rt, rt.alloc(), &view_state, *row);
     }

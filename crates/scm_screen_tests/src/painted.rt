@@ -1,5 +1,8 @@
 //! Painting a frame takes as many rows and calls as drawing its components, from any row on. What is
 //! drawn has owners.
+ghost use Rattle.std.specs.Prelude.{IsTrue};
+ghost use Rattle.scm_types.specs.Limits.{is_accepted_state};
+
 use crate::checks::{check_equal, made};
 use crate::index::{owned_place, screen_of};
 use crate::shown::{owner_of, shown};
@@ -50,8 +53,9 @@ pub(crate) fn draw(
     view_state: &ViewState<'_>,
     grid: &mut Grid,
     scroll: usize,
-) -> Result<DrawnRects<ComponentId>, RecordError> {
-    assert!(rt; view_state.state.is_accepted());
+) -> Result<DrawnRects<ComponentId>, RecordError>
+    requires { IsTrue (is_accepted_state view_state.now.state) }
+{
     assert!(rt; scroll <= RecordState::MAX_SCROLL);
     let view = view_state.app_view(alloc)?;
     laws::apps_are_in_range();
@@ -84,7 +88,9 @@ fn drawn_counts(
     view_state: &ViewState<'_>,
     size: Size,
     scroll: usize,
-) -> (usize, usize) {
+) -> (usize, usize)
+    requires { IsTrue (is_accepted_state view_state.now.state) }
+{
     let mut grid = made(rt, Grid::new(alloc, size.0, size.1));
     let _ = made(rt, draw(rt, alloc, view_state, &mut grid, scroll));
     (grid.rows_drawn(), grid.calls())
@@ -97,7 +103,9 @@ fn check_frames(
     view_state: &ViewState<'_>,
     size: Size,
     end: usize,
-) {
+)
+    requires { IsTrue (is_accepted_state view_state.now.state) }
+{
     for scroll in 0..end {
         let painted = painted_counts(rt, alloc, view_state, size, scroll);
         let drawn = drawn_counts(rt, alloc, view_state, size, scroll);
@@ -109,7 +117,9 @@ fn check_frames(
 fn check_row(rt: &impl Abort, alloc: Global, row: &str) {
     let (words, screen) = row.split_once(" on ").unwrap_or((row, ""));
     let (size, end) = screen_of(screen);
-    check_frames(rt, alloc, &shown(rt, alloc, words), size, end);
+    let view_state = shown(rt, alloc, words);
+    assert!(rt; view_state.state.is_accepted());
+    check_frames(rt, alloc, &view_state, size, end);
 }
 
 #[test]
@@ -139,6 +149,7 @@ fn check_owners(rt: &impl Abort, boxes: &DrawnRects<ComponentId>) {
 #[test]
 fn places_have_owners(rt: HostRuntime) {
     let view_state = shown(&rt, rt.alloc(), "1h ~f0 @none");
+    assert!(&rt; view_state.state.is_accepted());
     let mut grid = made(&rt, Grid::new(rt.alloc(), 24, 8));
     let boxes = made(&rt, draw(&rt, rt.alloc(), &view_state, &mut grid, 1));
     check_owners(&rt, &boxes);

@@ -420,6 +420,23 @@ fn file_views<'a>(
     views
 }
 
+/// Returns the view of a commit with `files`.
+fn commit_view<'a>(
+    rt: &impl Abort,
+    alloc: Global,
+    look: Look,
+    commit: &'a Commit,
+    files: &'a [File<'a>],
+) -> CommitView<'a> {
+    CommitView {
+        commit_message_view: CommitMessageView {
+            commit_idx: 0,
+            commit,
+        },
+        file_views: file_views(rt, alloc, look, files),
+    }
+}
+
 /// Draws the document of `files` from row `y` on.
 fn draw_files(
     rt: &impl Abort,
@@ -430,13 +447,7 @@ fn draw_files(
     y: usize,
 ) {
     let commit = Commit::default();
-    let view = CommitView {
-        commit_message_view: CommitMessageView {
-            commit_idx: 0,
-            commit: &commit,
-        },
-        file_views: file_views(rt, alloc, look, files),
-    };
+    let view = commit_view(rt, alloc, look, &commit, files);
     let _ = made(rt, draw_commit(rt, alloc, grid, y, &view));
 }
 
