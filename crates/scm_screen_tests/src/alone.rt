@@ -314,11 +314,7 @@ fn draw_dialog(
 }
 
 /// Draws the dialog that asks whether to quit, for a session without changes.
-fn draw_quit(
-    rt: &impl Abort,
-    viewport: &mut Viewport<ComponentId>,
-    dialog: &QuitDialog,
-) {
+fn draw_quit(rt: &impl Abort, viewport: &mut Viewport<ComponentId>, dialog: &QuitDialog) {
     check_sight(rt, viewport);
     laws::components_are_in_range();
     scm_render::laws::parts_are_in_range::<ComponentId>();
@@ -326,11 +322,7 @@ fn draw_quit(
 }
 
 /// Draws the help dialog.
-fn draw_help(
-    rt: &impl Abort,
-    viewport: &mut Viewport<ComponentId>,
-    dialog: &HelpDialog,
-) {
+fn draw_help(rt: &impl Abort, viewport: &mut Viewport<ComponentId>, dialog: &HelpDialog) {
     check_sight(rt, viewport);
     laws::components_are_in_range();
     scm_render::laws::parts_are_in_range::<ComponentId>();
@@ -502,12 +494,7 @@ fn draw_shown(
 pub(crate) type Row = (Shown, Place, &'static str, (usize, usize));
 
 /// Draws the component of `row` on `grid`, and checks the screen and the counts.
-pub(crate) fn check_shown(
-    rt: &impl Abort,
-    alloc: Global,
-    grid: Grid,
-    row: Row,
-) {
+pub(crate) fn check_shown(rt: &impl Abort, alloc: Global, grid: Grid, row: Row) {
     let (shown, (left, width, x, y), rows, counts) = row;
     let mut viewport = viewport_on(rt, alloc, grid, left, width);
     draw_shown(rt, alloc, &mut viewport, x, y, shown);

@@ -89,12 +89,7 @@ fn check_view(rt: &impl Abort, view: &AppView<'_>)
 }
 
 /// Draws `view` from column `x` on.
-fn draw_view(
-    rt: &impl Abort,
-    viewport: &mut Viewport<ComponentId>,
-    x: isize,
-    view: &AppView<'_>,
-) {
+fn draw_view(rt: &impl Abort, viewport: &mut Viewport<ComponentId>, x: isize, view: &AppView<'_>) {
     check_sight(rt, viewport);
     check_near(rt, x);
     check_view(rt, view);

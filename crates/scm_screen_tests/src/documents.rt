@@ -155,13 +155,7 @@ fn check_pinned(rt: &impl Abort, alloc: Global, shown: &ViewState<'_>, layout: &
 
 /// Checks a screen of a document.
 #[tactic(auto, unfolding(scm_types::specs::Limits::max_items, scm_types::specs::Limits::max_scroll))]
-fn check_screen(
-    rt: &impl Abort,
-    alloc: Global,
-    shown: &ViewState<'_>,
-    layout: &Layout,
-    screen: Row,
-)
+fn check_screen(rt: &impl Abort, alloc: Global, shown: &ViewState<'_>, layout: &Layout, screen: Row)
     requires accepted { IsTrue (is_accepted_state shown.now.state) }
     requires layout { layout.now ≡ layout_of shown.now.state shown.now.expanded }
 {
@@ -169,7 +163,10 @@ fn check_screen(
     check_that(rt, scroll <= RecordState::MAX_SCROLL);
     let mut grid = made(rt, Grid::new(alloc, 24, 5));
     check_that(rt, 24 <= grid.width());
-    made(rt, paint_document(alloc, &mut grid, AREA, &*shown, layout, scroll));
+    made(
+        rt,
+        paint_document(alloc, &mut grid, AREA, &*shown, layout, scroll),
+    );
     check_view(rt, &grid, expected);
 }
 
@@ -217,7 +214,10 @@ fn check_overlaid(
     let mut grid = made(rt, Grid::new(alloc, 24, 5));
     check_that(rt, 10 <= grid.width());
     check_that(rt, 2 <= grid.height());
-    made(rt, paint_window(alloc, &mut grid, &*shown, layout, &view, 8));
+    made(
+        rt,
+        paint_window(alloc, &mut grid, &*shown, layout, &view, 8),
+    );
     check_view(rt, &grid, WINDOW);
     check_equal(rt, (grid.rows_drawn(), grid.calls()), COUNTS);
     Ok(())

@@ -120,13 +120,25 @@ fn layout_index(
     let view = view_state.app_view(alloc)?;
     let layout = view_state.layout(alloc)?;
     let rows = FrameRows::new().share(alloc, &layout.rows)?;
-    LayoutIndex::new(alloc, view_state, &view.menu_bar, rows, width, height, scroll)
+    LayoutIndex::new(
+        alloc,
+        view_state,
+        &view.menu_bar,
+        rows,
+        width,
+        height,
+        scroll,
+    )
 }
 
 /// Checks what is on each row of `index`, from row 0 on.
 fn check_places(rt: &impl Abort, index: &RowIndex, wanted: &str) {
     for (row, word) in wanted.split_whitespace().enumerate() {
-        check_equal(rt, (row, word, index.place(row)), (row, word, place_of(word)));
+        check_equal(
+            rt,
+            (row, word, index.place(row)),
+            (row, word, place_of(word)),
+        );
     }
 }
 
@@ -165,7 +177,11 @@ fn check_key(rt: &impl Abort, index: &RowIndex, word: &str) {
         Some((top, rows)) => (Some(top), Some(rows)),
         None => (None, None),
     };
-    check_equal(rt, (word, index.top(key), index.rows(key)), (word, top, rows));
+    check_equal(
+        rt,
+        (word, index.top(key), index.rows(key)),
+        (word, top, rows),
+    );
 }
 
 /// Checks the rows of the keys in `wanted`, in the index of a document.
@@ -225,7 +241,11 @@ fn check_owner(rt: &impl Abort, frame: &FrameIndex, layout: &LayoutIndex, word: 
 fn check_frame(rt: &impl Abort, frame: &FrameIndex, layout: &LayoutIndex, wanted: &str) {
     let mut words = wanted.split_whitespace();
     let extent = number_of(words.next());
-    let found = (frame.extent(), layout.extent(), layout.ends_above(usize::MAX));
+    let found = (
+        frame.extent(),
+        layout.extent(),
+        layout.ends_above(usize::MAX),
+    );
     check_equal(rt, (wanted, found), (wanted, (extent, extent, true)));
     for word in words {
         check_owner(rt, frame, layout, word);

@@ -97,11 +97,7 @@ fn draw_middle_section(
 }
 
 /// Returns a viewport over the letters, under the mask of `place`.
-fn viewport_over_letters(
-    rt: &impl Abort,
-    alloc: Global,
-    place: Place,
-) -> Viewport<ComponentId> {
+fn viewport_over_letters(rt: &impl Abort, alloc: Global, place: Place) -> Viewport<ComponentId> {
     let grid = grid_of_letters(rt, alloc);
     viewport_on(rt, alloc, grid, place.0, place.1)
 }

@@ -57,14 +57,12 @@ const CLOSING: &[&str] = &["p", "q", "?", "\x1b", "\x03", "PP", "pj"];
 /// The sections of the file of the pages.
 const PARTS: &[Part] = &[
     Part::Context(&["one\n"]),
-    Part::Changes(
-        &[
-            (true, ADDED, "two\n"),
-            (false, ADDED, "three\n"),
-            (false, REMOVED, "four\n"),
-            (true, REMOVED, "five\n"),
-        ],
-    ),
+    Part::Changes(&[
+        (true, ADDED, "two\n"),
+        (false, ADDED, "three\n"),
+        (false, REMOVED, "four\n"),
+        (true, REMOVED, "five\n"),
+    ]),
     Part::Context(&["six\n"]),
 ];
 

@@ -97,13 +97,7 @@ fn drawn_counts(
 }
 
 /// Checks that painting takes as many rows and calls as drawing, from each row before `end` on.
-fn check_frames(
-    rt: &impl Abort,
-    alloc: Global,
-    view_state: &ViewState<'_>,
-    size: Size,
-    end: usize,
-)
+fn check_frames(rt: &impl Abort, alloc: Global, view_state: &ViewState<'_>, size: Size, end: usize)
     requires { IsTrue (is_accepted_state view_state.now.state) }
 {
     for scroll in 0..end {

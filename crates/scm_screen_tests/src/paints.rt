@@ -106,7 +106,12 @@ const ROWS: &[Row] = &[
         "\x1b[?7l\x1b[1;2H\x1b[0m \x1b[1;1H\x1b[0m🏳️‍🌈\x1b[1;3H\x1b[0m \x1b[?7h",
     ),
     (2, 0, "🏳️‍🌈", "\x1b[?7l\x1b[1;1H\x1b[0m? \x1b[?7h"),
-    (9, 0, "abcdef👩‍👩‍👧g", "\x1b[?7l\x1b[1;1H\x1b[0mabcdef? g\x1b[?7h"),
+    (
+        9,
+        0,
+        "abcdef👩‍👩‍👧g",
+        "\x1b[?7l\x1b[1;1H\x1b[0mabcdef? g\x1b[?7h",
+    ),
     (4, 0, "👩‍👩‍👧👍🏽", "\x1b[?7l\x1b[1;1H\x1b[0m? ? \x1b[?7h"),
     // a symbol with room for its characters is sent
     (
@@ -133,7 +138,12 @@ const ROWS: &[Row] = &[
         "ae\u{301}",
         "\x1b[?7l\x1b[1;2H\x1b[0me\u{301}\x1b[1;1H\x1b[0ma\x1b[?7h",
     ),
-    (2, 0, "a─", "\x1b[?7l\x1b[1;2H\x1b[0m─\x1b[1;1H\x1b[0ma\x1b[?7h"),
+    (
+        2,
+        0,
+        "a─",
+        "\x1b[?7l\x1b[1;2H\x1b[0m─\x1b[1;1H\x1b[0ma\x1b[?7h",
+    ),
     // a row begins with no mark
     (2, 0, "\u{903}", "\x1b[?7l\x1b[1;1H\x1b[0m? \x1b[?7h"),
     (2, 0, "\u{93E}", "\x1b[?7l\x1b[1;1H\x1b[0m? \x1b[?7h"),
@@ -141,13 +151,21 @@ const ROWS: &[Row] = &[
     (2, 0, "\u{102B}", "\x1b[?7l\x1b[1;1H\x1b[0m? \x1b[?7h"),
     (2, 0, "\u{FF9E}", "\x1b[?7l\x1b[1;1H\x1b[0m? \x1b[?7h"),
     (4, 0, "\u{1F3FD}a", "\x1b[?7l\x1b[1;1H\x1b[0m? a \x1b[?7h"),
-    (2, 1, "\u{903}", "\x1b[?7l\x1b[1;2H\x1b[0m\u{903}\x1b[1;1H\x1b[0m \x1b[?7h"),
+    (
+        2,
+        1,
+        "\u{903}",
+        "\x1b[?7l\x1b[1;2H\x1b[0m\u{903}\x1b[1;1H\x1b[0m \x1b[?7h",
+    ),
 ];
 
 /// Paints a grid of one row with a text.
 fn check_row(rt: &impl Abort, alloc: Global, row: Row) {
     let mut grid = made(rt, Grid::new(alloc, row.0, 1));
-    made(rt, put(rt, &mut grid, 0, row.1, row.2, 0, usize::from(row.0)));
+    made(
+        rt,
+        put(rt, &mut grid, 0, row.1, row.2, 0, usize::from(row.0)),
+    );
     check_paint(rt, &mut Painter::new(alloc), &grid, 1, row.3);
 }
 

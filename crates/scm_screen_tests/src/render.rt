@@ -654,7 +654,10 @@ fn pictures(rt: HostRuntime) {
 /// Returns a text of one column: a letter with five thousand combining marks.
 fn long_text(rt: &impl Abort, alloc: Global) -> String {
     let mut text = made(rt, String::from_str(alloc, "e"));
-    made(rt, text.push_str(repeated(rt, alloc, "\u{301}", 5000).as_str()));
+    made(
+        rt,
+        text.push_str(repeated(rt, alloc, "\u{301}", 5000).as_str()),
+    );
     text
 }
 
@@ -662,14 +665,29 @@ fn long_text(rt: &impl Abort, alloc: Global) -> String {
 fn check_drawn(rt: &impl Abort, alloc: Global, viewport: &mut Viewport<u8>, text: &str) {
     check_call(rt, alloc, viewport, (Drawn::Span(text), 0, 1, (0, 1, 1, 1)));
     let spans = [Span(text)];
-    check_call(rt, alloc, viewport, (Drawn::Text(&spans), 0, 0, (0, 0, 1, 1)));
-    check_call(rt, alloc, viewport, (Drawn::Line(&spans), 0, 1, (0, 1, 1, 1)));
+    check_call(
+        rt,
+        alloc,
+        viewport,
+        (Drawn::Text(&spans), 0, 0, (0, 0, 1, 1)),
+    );
+    check_call(
+        rt,
+        alloc,
+        viewport,
+        (Drawn::Line(&spans), 0, 1, (0, 1, 1, 1)),
+    );
 }
 
 #[test]
 fn texts_of_any_size_are_drawn(rt: HostRuntime) {
     let mut viewport = made(&rt, viewport_at(rt.alloc(), 0, 0, 6, 2));
-    check_drawn(&rt, rt.alloc(), &mut viewport, long_text(&rt, rt.alloc()).as_str());
+    check_drawn(
+        &rt,
+        rt.alloc(),
+        &mut viewport,
+        long_text(&rt, rt.alloc()).as_str(),
+    );
 }
 
 // ---- what is only painted, and counts
@@ -919,7 +937,10 @@ fn insert_spot(
 ) {
     let (number, x, y, width, height, timestamp) = row;
     let rect = rect(x, y, width, height);
-    let _ = made(rt, boxes.insert(Spot { number }, DrawnRect { rect, timestamp }));
+    let _ = made(
+        rt,
+        boxes.insert(Spot { number }, DrawnRect { rect, timestamp }),
+    );
 }
 
 /// Rows and columns, and the number of the box that a click there hits, if any.

@@ -113,7 +113,11 @@ fn check_painted(rt: &impl Abort, alloc: Global, row: Painted) {
     let (what, left, width, view, calls) = row;
     let grid = painted(rt, alloc, Area { left, width }, &shown(what));
     check_view(rt, &grid, view);
-    check_equal(rt, (view, grid.rows_drawn(), grid.calls()), (view, 1, calls));
+    check_equal(
+        rt,
+        (view, grid.rows_drawn(), grid.calls()),
+        (view, 1, calls),
+    );
 }
 
 #[test]

@@ -309,7 +309,11 @@ fn trimmed(line: &str) -> &str {
 
 /// Checks that the lines of `view` have the rows `wanted`.
 fn check_lines(rt: &impl Abort, view: &str, wanted: &str) {
-    check_equal(rt, (wanted, view.lines().count()), (wanted, wanted.lines().count()));
+    check_equal(
+        rt,
+        (wanted, view.lines().count()),
+        (wanted, wanted.lines().count()),
+    );
     for (line, row) in view.lines().zip(wanted.lines()) {
         check_equal(rt, (wanted, trimmed(line)), (wanted, row));
     }
@@ -585,12 +589,7 @@ fn lines_of_context_are_left_out(rt: HostRuntime) {
 // ---- boxes
 
 /// Draws a box, and checks the screen.
-fn check_box(
-    rt: &impl Abort,
-    alloc: Global,
-    view: &TristateBox<ComponentId>,
-    wanted: &str,
-) {
+fn check_box(rt: &impl Abort, alloc: Global, view: &TristateBox<ComponentId>, wanted: &str) {
     let mut grid = made(rt, Grid::new(alloc, 3, 1));
     let _ = made(rt, draw_box(rt, alloc, &mut grid, view));
     check_rows(rt, &grid, wanted);
