@@ -88,9 +88,8 @@ fn a_text_sends_no_command(rt: HostRuntime) {
 /// A number of columns, a column, a text that begins there, and the bytes of this row.
 type Row = (u16, isize, &'static str, &'static str);
 
-/// The rows of the table.
-const ROWS: &[Row] = &[
-    // a symbol without room for its characters is replaced
+/// A symbol without room for its characters is replaced.
+const WITHOUT_ROOM: &[Row] = &[
     (
         6,
         0,
@@ -113,7 +112,10 @@ const ROWS: &[Row] = &[
         "\x1b[?7l\x1b[1;1H\x1b[0mabcdef? g\x1b[?7h",
     ),
     (4, 0, "👩‍👩‍👧👍🏽", "\x1b[?7l\x1b[1;1H\x1b[0m? ? \x1b[?7h"),
-    // a symbol with room for its characters is sent
+];
+
+/// A symbol with room for its characters is sent.
+const WITH_ROOM: &[Row] = &[
     (
         3,
         0,
@@ -144,7 +146,10 @@ const ROWS: &[Row] = &[
         "a─",
         "\x1b[?7l\x1b[1;2H\x1b[0m─\x1b[1;1H\x1b[0ma\x1b[?7h",
     ),
-    // a row begins with no mark
+];
+
+/// A row begins with no mark.
+const MARKS: &[Row] = &[
     (2, 0, "\u{903}", "\x1b[?7l\x1b[1;1H\x1b[0m? \x1b[?7h"),
     (2, 0, "\u{93E}", "\x1b[?7l\x1b[1;1H\x1b[0m? \x1b[?7h"),
     (2, 0, "\u{D02}", "\x1b[?7l\x1b[1;1H\x1b[0m? \x1b[?7h"),
@@ -170,8 +175,22 @@ fn check_row(rt: &impl Abort, alloc: Global, row: Row) {
 }
 
 #[test]
-fn a_symbol_is_sent_if_it_has_room_and_is_no_mark(rt: HostRuntime) {
-    for row in ROWS {
+fn a_symbol_without_room_for_its_characters_is_replaced(rt: HostRuntime) {
+    for row in WITHOUT_ROOM {
+        check_row(&rt, rt.alloc(), *row);
+    }
+}
+
+#[test]
+fn a_symbol_with_room_for_its_characters_is_sent(rt: HostRuntime) {
+    for row in WITH_ROOM {
+        check_row(&rt, rt.alloc(), *row);
+    }
+}
+
+#[test]
+fn a_row_begins_with_no_mark(rt: HostRuntime) {
+    for row in MARKS {
         check_row(&rt, rt.alloc(), *row);
     }
 }
