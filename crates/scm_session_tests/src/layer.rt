@@ -1,3 +1,4 @@
 //! Tests of the layer over a live session.
 mod calls;
+mod spans;
 mod states;
