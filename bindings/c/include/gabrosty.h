@@ -874,8 +874,8 @@ void gabro_tree_side(const gabro_changed *changed, bool selected, const gabro_si
  * `old` that it is compared with is as `old` has it. A blank is a tab, a vertical tab, a form feed, a carriage return or a space; the line end
  * is none. Bytes that are not UTF-8 come back.
  *
- * To show a file so, hand this version to gabro_state_texts in place of `new`: the lines that are left out are no items, so whatever is
- * marked, they are as `old` has them. To have them be as `new` has them, hand in `old` without its changes from `new`.
+ * To show a file so, hand this version to gabro_state_texts in place of `new`: each line of a side is one of `old` or of this version then, so
+ * no mark takes a change that is left out. To have such lines be as `new` has them, hand in `old` without its changes from `new`.
  *
  * Returns GABRO_DONE or GABRO_NO_MEMORY. */
 GABRO_USE_CODE uint32_t gabro_without_blank_changes(const char *old, size_t old_length, const char *new_bytes, size_t new_length, char *out,

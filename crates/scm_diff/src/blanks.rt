@@ -162,8 +162,8 @@ fn text_without_blank_changes(alloc: Global, old: &str, new: &str) -> Result<Kep
 /// the line of `old` that it is compared with by blanks alone is as `old` has it. A blank is a tab, a vertical tab, a
 /// form feed, a carriage return or a space; a line end is none. Bytes that are not UTF-8 are no blanks, and come back.
 ///
-/// The file that [`changed_file`](crate::changed_file) makes of `old` and this version has no item for the lines that
-/// are left out, so no mark takes them: whatever is marked, they are as `old` has them.
+/// In the file that [`changed_file`](crate::changed_file) makes of `old` and this version each line of a side is a line
+/// of one of the two, whatever is marked. So no mark takes a change that is left out.
 ///
 /// # Errors
 /// `AllocError`: an allocation failed.
